@@ -4,3 +4,4 @@ pub mod Reaching
 pub mod Fitting
 pub mod Staying
 pub mod Told
+pub mod Coming

@@ -1,3 +1,4 @@
 pub mod Acts
 pub mod Walks
+pub mod Ways
 pub mod Needs

@@ -65,15 +65,24 @@ first_parted p = record { front = p.0.now; last = p.1.now }
 
 -- ---- acts
 
--- the object's body is shown, where it is of the right kind
+-- the body of what was reached is shown, where it is of the right kind
+abbrev pub shows_by : ℕ → ℕ → ℕ → Result At Need → Need
+shows_by file directory link r = goes_to (λ (t : Taken Body). by_kind file directory link t.found) (then_on body_at r)
+
 abbrev pub shown_need : ℕ → ℕ → ℕ → Option ℕ → Operand → List Shown → Need
-shown_need file directory link home o rs = goes_to (λ (t : Taken Body). by_kind file directory link t.found) (then_on body_at (object_at home o rs))
+shown_need file directory link home o rs = shows_by file directory link (object_at home o rs)
+
+abbrev pub status_by : Result At Need → Need
+status_by r = goes_to (λ (a : At). reading_status a.fid a.rest) r
 
 abbrev pub status_need : Option ℕ → Operand → List Shown → Need
-status_need home o rs = goes_to (λ (a : At). reading_status a.fid a.rest) (object_at home o rs)
+status_need home o rs = status_by (object_at home o rs)
+
+abbrev pub rights_by : Result At Need → Need
+rights_by r = goes_to (λ (a : At). reading_rights a.fid a.rest) r
 
 abbrev pub rights_need : Option ℕ → Operand → List Shown → Need
-rights_need home o rs = goes_to (λ (a : At). reading_rights a.fid a.rest) (object_at home o rs)
+rights_need home o rs = rights_by (object_at home o rs)
 
 -- each of these was read, in their order
 abbrev pub are_read_on : (List Shown → Bool) → Option (Taken ReadStatus) → Bool
@@ -91,14 +100,25 @@ statuses_seen volume rs b = going.answers 20
 abbrev pub statuses_by : At → Result (Taken Body) Need → Need
 statuses_by a r = goes_to (λ (t : Taken Body). statuses_seen a.fid.volume t.rest t.found) r
 
+abbrev pub statuses_in : Result At Need → Need
+statuses_in r = goes_to (λ (a : At). statuses_by a (body_at a)) r
+
 abbrev pub statuses_need : Option ℕ → Operand → List Shown → Need
-statuses_need home o rs = goes_to (λ (a : At). statuses_by a (body_at a)) (object_at home o rs)
+statuses_need home o rs = statuses_in (object_at home o rs)
+
+-- this call on what was reached
+abbrev pub asks_on : (Fid → FsCall) → Result At Need → Need
+asks_on call r = goes_to (λ (a : At). going.asks_for (call a.fid)) r
 
 abbrev pub on_object : Option ℕ → Operand → List Shown → (Fid → FsCall) → Need
-on_object home o rs call = goes_to (λ (a : At). going.asks_for (call a.fid)) (object_at home o rs)
+on_object home o rs call = asks_on call (object_at home o rs)
+
+-- this call for the name in the directory that was reached
+abbrev pub asks_in : (Fid → List ℕ → FsCall) → Result Within Need → Need
+asks_in call r = goes_to (λ (w : Within). going.asks_for (call w.directory w.name)) r
 
 abbrev pub in_parent : Option ℕ → List (List ℕ) → List Shown → (Fid → List ℕ → FsCall) → Need
-in_parent home names rs call = goes_to (λ (w : Within). going.asks_for (call w.directory w.name)) (parent_at home names rs)
+in_parent home names rs call = asks_in call (parent_at home names rs)
 
 -- 22: the two are of different volumes
 abbrev pub moved : Within → Within → Need

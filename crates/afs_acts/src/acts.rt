@@ -1,16 +1,20 @@
 //! What an act needs next: by what it has read.
 
-ghost use Rattle.std.specs.Prelude.{◌≡◌, ◌≤◌, IfOk, length, take};
+ghost use Rattle.std.specs.Prelude.{◌≡◌, ◌≤◌, ◌++◌, IfOk, Some, length, take};
 ghost use Rattle.afs_num.specs.declared.calls.FsCall.{FsCall};
 ghost use Rattle.afs_rows.specs.Going.{asks_for, by_kind, is_root, mode_set, named_first, next, nothing_set, stored_whole};
 ghost use Rattle.afs_history.specs.Written.{bytes_in};
 ghost use Rattle.afs_acts.specs.Acts.{FitsNeed, IsShortAct};
-ghost use Rattle.afs_acts.specs.Needs.{are_read, at_of, linked, moved, needed, needed_by, on_object, in_parent, rights_need, shown_need, status_need, statuses_need, statuses_seen, within_of};
+ghost use Rattle.afs_history.specs.declared.acts.Operand.TheVariants as operands;
+ghost use Rattle.afs_acts.specs.Needs.{are_read, asks_in, asks_on, at_of, came, came_within, linked, moved, needed_by, rights_by, shows_by, status_by, statuses_in, statuses_seen, within_of};
 ghost use Rattle.afs_acts.specs.Walks.{need_of};
+ghost use Rattle.afs_acts.specs.Ways.{first_operand, IsUnderway};
 
-use crate::types::{Going, Homes, Need, Reads, Shown};
-use crate::walks::{At, Within, behind_status, body_at, has_rights, object, parent, path_object};
-use afs_history::acts::{Act, Operand, Path, Written};
+use crate::types::{Going, Homes, Need, Shown, Way};
+use crate::walks::{
+    At, Within, behind_status, body_at, first_parent, has_rights, object, parent, path_object,
+};
+use afs_history::acts::{Act, Path, Written};
 use afs_history::written::bytes_in;
 use afs_num::calls::{AfsStoreStatus, Fids, FsCall};
 use afs_num::directories::{Name, Names};
@@ -63,17 +67,10 @@ fn kind(file: u32, directory: u32, link: u32, body: &Body) -> Need
     }
 }
 
-fn show(
-    file: u32,
-    directory: u32,
-    link: u32,
-    home: Option<u32>,
-    operand: &Operand,
-    reads: &[Shown],
-) -> Need
-    ensures { need_of result ≡ shown_need file directory link home operand.now reads.now }
+fn show(file: u32, directory: u32, link: u32, reached: Result<At<'_>, Need>) -> Need
+    ensures { need_of result ≡ shows_by file directory link (came reached.entry) }
 {
-    let at = match object(home, operand, reads) {
+    let at = match reached {
         Ok(at) => at,
         Err(need) => return need,
     };
@@ -83,10 +80,10 @@ fn show(
     }
 }
 
-fn status(home: Option<u32>, operand: &Operand, reads: &[Shown]) -> Need
-    ensures { need_of result ≡ status_need home operand.now reads.now }
+fn status(reached: Result<At<'_>, Need>) -> Need
+    ensures { need_of result ≡ status_by (came reached.entry) }
 {
-    let at = match object(home, operand, reads) {
+    let at = match reached {
         Ok(at) => at,
         Err(need) => return need,
     };
@@ -96,10 +93,10 @@ fn status(home: Option<u32>, operand: &Operand, reads: &[Shown]) -> Need
     }
 }
 
-fn rights(home: Option<u32>, operand: &Operand, reads: &[Shown]) -> Need
-    ensures { need_of result ≡ rights_need home operand.now reads.now }
+fn rights(reached: Result<At<'_>, Need>) -> Need
+    ensures { need_of result ≡ rights_by (came reached.entry) }
 {
-    let at = match object(home, operand, reads) {
+    let at = match reached {
         Ok(at) => at,
         Err(need) => return need,
     };
@@ -159,25 +156,19 @@ fn statuses_of(alloc: Global, volume: u32, reads: &[Shown], body: &Body) -> Mem<
     }
 }
 
-fn statuses(alloc: Global, home: Option<u32>, operand: &Operand, reads: &[Shown]) -> Mem<Need>
-    ensures { IfOk result (λ n. need_of n ≡ statuses_need home operand.now reads.now) }
+fn statuses(alloc: Global, reached: Result<At<'_>, Need>) -> Mem<Need>
+    ensures { IfOk result (λ n. need_of n ≡ statuses_in (came reached.entry)) }
 {
-    let at = reach!(object(home, operand, reads));
+    let at = reach!(reached);
     let taken = reach!(body_at(at));
     statuses_of(alloc, at.fid.volume, taken.rest, taken.body)
 }
 
-fn close(
-    alloc: Global,
-    home: Option<u32>,
-    operand: &Operand,
-    contents: &Written,
-    reads: &[Shown],
-) -> Mem<Need>
+fn close(alloc: Global, contents: &Written, reached: Result<At<'_>, Need>) -> Mem<Need>
     requires { length (bytes_in contents.now) ≤ 2097152 }
-    ensures { IfOk result (λ n. need_of n ≡ on_object home operand.now reads.now (λ f. stored_whole f (bytes_in contents.now))) }
+    ensures { IfOk result (λ n. need_of n ≡ asks_on (λ f. stored_whole f (bytes_in contents.now)) (came reached.entry)) }
 {
-    let at = reach!(object(home, operand, reads));
+    let at = reach!(reached);
     let contents = bytes_in(alloc, contents)?;
     let length = contents.len() as i32;
     ask(
@@ -193,16 +184,10 @@ fn close(
     )
 }
 
-fn set_mode(
-    alloc: Global,
-    home: Option<u32>,
-    operand: &Operand,
-    mode: u32,
-    reads: &[Shown],
-) -> Mem<Need>
-    ensures { IfOk result (λ n. need_of n ≡ on_object home operand.now reads.now (λ f. FsCall.StoreStatus f (mode_set mode))) }
+fn set_mode(alloc: Global, mode: u32, reached: Result<At<'_>, Need>) -> Mem<Need>
+    ensures { IfOk result (λ n. need_of n ≡ asks_on (λ f. FsCall.StoreStatus f (mode_set mode)) (came reached.entry)) }
 {
-    let at = reach!(object(home, operand, reads));
+    let at = reach!(reached);
     ask(
         alloc,
         FsCall::StoreStatus {
@@ -212,16 +197,10 @@ fn set_mode(
     )
 }
 
-fn set_acl(
-    alloc: Global,
-    home: Option<u32>,
-    operand: &Operand,
-    text: &Written,
-    reads: &[Shown],
-) -> Mem<Need>
-    ensures { IfOk result (λ n. need_of n ≡ on_object home operand.now reads.now (λ f. FsCall.StoreAcl f (bytes_in text.now))) }
+fn set_acl(alloc: Global, text: &Written, reached: Result<At<'_>, Need>) -> Mem<Need>
+    ensures { IfOk result (λ n. need_of n ≡ asks_on (λ f. FsCall.StoreAcl f (bytes_in text.now)) (came reached.entry)) }
 {
-    let at = reach!(object(home, operand, reads));
+    let at = reach!(reached);
     ask(
         alloc,
         FsCall::StoreAcl {
@@ -232,10 +211,10 @@ fn set_acl(
 }
 
 /// A call with a name in a directory.
-fn make(alloc: Global, home: Option<u32>, path: &Path, reads: &[Shown]) -> Mem<Need>
-    ensures { IfOk result (λ n. need_of n ≡ in_parent home path.now.names reads.now (λ d name. FsCall.CreateFile d name nothing_set)) }
+fn make(alloc: Global, reached: Result<Within<'_, '_>, Need>) -> Mem<Need>
+    ensures { IfOk result (λ n. need_of n ≡ asks_in (λ d name. FsCall.CreateFile d name nothing_set) (came_within reached.entry)) }
 {
-    let within = reach!(parent(home, path.names.as_slice(), reads));
+    let within = reach!(reached);
     ask(
         alloc,
         FsCall::CreateFile {
@@ -246,10 +225,10 @@ fn make(alloc: Global, home: Option<u32>, path: &Path, reads: &[Shown]) -> Mem<N
     )
 }
 
-fn make_directory(alloc: Global, home: Option<u32>, path: &Path, reads: &[Shown]) -> Mem<Need>
-    ensures { IfOk result (λ n. need_of n ≡ in_parent home path.now.names reads.now (λ d name. FsCall.MakeDir d name nothing_set)) }
+fn make_directory(alloc: Global, reached: Result<Within<'_, '_>, Need>) -> Mem<Need>
+    ensures { IfOk result (λ n. need_of n ≡ asks_in (λ d name. FsCall.MakeDir d name nothing_set) (came_within reached.entry)) }
 {
-    let within = reach!(parent(home, path.names.as_slice(), reads));
+    let within = reach!(reached);
     ask(
         alloc,
         FsCall::MakeDir {
@@ -260,16 +239,10 @@ fn make_directory(alloc: Global, home: Option<u32>, path: &Path, reads: &[Shown]
     )
 }
 
-fn symlink(
-    alloc: Global,
-    home: Option<u32>,
-    path: &Path,
-    target: &Written,
-    reads: &[Shown],
-) -> Mem<Need>
-    ensures { IfOk result (λ n. need_of n ≡ in_parent home path.now.names reads.now (λ d name. FsCall.Symlink d name (bytes_in target.now) nothing_set)) }
+fn symlink(alloc: Global, target: &Written, reached: Result<Within<'_, '_>, Need>) -> Mem<Need>
+    ensures { IfOk result (λ n. need_of n ≡ asks_in (λ d name. FsCall.Symlink d name (bytes_in target.now) nothing_set) (came_within reached.entry)) }
 {
-    let within = reach!(parent(home, path.names.as_slice(), reads));
+    let within = reach!(reached);
     ask(
         alloc,
         FsCall::Symlink {
@@ -281,10 +254,10 @@ fn symlink(
     )
 }
 
-fn remove(alloc: Global, home: Option<u32>, path: &Path, reads: &[Shown]) -> Mem<Need>
-    ensures { IfOk result (λ n. need_of n ≡ in_parent home path.now.names reads.now FsCall.RemoveFile) }
+fn remove(alloc: Global, reached: Result<Within<'_, '_>, Need>) -> Mem<Need>
+    ensures { IfOk result (λ n. need_of n ≡ asks_in FsCall.RemoveFile (came_within reached.entry)) }
 {
-    let within = reach!(parent(home, path.names.as_slice(), reads));
+    let within = reach!(reached);
     ask(
         alloc,
         FsCall::RemoveFile {
@@ -294,10 +267,10 @@ fn remove(alloc: Global, home: Option<u32>, path: &Path, reads: &[Shown]) -> Mem
     )
 }
 
-fn remove_directory(alloc: Global, home: Option<u32>, path: &Path, reads: &[Shown]) -> Mem<Need>
-    ensures { IfOk result (λ n. need_of n ≡ in_parent home path.now.names reads.now FsCall.RemoveDir) }
+fn remove_directory(alloc: Global, reached: Result<Within<'_, '_>, Need>) -> Mem<Need>
+    ensures { IfOk result (λ n. need_of n ≡ asks_in FsCall.RemoveDir (came_within reached.entry)) }
 {
-    let within = reach!(parent(home, path.names.as_slice(), reads));
+    let within = reach!(reached);
     ask(
         alloc,
         FsCall::RemoveDir {
@@ -331,13 +304,14 @@ fn rename(alloc: Global, old: Within<'_, '_>, new: Within<'_, '_>) -> Mem<Need>
     )
 }
 
-fn mv(alloc: Global, homes: &Homes, from: &Path, to: &Path, reads: &[Shown]) -> Mem<Need>
-    ensures { IfOk result (λ n. need_of n ≡ needed_by homes.now (Act.Move from.now to.now) reads.now) }
+fn mv(alloc: Global, homes: &Homes, from: &Path, to: &Path, way: &Way, rest: &[Shown]) -> Mem<Need>
+    requires { IsUnderway homes.now.first (Some (operands.Path from.now)) way.now.names way.now.fid way.now.behind }
+    ensures { IfOk result (λ n. need_of n ≡ needed_by homes.now (Act.Move from.now to.now) (way.now.behind ++ rest.now)) }
 {
     if is_root(from) || is_root(to) {
         return Ok(Need::Answer(22));
     }
-    let old = reach!(parent(homes.first, from.names.as_slice(), reads));
+    let old = reach!(first_parent(homes.first, from, way, rest));
     let new = reach!(parent(homes.second, to.names.as_slice(), old.rest));
     rename(alloc, old, new)
 }
@@ -358,41 +332,58 @@ fn add_name(alloc: Global, target: At<'_>, new: Within<'_, '_>) -> Mem<Need>
     )
 }
 
-fn link(alloc: Global, homes: &Homes, target: &Path, path: &Path, reads: &[Shown]) -> Mem<Need>
-    ensures { IfOk result (λ n. need_of n ≡ needed_by homes.now (Act.Link target.now path.now) reads.now) }
+fn link(
+    alloc: Global,
+    homes: &Homes,
+    target: &Path,
+    path: &Path,
+    way: &Way,
+    rest: &[Shown],
+) -> Mem<Need>
+    requires { IsUnderway homes.now.first (Some (operands.Path target.now)) way.now.names way.now.fid way.now.behind }
+    ensures { IfOk result (λ n. need_of n ≡ needed_by homes.now (Act.Link target.now path.now) (way.now.behind ++ rest.now)) }
 {
     if is_root(path) {
         return Ok(Need::Answer(22));
     }
-    let at = reach!(path_object(homes.first, target.names.as_slice(), reads));
+    let at = reach!(path_object(homes.first, target, way, rest));
     let new = reach!(parent(homes.second, path.names.as_slice(), at.rest));
     add_name(alloc, at, new)
 }
 
-/// What an act needs, by what it has read.
-fn needed(alloc: Global, homes: &Homes, act: &Act, reads: &[Shown]) -> Mem<Need>
-    requires { IsShortAct act.now }
-    ensures value { IfOk result (λ n. need_of n ≡ needed_by homes.now act.now reads.now) }
+/// What an act needs, by how far it has come and what it has read ahead.
+fn needed(alloc: Global, homes: &Homes, act: &Act, way: &Way, rest: &[Shown]) -> Mem<Need>
+    requires short { IsShortAct act.now }
+    requires way { IsUnderway homes.now.first (first_operand act.now) way.now.names way.now.fid way.now.behind }
+    ensures value { IfOk result (λ n. need_of n ≡ needed_by homes.now act.now (way.now.behind ++ rest.now)) }
 {
     let home = homes.first;
     match act {
-        Act::Open { operand } => Ok(show(0, 21, 22, home, operand, reads)),
-        Act::ListNames { operand } => Ok(show(20, 0, 20, home, operand, reads)),
-        Act::ReadLink { operand } => Ok(show(22, 21, 0, home, operand, reads)),
-        Act::Stat { operand } => Ok(status(home, operand, reads)),
-        Act::StatAll { operand } => statuses(alloc, home, operand, reads),
-        Act::GetAccessList { operand } => Ok(rights(home, operand, reads)),
+        Act::Open { operand } => Ok(show(0, 21, 22, object(home, operand, way, rest))),
+        Act::ListNames { operand } => Ok(show(20, 0, 20, object(home, operand, way, rest))),
+        Act::ReadLink { operand } => Ok(show(22, 21, 0, object(home, operand, way, rest))),
+        Act::Stat { operand } => Ok(status(object(home, operand, way, rest))),
+        Act::StatAll { operand } => statuses(alloc, object(home, operand, way, rest)),
+        Act::GetAccessList { operand } => Ok(rights(object(home, operand, way, rest))),
         Act::GiveUp => Ok(Need::GiveBack),
-        Act::Close { operand, contents } => close(alloc, home, operand, contents, reads),
-        Act::SetMode { operand, mode } => set_mode(alloc, home, operand, *mode, reads),
-        Act::SetAccessList { operand, text } => set_acl(alloc, home, operand, text, reads),
-        Act::Make { path } => make(alloc, home, path, reads),
-        Act::MakeDirectory { path } => make_directory(alloc, home, path, reads),
-        Act::Symlink { path, target } => symlink(alloc, home, path, target, reads),
-        Act::Remove { path } => remove(alloc, home, path, reads),
-        Act::RemoveDirectory { path } => remove_directory(alloc, home, path, reads),
-        Act::Move { from, to } => mv(alloc, homes, from, to, reads),
-        Act::Link { target, path } => link(alloc, homes, target, path, reads),
+        Act::Close { operand, contents } => {
+            close(alloc, contents, object(home, operand, way, rest))
+        }
+        Act::SetMode { operand, mode } => set_mode(alloc, *mode, object(home, operand, way, rest)),
+        Act::SetAccessList { operand, text } => {
+            set_acl(alloc, text, object(home, operand, way, rest))
+        }
+        Act::Make { path } => make(alloc, first_parent(home, path, way, rest)),
+        Act::MakeDirectory { path } => make_directory(alloc, first_parent(home, path, way, rest)),
+        Act::Symlink { path, target } => {
+            symlink(alloc, target, first_parent(home, path, way, rest))
+        }
+        Act::Remove { path } => remove(alloc, first_parent(home, path, way, rest)),
+        Act::RemoveDirectory { path } => {
+            remove_directory(alloc, first_parent(home, path, way, rest))
+        }
+        Act::Move { from, to } => mv(alloc, homes, from, to, way, rest),
+        Act::Link { target, path } => link(alloc, homes, target, path, way, rest),
     }
 }
 
@@ -402,6 +393,7 @@ pub fn next(alloc: Global, going: &Going) -> Mem<Need>
     ensures value { IfOk result (λ n. need_of n ≡ next going.now) }
     ensures fits { FitsNeed (next going.now) }
 {
-    let need = needed(alloc, &going.homes, going.act.get(), going.reads.as_slice())?;
+    let act = going.act.get();
+    let need = needed(alloc, &going.homes, act, &going.way, going.rest.as_slice())?;
     Ok(need)
 }

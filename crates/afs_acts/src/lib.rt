@@ -4,11 +4,13 @@
 
 mod acts;
 mod asking;
+mod behind;
 mod copies;
 mod places;
 mod reads;
 mod types;
 mod walks;
+mod ways;
 
 pub use acts::next;
 pub use asking::{opcode, volume_asked, volume_changed};

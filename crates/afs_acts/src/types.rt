@@ -1,12 +1,16 @@
 //! What an act has read, and what it needs.
 
-ghost use Rattle.std.specs.Prelude.{◌≡◌, IfOk, OnErr, OnOk};
+ghost use Rattle.std.specs.Prelude.{◌≡◌, ◌<◌, ◌+◌, ◌^◌, IfOk, IfSome, OnErr, OnOk};
 ghost use Rattle.afs_rows.specs.Going.{began, reads_of, with_read};
+ghost use Rattle.afs_acts.specs.Ways.{first_operand, names_of, Steps};
 
+use crate::behind::Behind;
 use crate::copies::copy_read;
 use crate::places::homes_of;
 use crate::reads::most_reads;
-use afs_history::acts::SharedAct;
+use crate::walks::goes_on;
+use crate::ways::{name_behind, start};
+use afs_history::acts::{Act, SharedAct};
 use afs_num::calls::{Fids, FsCall};
 use afs_num::histories::ReadBody;
 use afs_num::location_calls::LocEntry;
@@ -68,11 +72,20 @@ impl Model for Shown {
 
 pub type Reads = Sequence<Shown>;
 
-/// An act that runs, and what it has read, the first first. Copies of it share the act.
+/// How far an act has come along its first path: behind so many names, at this fid; and what it read on the way.
+#[derive(Drop)]
+pub struct Way {
+    pub names: usize,
+    pub fid: Fid,
+    pub behind: Behind,
+}
+
+/// An act that runs, how far it has come, and what it has read and not yet left behind, the first first. Copies of it share the act.
 pub struct Going {
-    pub act: SharedAct,
-    pub homes: Homes,
-    pub reads: Reads,
+    pub(crate) act: SharedAct,
+    pub(crate) homes: Homes,
+    pub(crate) way: Way,
+    pub(crate) rest: Reads,
 }
 
 /// It ends by a drop of its own: a step that ends with it has one drop to prove, and not one for each of its parts.
@@ -81,17 +94,22 @@ impl Drop for Going {
         let Going {
             act: _,
             homes: _,
-            reads: _,
+            way: _,
+            rest: _,
         } = self;
     }
 }
 
 impl Model for Going {
+    ghost use Rattle.std.specs.Prelude.{◌++◌};
     ghost use Rattle.afs_rows.specs.Going.{Going};
+    ghost use Rattle.afs_acts.specs.Ways.{first_operand, IsUnderway};
 
     ghost Value = { Going };
 
-    ghost view = { λ g. record { act = g.act; homes = g.homes; reads = g.reads } };
+    ghost view = { λ g. record { act = g.act; homes = g.homes; reads = g.way.behind ++ g.rest } };
+
+    ghost invariant = { λ g. IsUnderway g.homes.first (first_operand g.act) g.way.names g.way.fid g.way.behind };
 }
 
 impl Shown {
@@ -105,15 +123,44 @@ impl Shown {
     }
 }
 
-/// A copy, with room for one read more: an act that goes on has read something.
-fn copy_reads(alloc: Global, reads: &Reads) -> Mem<Reads>
-    ensures { IfOk result (λ c. c ≡ reads.now) }
+/// A copy of reads, with room for one more: an act that goes on has read something. None of them take no memory.
+pub(crate) fn copy_shown(alloc: Global, reads: &[Shown]) -> Mem<Vec<Shown>>
+    ensures { IfOk result (λ c. c.items ≡ reads.now) }
 {
+    if reads.is_empty() {
+        return Ok(Vec::new(alloc));
+    }
     let mut copy = Vec::with_capacity(alloc, reads.len() + 1)?;
-    for shown in reads.as_slice() {
+    for shown in reads {
         copy.push(shown.copy(alloc)?)?;
     }
-    Ok(Sequence::from_vec(copy))
+    Ok(copy)
+}
+
+impl Way {
+    /// A copy.
+    fn copy(&self) -> Mem<Way>
+        ensures { IfOk result (λ c. c ≡ self.now) }
+    {
+        Ok(Way {
+            names: self.names,
+            fid: self.fid,
+            behind: self.behind.copy()?,
+        })
+    }
+}
+
+/// Where a walk goes on by a read: one name along, to a directory. There is none where another read is ahead of it, or where the last
+/// name is next.
+fn step(act: &Act, way: &Way, ahead: &[Shown], fid: &Fid, body: &ReadBody) -> Option<Fid>
+    ensures steps { IfSome result (Steps (names_of (first_operand act.now)) way.now.names way.now.fid ahead.now (record { fid = fid.now; body = body.now })) }
+    ensures few { IfSome result (λ next. way.now.names + 1 < 2 ^ 64) }
+{
+    if !ahead.is_empty() {
+        return None;
+    }
+    let name = name_behind(act, way.names)?;
+    goes_on(&way.fid, name, fid, body)
 }
 
 impl Homes {
@@ -132,10 +179,17 @@ impl Going {
     pub fn began(alloc: Global, table: &[Location], act: &SharedAct) -> Mem<Going>
         ensures { IfOk result (λ g. g ≡ began table.now act.now) }
     {
+        let homes = homes_of(table, act.get());
+        let way = Way {
+            names: 0,
+            fid: start(homes.first, act.get()),
+            behind: Behind::new(alloc),
+        };
         Ok(Going {
             act: act.copy()?,
-            homes: homes_of(table, act.get()),
-            reads: Sequence::new(alloc),
+            homes,
+            way,
+            rest: Sequence::new(alloc),
         })
     }
 
@@ -146,7 +200,8 @@ impl Going {
         Ok(Going {
             act: self.act.copy()?,
             homes: self.homes.copy(),
-            reads: copy_reads(alloc, &self.reads)?,
+            way: self.way.copy()?,
+            rest: Sequence::from_vec(copy_shown(alloc, self.rest.as_slice())?),
         })
     }
 
@@ -157,12 +212,20 @@ impl Going {
         most_reads(self.act.get())
     }
 
-    /// Adds a read.
+    /// Adds a read. Where it takes the walk on it is left behind, so that no later step looks at it.
     pub fn add(&mut self, fid: Fid, body: ReadBody) -> Mem<()>
         ensures ok { OnOk result (self.new ≡ with_read fid body self.old) }
         ensures err { OnErr result (self.new ≡ self.old) }
     {
-        self.reads.push(Shown { fid, body })
+        match step(self.act.get(), &self.way, self.rest.as_slice(), &fid, &body) {
+            Some(next) => {
+                self.way.behind.push(Shown { fid, body })?;
+                self.way.names += 1;
+                self.way.fid = next;
+                Ok(())
+            }
+            None => self.rest.push(Shown { fid, body }),
+        }
     }
 }
 

@@ -1,14 +1,18 @@
 //! Walks along names: each directory on the way must have been read.
 
-ghost use Rattle.std.specs.Prelude.{◌≡◌, ◌<◌, length, IfSome};
+ghost use Rattle.std.specs.Prelude.{◌≡◌, ◌<◌, ◌≤◌, ◌∷◌, [], ◌++◌, ℕ, List, Ok, Some, drop, length, true, IfSome};
 ghost use Rattle.std.specs.Option.{option_copied, option_map};
 ghost use Rattle.afs_ideal.specs.Directories.{named};
 ghost use Rattle.afs_rows.specs.Going.{first_body, first_status, has_rights, is_even, is_last_name, looked_up, parted};
+ghost use Rattle.afs_rows.specs.Going.{Shown as Read};
+ghost use Rattle.afs_history.specs.declared.acts.Operand.TheVariants as operands;
 ghost use Rattle.afs_acts.specs.Walks.{along, at_root, body_at, entry_by, fid_at, object_at, parent_at, path_at, walk_to, within};
+ghost use Rattle.afs_acts.specs.Ways.{IsUnderway};
 ghost use Rattle.afs_acts.specs.Needs.{at_of, came, came_body, came_fid, came_within, first_name, first_parted, first_read, status_rest, taken_of};
 
-use crate::types::{Need, Shown};
-use afs_history::acts::Operand;
+use crate::types::{Need, Shown, Way};
+use crate::ways::root;
+use afs_history::acts::{Operand, Path};
 use afs_num::directories::Name;
 use afs_num::histories::{Body, ReadBody};
 use afs_num::sequences::Octets;
@@ -186,50 +190,87 @@ fn walk<'a>(inner: bool, names: &[Octets], start: At<'a>) -> Result<At<'a>, Need
     Ok(at)
 }
 
-fn root(volume: u32, reads: &[Shown]) -> At<'_>
+/// Where a walk stands at a directory and reads this, it goes on to what the directory has under this name, if that is a directory.
+pub fn goes_on(directory: &Fid, name: &Octets, fid: &Fid, body: &ReadBody) -> Option<Fid>
+    ensures { IfSome result (λ next. (rest : List Read) → along true name.now (record { fid = directory.now; rest = record { fid = fid.now; body = body.now } ∷ rest }) ≡ Ok (record { fid = next; rest = rest })) }
+{
+    if *fid != *directory {
+        return None;
+    }
+    match body {
+        ReadBody::Contents(body) => entry(true, directory.volume, name, body).ok(),
+        _ => None,
+    }
+}
+
+fn at_root(volume: u32, reads: &[Shown]) -> At<'_>
     ensures { at_of result ≡ at_root volume reads.now }
 {
     At {
-        fid: Fid {
-            volume,
-            vnode: 1,
-            unique: 1,
-        },
+        fid: root(volume),
         rest: reads,
     }
 }
 
-/// The object of a path.
+/// The names behind those that were walked.
+fn names_ahead<'b>(names: &'b [Octets], way: &Way) -> &'b [Octets]
+    requires { way.now.names ≤ length names.now }
+    ensures { result.now ≡ drop way.now.names names.entry.now }
+{
+    names.split_at(way.names).1
+}
+
+/// Where a walk goes on.
+fn ahead<'a>(way: &Way, rest: &'a [Shown]) -> At<'a>
+    ensures { at_of result ≡ record { fid = way.now.fid; rest = rest.entry.now } }
+{
+    At { fid: way.fid, rest }
+}
+
+/// The object of the path that an act names first.
 pub fn path_object<'a>(
     home: Option<u32>,
-    names: &[Octets],
-    reads: &'a [Shown],
+    path: &Path,
+    way: &Way,
+    rest: &'a [Shown],
 ) -> Result<At<'a>, Need>
-    ensures { came result ≡ path_at home names.now reads.now }
+    requires { IsUnderway home (Some (operands.Path path.now)) way.now.names way.now.fid way.now.behind }
+    ensures { came result ≡ path_at home path.now.names (way.now.behind ++ rest.entry.now) }
 {
     match home {
-        Some(volume) => walk(false, names, root(volume, reads)),
+        Some(_) => walk(
+            false,
+            names_ahead(path.names.as_slice(), way),
+            ahead(way, rest),
+        ),
         None => Err(Need::Answer(NO_ENTRY)),
     }
 }
 
-/// The object of a fid.
-fn fid_object(home: Option<u32>, fid: Fid, reads: &[Shown]) -> Result<At<'_>, Need>
-    ensures { came result ≡ fid_at home fid reads.now }
+/// The object of a fid that an act names first.
+fn fid_object<'a>(home: Option<u32>, fid: Fid, way: &Way, rest: &'a [Shown]) -> Result<At<'a>, Need>
+    requires { IsUnderway home (Some (operands.Fid fid)) way.now.names way.now.fid way.now.behind }
+    ensures { came result ≡ fid_at home fid (way.now.behind ++ rest.entry.now) }
 {
     match home {
-        Some(_) => Ok(At { fid, rest: reads }),
+        Some(_) => Ok(ahead(way, rest)),
         None => Err(Need::Answer(NO_ENTRY)),
     }
 }
 
-/// The object of an operand.
-pub fn object<'a>(home: Option<u32>, operand: &Operand, reads: &'a [Shown]) -> Result<At<'a>, Need>
-    ensures { came result ≡ object_at home operand.now reads.now }
+/// The object of the operand that an act names first.
+pub fn object<'a>(
+    home: Option<u32>,
+    operand: &Operand,
+    way: &Way,
+    rest: &'a [Shown],
+) -> Result<At<'a>, Need>
+    requires { IsUnderway home (Some operand.now) way.now.names way.now.fid way.now.behind }
+    ensures { came result ≡ object_at home operand.now (way.now.behind ++ rest.entry.now) }
 {
     match operand {
-        Operand::Fid(fid) => fid_object(home, *fid, reads),
-        Operand::Path(path) => path_object(home, path.names.as_slice(), reads),
+        Operand::Fid(fid) => fid_object(home, *fid, way, rest),
+        Operand::Path(path) => path_object(home, path, way, rest),
     }
 }
 
@@ -250,7 +291,8 @@ fn in_directory<'a, 'b>(name: &'b Octets, at: At<'a>) -> Result<Within<'a, 'b>, 
 
 /// The names before the last, and that one.
 fn part(names: &[Octets]) -> Option<(&[Octets], &Octets)>
-    ensures { option_map first_parted result ≡ parted names.now }
+    ensures value { option_map first_parted result ≡ parted names.now }
+    ensures split { IfSome result (λ r. names.now ≡ r.0.now ++ r.1.now ∷ []) }
 {
     match names.split_last() {
         Some((last, front)) => Some((front, last)),
@@ -258,7 +300,7 @@ fn part(names: &[Octets]) -> Option<(&[Octets], &Octets)>
     }
 }
 
-/// The last name in its directory, which is read too: the root has none.
+/// The last name in its directory, which is read too: the root has none. Where an act walks along a second path.
 pub fn parent<'a, 'b>(
     home: Option<u32>,
     names: &'b [Octets],
@@ -272,6 +314,26 @@ pub fn parent<'a, 'b>(
     let Some(volume) = home else {
         return Err(Need::Answer(NO_ENTRY));
     };
-    let at = walk(true, front, root(volume, reads))?;
+    let at = walk(true, front, at_root(volume, reads))?;
+    in_directory(last, at)
+}
+
+/// The last name of the path that an act names first, in its directory, which is read too: the root has none.
+pub fn first_parent<'a, 'b>(
+    home: Option<u32>,
+    path: &'b Path,
+    way: &Way,
+    rest: &'a [Shown],
+) -> Result<Within<'a, 'b>, Need>
+    requires { IsUnderway home (Some (operands.Path path.now)) way.now.names way.now.fid way.now.behind }
+    ensures { came_within result ≡ parent_at home path.entry.now.names (way.now.behind ++ rest.entry.now) }
+{
+    let Some((front, last)) = part(path.names.as_slice()) else {
+        return Err(Need::Answer(22));
+    };
+    if home.is_none() {
+        return Err(Need::Answer(NO_ENTRY));
+    }
+    let at = walk(true, names_ahead(front, way), ahead(way, rest))?;
     in_directory(last, at)
 }

@@ -9,15 +9,11 @@ use Rattle.afs_num.specs.declared.messages.Call.{Call}
 use Rattle.afs_num.specs.declared.messages.Call.TheVariants as ask
 use Rattle.afs_num.specs.declared.messages.Carried.TheVariants as carried
 use Rattle.afs_num.specs.declared.messages.Message.{Message}
-use Rattle.afs_model.specs.Calls.{Admitted}
-use Rattle.afs_model.specs.Calls as pairs
 use Rattle.afs_model.specs.Heads.{user_limit}
 use Rattle.afs_rows.specs.Going.{Going, Need, answers, gives_back, next}
 use Rattle.afs_rows.specs.States.{Gift}
 use Rattle.afs_rows.specs.ClientRow.{call_by}
 use Rattle.afs_acts.specs.Acts.{IsShortAct}
-use Rattle.afs_cache.specs.declared.admitting.Admit.{Admit}
-use Rattle.afs_cache.specs.declared.admitting.Admit.TheVariants as admits
 
 abbrev pub calling : Head → List ℕ → Call → Message
 calling head user call = record { head = head; carried = carried.Call user call }
@@ -64,11 +60,3 @@ pub record FitsClient (me : Node) (name : List ℕ) (callee : Node) : Type 0 whe
   pub node : IsNode me
   pub user : length name ≤ user_limit
   pub server : IsNode callee
-
--- what becomes of a call, in the words of the rows
-abbrev pub means : ℕ → Admit → Admitted Message
-means boot admits.Run = pairs.runs
-means boot (admits.Kept reply) = pairs.kept reply.now
-means boot admits.InProgress = pairs.in_progress
-means boot admits.Older = pairs.older
-means boot admits.WrongBoot = pairs.wrong_boot boot

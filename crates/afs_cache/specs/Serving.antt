@@ -11,13 +11,10 @@ use Rattle.afs_num.specs.Nodes.{same_node}
 use Rattle.afs_model.specs.CellRows.{call_number}
 use Rattle.afs_model.specs.Heads.{is_zero}
 use Rattle.afs_model.specs.Calls as pairs
-use Rattle.afs_model.specs.Messages.{HasSpelling}
 use Rattle.afs_rows.specs.Going.{ClientState}
 use Rattle.afs_rows.specs.ClientRow.{breaks, ignores, refused_with, replies_step, told_step}
 use Rattle.afs_rows.specs.ServerRow.{boot_told, not_served}
 use Rattle.afs_rows.specs.Steps.{Step}
-use Rattle.afs_cache.specs.declared.admitting.Admit.{Admit}
-use Rattle.afs_cache.specs.declared.admitting.Admit.TheVariants as admits
 use Rattle.afs_cache.specs.declared.serving.Asking.{Asking}
 use Rattle.afs_cache.specs.declared.serving.Asking.TheVariants as askings
 
@@ -38,11 +35,6 @@ admits_asking me c place head asking (pairs.wrong_boot boot) = told_step c place
 -- what isn't asked of this node does nothing
 abbrev pub takes_asking : Node → ClientState → ℕ → Head → Asking → Step ClientState
 takes_asking me c place head asking = if same_node head.to me then admits_asking me c place head asking (admitted c.epoch c.seats head) else ignores c place
-
--- a reply that is kept has a spelling
-abbrev pub IsSoundAdmit : Admit → Type 0
-IsSoundAdmit (admits.Kept reply) = HasSpelling reply.now
-IsSoundAdmit admit = Unit {0}
 
 -- a call is that of its header's opcode; a refusal's code isn't 0
 abbrev pub IsSoundAsking : ℕ → Asking → Type 0

@@ -18,7 +18,7 @@ ghost use Rattle.afs_cache.specs.Acting.{called_by, CanFollow, followed, head_of
 ghost use Rattle.afs_cache.specs.Managing.{Answers, Goes, number_limit};
 
 use crate::asked::{Asked, code_in, is_giving};
-use crate::calls::boot_of;
+use crate::boots::boot_of;
 use crate::looks::{Walked, walk};
 use crate::messages::{outs_calling, quiet};
 use crate::node::CacheManager;
@@ -96,7 +96,7 @@ impl CacheManager {
             half: Half::Call,
             from: self.node,
             to: callee,
-            epoch: self.calls.epoch,
+            epoch: self.callers.boot(),
             number,
             boot,
             stamp: 0,
@@ -288,6 +288,7 @@ impl CacheManager {
             outs,
         } = asks;
         self.calls.start(callee);
+        self.spoiled = false;
         self.asked = Some(asked);
         outs
     }

@@ -2,10 +2,9 @@
 #![tactic(auto)]
 
 mod acting;
-mod admitting;
 mod asked;
+mod boots;
 mod breaks;
-mod calls;
 mod looks;
 mod messages;
 mod node;

@@ -8,7 +8,7 @@ ghost use Rattle.afs_cache.specs.Asking.{calling};
 
 use afs_history::lines::{Lines, Outs};
 use afs_message::cell::CellCalls;
-use afs_message::messages::encode_message;
+use afs_message::spelled::SpelledMessage;
 use afs_num::messages::{Call, Carried, Message};
 use afs_num::sequences::{Octets, Sequence};
 use afs_num::types::{Half, Head, Mem, Parcel};
@@ -28,13 +28,13 @@ fn outs_of(alloc: Global, lines: Lines, head: Head, bytes: Octets) -> Mem<Outs>
 }
 
 /// What a step gives out that sends this one message.
-pub fn outs_with(alloc: Global, lines: Lines, message: &Message) -> Mem<Outs>
-    requires { HasSpelling message.now }
+pub fn outs_with(alloc: Global, lines: Lines, message: SpelledMessage) -> Mem<Outs>
     ensures lines { IfOk result (λ o. o.lines ≡ lines) }
-    ensures sent { IfOk result (λ o. parcels_read o.parcels ≡ messages_spelled (message.now ∷ [])) }
+    ensures sent { IfOk result (λ o. parcels_read o.parcels ≡ messages_spelled (message ∷ [])) }
 {
-    let bytes = encode_message(alloc, message)?;
-    outs_of(alloc, lines, message.head, bytes)
+    let mut parcels = Sequence::new(alloc);
+    parcels.push(message.into_parcel())?;
+    Ok(Outs { parcels, lines })
 }
 
 #[tactic(auto, unfolding(afs_model::specs::Messages::spelled))]

@@ -13,14 +13,16 @@ ghost use Rattle.afs_cache.specs.Managing.{Answers, Takes, number_limit, times_o
 ghost use Rattle.afs_cache.specs.Lasting.{lasting};
 
 use crate::asked::Asked;
-use crate::calls::{Calls, KnownBoot, Seat};
+use crate::boots::KnownBoot;
 use crate::messages::CLIENT_CALLS;
 use afs_acts::{Location, locations};
+use afs_call::{CallTable, Caller};
 use afs_entries::Cache;
 use afs_history::acts::Act;
 use afs_history::lines::Outs;
 use afs_history::scripts::VolumeLines;
 use afs_message::messages::read_message;
+use afs_message::spelled::SpelledMessage;
 use afs_num::sequences::Octets;
 use afs_num::types::{Key, Mem, Node};
 use std::alloc::Global;
@@ -35,10 +37,12 @@ pub struct CacheManager {
     /// Where volumes are, and the boot numbers of servers.
     pub(crate) table: Vec<Location>,
     pub(crate) boots: Vec<KnownBoot>,
-    /// The servers that call.
-    pub(crate) seats: Vec<Seat>,
+    /// The servers that call, in its epoch.
+    pub(crate) callers: CallTable<SpelledMessage>,
     pub(crate) cache: Cache,
-    pub(crate) calls: Calls,
+    /// Its own calls, and whether a break spoils the reply to the last one.
+    pub(crate) calls: Caller,
+    pub(crate) spoiled: bool,
     /// The act that runs, with its call, and how often it was told to wait.
     pub(crate) asked: Option<Asked>,
     pub(crate) busy: u32,
@@ -51,7 +55,7 @@ impl Model for CacheManager {
 
     ghost Value = { NodeState ClientState };
 
-    ghost view = { λ c. record { node = c.node; state = record { epoch = c.calls.epoch; last = c.calls.last; user = c.user; capacity = c.cache.capacity; table = c.table.items; boots = c.boots.items; seats = c.seats.items; cache = c.cache.entries; running = running_of c.asked; busy = c.busy; callee = c.calls.callee; tries = c.calls.tries; spoiled = c.calls.spoiled; gifts = gifts_of c.asked } } };
+    ghost view = { λ c. record { node = c.node; state = record { epoch = c.callers.boot; last = c.calls.last; user = c.user; capacity = c.cache.capacity; table = c.table.items; boots = c.boots.items; seats = c.callers.seats; cache = c.cache.entries; running = running_of c.asked; busy = c.busy; callee = c.calls.callee; tries = c.calls.tries; spoiled = c.spoiled; gifts = gifts_of c.asked } } };
 
     ghost invariant = { λ c. FitsClient c.node c.user c.calls.callee };
 }
@@ -81,9 +85,10 @@ impl CacheManager {
             user: Octets::from_slice(alloc, user)?,
             table: locations(alloc, volumes)?,
             boots: Vec::new(alloc),
-            seats: Vec::new(alloc),
+            callers: CallTable::new(alloc, epoch),
             cache: Cache::new(alloc, capacity)?,
-            calls: Calls::new(epoch),
+            calls: Caller::new(Node::Server(1)),
+            spoiled: false,
             asked: None,
             busy: 0,
         })
@@ -136,7 +141,7 @@ impl CacheManager {
             self.calls.callee,
             Key {
                 node: self.node,
-                epoch: self.calls.epoch,
+                epoch: self.callers.boot(),
                 number: self.calls.last,
             },
         ))

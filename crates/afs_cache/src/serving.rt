@@ -1,7 +1,8 @@
 //! The calls of servers: they break promises, and ask whether the client is there.
 
 ghost use Rattle.std.specs.Prelude.{◌≡◌, ◌<◌, ◌||◌, [], ◌∷◌, false, map, IfOk, OnErr, OnOk, if◌then◌else◌};
-ghost use Rattle.afs_model.specs.Calls.{admitted, call_seated};
+ghost use Rattle.afs_call.specs.Admitting.{means};
+ghost use Rattle.afs_model.specs.Calls.{admitted, call_seated, runs};
 ghost use Rattle.afs_model.specs.FsRows.{call_number};
 ghost use Rattle.afs_model.specs.Heads.{is_zero, IsSoundHead};
 ghost use Rattle.afs_model.specs.Messages.{HasSpelling, IsSoundReceived};
@@ -12,18 +13,16 @@ ghost use Rattle.afs_shape.specs.Tables.{is_among};
 ghost use Rattle.afs_model.specs.CellRows.{client_calls};
 ghost use Rattle.afs_entries.specs.Cached.{left, unlisted};
 ghost use Rattle.afs_cache.specs.Managing.{number_limit, Takes};
-ghost use Rattle.afs_cache.specs.Asking.{means};
-ghost use Rattle.afs_cache.specs.Serving.{admits_asking, IsSoundAdmit, IsSoundAsking, runs_asking, takes_asking};
+ghost use Rattle.afs_cache.specs.Serving.{admits_asking, IsSoundAsking, runs_asking, takes_asking};
 
-use crate::admitting::{Admit, admitted};
 use crate::breaks::{is_spoiled_by_all, names_call};
-use crate::calls::Seat;
 use crate::messages::{CLIENT_CALLS, boot_told, outs_with, replied};
 use crate::node::CacheManager;
+use afs_call::Admit;
 use afs_entries::Drops;
 use afs_history::lines::{Line, Lines, Outs};
+use afs_message::spelled::SpelledMessage;
 use afs_num::calls::{FsCall, FsReply};
-use afs_num::keyed::put_last;
 use afs_num::messages::{Call, Carried, Message, Received, Reply};
 use afs_num::sequences::Sequence;
 use afs_num::types::{Code, Fid, Head, Mem, Node};
@@ -63,39 +62,39 @@ fn done(reply: FsReply) -> Carried
 
 impl CacheManager {
     /// A message is sent, and nothing else is done.
-    fn tell(&self, message: &Message) -> Mem<Outs>
-        requires { HasSpelling message.now }
-        ensures { Takes (λ place. told_step self.now.state place (message.now ∷ [])) self.now self.now result }
+    fn tell(&self, message: SpelledMessage) -> Mem<Outs>
+        ensures { Takes (λ place. told_step self.now.state place (message ∷ [])) self.now self.now result }
     {
         outs_with(self.alloc, Sequence::new(self.alloc), message)
     }
 
+    /// A kept reply is sent again.
+    fn tell_again(&self, reply: &SpelledMessage) -> Mem<Outs>
+        ensures { Takes (λ place. told_step self.now.state place (reply.now ∷ [])) self.now self.now result }
+    {
+        let reply = reply.copy(self.alloc)?;
+        self.tell(reply)
+    }
+
     /// A reply is kept for its caller.
-    fn keep(&mut self, head: &Head, reply: Message) -> Mem<()>
-        requires { HasSpelling reply }
+    fn keep(&mut self, head: &Head, reply: SpelledMessage) -> Mem<()>
+        requires runs { admitted self.old.state.epoch self.old.state.seats head.now ≡ runs }
         ensures ok { OnOk result (self.new ≡ record self.old { state = record self.old.state { seats = call_seated (seat_for head.now reply) self.old.state.seats } }) }
         ensures err { OnErr result (self.new ≡ self.old) }
     {
-        self.seats.reserve(1)?;
-        put_last(
-            &mut self.seats,
-            Seat {
-                caller: head.from,
-                epoch: head.epoch,
-                number: head.number,
-                reply: Some(reply),
-            },
-        );
+        self.callers.keep(head, reply)?;
         Ok(())
     }
 
     /// A server's call is answered behind these lines, and the reply is kept.
     fn reply(&mut self, head: &Head, lines: Lines, carried: Carried) -> Mem<Outs>
-        requires { HasSpelling (replied self.old.state.epoch head.now carried) }
+        requires runs { admitted self.old.state.epoch self.old.state.seats head.now ≡ runs }
+        requires spelling { HasSpelling (replied self.old.state.epoch head.now carried) }
         ensures { Takes (λ place. replies_step self.old.state place head.now lines carried) self.old self.new result }
     {
-        let reply = replied(self.calls.epoch, head, carried);
-        let outs = outs_with(self.alloc, lines, &reply)?;
+        let reply = replied(self.callers.boot(), head, carried);
+        let reply = SpelledMessage::from_message(self.alloc, reply)?;
+        let outs = outs_with(self.alloc, lines, reply.copy(self.alloc)?)?;
         self.keep(head, reply)?;
         Ok(outs)
     }
@@ -105,12 +104,13 @@ impl CacheManager {
         ensures { self.new ≡ record self.old { state = record self.old.state { cache = unlisted fids.now self.old.state.cache; spoiled = is_spoiled || self.old.state.spoiled } } }
     {
         self.cache.drop_all(fids);
-        self.calls.spoiled = is_spoiled || self.calls.spoiled;
+        self.spoiled = is_spoiled || self.spoiled;
     }
 
     /// A server's call is answered, and nothing else is told.
     fn reply_alone(&mut self, head: &Head, carried: Carried) -> Mem<Outs>
-        requires { HasSpelling (replied self.old.state.epoch head.now carried) }
+        requires runs { admitted self.old.state.epoch self.old.state.seats head.now ≡ runs }
+        requires spelling { HasSpelling (replied self.old.state.epoch head.now carried) }
         ensures { Takes (λ place. replies_step self.old.state place head.now [] carried) self.old self.new result }
     {
         let lines = Sequence::new(self.alloc);
@@ -118,6 +118,7 @@ impl CacheManager {
     }
 
     fn refuse_call(&mut self, head: &Head, code: Code) -> Mem<Outs>
+        requires runs { admitted self.old.state.epoch self.old.state.seats head.now ≡ runs }
         requires head { IsSoundHead head.now }
         requires code { is_zero code.0 ≡ false }
         ensures { Takes (λ place. replies_step self.old.state place head.now [] (Carried.Refusal code)) self.old self.new result }
@@ -146,6 +147,7 @@ impl CacheManager {
 
     /// A break of the promises on these fids: their entries go, and a reply that names one of them is spoiled.
     fn break_fids(&mut self, head: &Head, fids: &[Fid]) -> Mem<Outs>
+        requires runs { admitted self.old.state.epoch self.old.state.seats head.now ≡ runs }
         requires head { IsSoundHead head.now }
         requires opcode { head.now.opcode ≡ 204 }
         ensures { Takes (λ place. replies_step (without_fids self.old.state fids.now) place head.now (map (drop_line self.old.node) fids.now) (done_by FsReply.CallBack)) self.old self.new result }
@@ -190,6 +192,7 @@ impl CacheManager {
 
     /// A break of all that the server promised.
     fn break_all(&mut self, head: &Head) -> Mem<Outs>
+        requires runs { admitted self.old.state.epoch self.old.state.seats head.now ≡ runs }
         requires head { IsSoundHead head.now }
         requires opcode { head.now.opcode ≡ 205 }
         ensures { Takes (λ place. breaks self.old.node self.old.state place head.now FsCall.InitCallBackState) self.old self.new result }
@@ -204,6 +207,7 @@ impl CacheManager {
 
     /// A call of a server that runs.
     fn serve(&mut self, head: &Head, call: FsCall) -> Mem<Outs>
+        requires runs { admitted self.old.state.epoch self.old.state.seats head.now ≡ runs }
         requires head { IsSoundHead head.now }
         requires opcode { head.now.opcode ≡ call_number call }
         ensures { Takes (λ place. breaks self.old.node self.old.state place head.now call) self.old self.new result }
@@ -218,6 +222,7 @@ impl CacheManager {
 
     /// A call that runs: those of other interfaces aren't served.
     fn run_call(&mut self, head: &Head, call: Call) -> Mem<Outs>
+        requires runs { admitted self.old.state.epoch self.old.state.seats head.now ≡ runs }
         requires head { IsSoundHead head.now }
         requires asking { IsSoundAsking head.now.opcode (Asking.Call call) }
         ensures { Takes (λ place. runs_asking self.old.node self.old.state place head.now (Asking.Call call)) self.old self.new result }
@@ -230,6 +235,7 @@ impl CacheManager {
 
     /// What a server asks runs.
     fn run(&mut self, head: &Head, asking: Asking) -> Mem<Outs>
+        requires runs { admitted self.old.state.epoch self.old.state.seats head.now ≡ runs }
         requires head { IsSoundHead head.now }
         requires asking { IsSoundAsking head.now.opcode asking }
         ensures { Takes (λ place. runs_asking self.old.node self.old.state place head.now asking) self.old self.new result }
@@ -241,11 +247,10 @@ impl CacheManager {
     }
 
     /// What becomes of a call with this header.
-    fn admit(&self, head: &Head) -> Admit<'_>
-        ensures value { means self.now.state.epoch result ≡ admitted self.now.state.epoch self.now.state.seats head.now }
-        ensures sound { IsSoundAdmit result }
+    fn admit(&self, head: &Head) -> Admit<'_, SpelledMessage>
+        ensures { means result ≡ admitted self.now.state.epoch self.now.state.seats head.now }
     {
-        admitted(&self.seats, self.calls.epoch, head)
+        self.callers.admit(head)
     }
 
     /// The caller is told this client's boot number.
@@ -253,8 +258,9 @@ impl CacheManager {
         requires { IsSoundHead head.now }
         ensures { Takes (λ place. told_step self.now.state place (boot_told self.now.state.epoch head.now ∷ [])) self.now self.now result }
     {
-        let notice = boot_told(self.calls.epoch, head);
-        self.tell(&notice)
+        let notice = boot_told(self.callers.boot(), head);
+        let notice = SpelledMessage::from_message(self.alloc, notice)?;
+        self.tell(notice)
     }
 
     /// A call. A call in progress or older than its caller's last one gets no answer.
@@ -265,9 +271,9 @@ impl CacheManager {
     {
         match self.admit(head) {
             Admit::Run => self.run(head, asking),
-            Admit::Kept(reply) => self.tell(reply),
-            Admit::InProgress | Admit::Older => self.ignore(),
-            Admit::WrongBoot => self.tell_boot(head),
+            Admit::Kept(reply) => self.tell_again(reply),
+            Admit::InProgress | Admit::Old => self.ignore(),
+            Admit::WrongBoot(_) => self.tell_boot(head),
         }
     }
 

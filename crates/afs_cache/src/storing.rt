@@ -73,7 +73,7 @@ impl CacheManager {
     fn keeps_body(&self, fid: &Fid, index: u32, now: u32) -> bool
         ensures { result ≡ (not self.now.state.spoiled && is_below now index (find_cached fid.now self.now.state.cache)) }
     {
-        !self.calls.spoiled && is_below(now, index, self.cache.find(fid))
+        !self.spoiled && is_below(now, index, self.cache.find(fid))
     }
 
     /// The body under a status or rights that were stored is that of the version before: a trusted entry of another is given
@@ -96,7 +96,7 @@ impl CacheManager {
     fn is_spoiled(&self) -> bool
         ensures { result ≡ self.now.state.spoiled }
     {
-        self.calls.spoiled
+        self.spoiled
     }
 
     /// The body that was stored is cached; of a reply that a break overtook nothing is.

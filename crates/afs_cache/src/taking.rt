@@ -19,7 +19,7 @@ ghost use Rattle.afs_cache.specs.Managing.{Answers, by_act, by_call, Goes, hears
 
 use crate::acting::Dropping;
 use crate::asked::Asked;
-use crate::calls::note_boot;
+use crate::boots::note_boot;
 use crate::messages::quiet;
 use crate::node::CacheManager;
 use crate::replies::{body_told, entries_told, entry_told, is_any_spent, is_busy, status_told};
@@ -548,7 +548,7 @@ impl CacheManager {
         ensures { result ≡ spent_by self.now.state self.now.state.running }
     {
         match &self.asked {
-            Some(asked) => self.calls.spoiled && volume_changed(asked.file_call()).is_none(),
+            Some(asked) => self.spoiled && volume_changed(asked.file_call()).is_none(),
             None => false,
         }
     }
@@ -595,7 +595,7 @@ impl CacheManager {
         match &self.asked {
             Some(asked) => {
                 head.from.is(&self.calls.callee)
-                    && head.epoch == self.calls.epoch
+                    && head.epoch == self.callers.boot()
                     && head.number == self.calls.last
                     && head.opcode == opcode(asked.file_call())
             }

@@ -1,17 +1,10 @@
--- How a caller numbers its calls, and counts their timeouts.
-use Rattle.std.specs.Prelude.{ℕ, ◌+◌, nat_lt, if◌then◌else◌}
+-- What a caller does where its call has waited too long.
+use Rattle.std.specs.Prelude.{◌≡◌, ℕ, ◌+◌, true, false}
+use Rattle.afs_model.specs.Calls.{is_sent_again}
+use Rattle.afs_call.specs.declared.caller.Timeout.{Timeout}
+use Rattle.afs_call.specs.declared.caller.Timeout.TheVariants.{Again, Dead}
 
--- the epoch, the number of the last call, and its timeouts, of which the third is the last that counts
-pub record Numbers : Type 0 where
-  pub epoch : ℕ
-  pub last : ℕ
-  pub timeouts : ℕ
-
-abbrev pub first_caller : ℕ → Numbers
-first_caller epoch = record { epoch = epoch; last = 0; timeouts = 0 }
-
-abbrev pub next_call : Numbers → Numbers
-next_call c = record c { last = c.last + 1; timeouts = 0 }
-
-abbrev pub timed_out : Numbers → Numbers
-timed_out c = if nat_lt c.timeouts 3 then record c { timeouts = c.timeouts + 1 } else c
+-- By the timeouts that the call had before: it is sent again, and this timeout is the next; or it is given up.
+abbrev pub Follows : ℕ → Timeout → Type 0
+Follows tries (Again count) = (is_sent_again tries ≡ true) × (count ≡ tries + 1)
+Follows tries Dead = is_sent_again tries ≡ false

@@ -1,78 +1,60 @@
-ghost use Rattle.std.specs.Prelude.{◌≡◌, ◌+◌, ◌<◌, ◌↔◌};
-ghost use Rattle.afs_call.specs.Callers.{first_caller, next_call, timed_out};
+//! A caller: how it numbers its calls, and how often it sends one.
 
-use std::marker::Model;
+ghost use Rattle.std.specs.Prelude.{◌≡◌, ◌+◌, ◌<◌};
+ghost use Rattle.afs_call.specs.Callers.{Follows};
+
+use afs_num::types::Node;
+
+/// The timeout of a call at which its caller gives it up.
+pub const LAST_TIMEOUT: u32 = 3;
 
 /// What a caller does where its call has waited too long.
 #[derive(Clone, Copy, Debug, PartialEq, Eq)]
 pub enum Timeout {
-    /// It sends the same message again.
-    Resend,
+    /// It sends the same message again. The call has had so many timeouts by now.
+    Again(u32),
     /// It gives the call up.
     Dead,
 }
 
-/// A caller: its epoch, the number of its last call, and how often that call has waited too long.
-#[derive(Debug, Drop)]
-pub struct Caller {
-    epoch: u32,
-    last: u32,
-    timeouts: u8,
+/// What the caller does of whose call this is the next timeout, after so many.
+pub fn timed_out(tries: u32) -> Timeout
+    ensures { Follows tries result }
+{
+    if tries < LAST_TIMEOUT - 1 {
+        Timeout::Again(tries + 1)
+    } else {
+        Timeout::Dead
+    }
 }
 
-impl Model for Caller {
-    ghost use Rattle.std.specs.Prelude.{◌≤◌};
-    ghost use Rattle.afs_call.specs.Callers.{Numbers};
-
-    ghost Value = { Numbers };
-
-    ghost view = { λ c. record { epoch = c.epoch; last = c.last; timeouts = c.timeouts } };
-
-    ghost invariant = { λ c. c.timeouts ≤ 3 };
+/// A caller that waits for one call at a time: its last call's number, whom that is for, and how many timeouts it had.
+#[derive(Drop)]
+pub struct Caller {
+    pub last: u32,
+    pub callee: Node,
+    pub tries: u32,
 }
 
 impl Caller {
-    /// A caller that has made no call in this epoch.
-    pub fn new(epoch: u32) -> Caller
-        ensures { result ≡ first_caller epoch }
+    /// No call was made in this epoch, and the first may be for this node.
+    pub fn new(callee: Node) -> Caller
+        ensures { result ≡ record { last = 0; callee = callee; tries = 0 } }
     {
         Caller {
-            epoch,
             last: 0,
-            timeouts: 0,
+            callee,
+            tries: 0,
         }
     }
 
-    /// The epoch of its calls.
-    pub fn epoch(&self) -> u32
-        ensures { result ≡ self.now.epoch }
-    {
-        self.epoch
-    }
-
-    /// The number of a new call: 1, 2, 3, .. in an epoch.
-    pub fn next_number(&mut self) -> u32
+    /// A call under the next number: 1, 2, 3, .. in an epoch.
+    pub fn start(&mut self, callee: Node)
         requires { self.old.last < 4294967295 }
-        ensures number { result ≡ self.old.last + 1 }
-        ensures caller { self.new ≡ next_call self.old }
+        ensures { self.new ≡ record { last = self.old.last + 1; callee = callee; tries = 0 } }
     {
         self.last += 1;
-        self.timeouts = 0;
-        self.last
-    }
-
-    /// Counts a timeout of the last call. The third of a number gives the call up; a call that is given up has no
-    /// timeout any more.
-    pub fn timeout(&mut self) -> Timeout
-        ensures dead { (result ≡ Timeout.Dead) ↔ (self.old.timeouts ≡ 2) }
-        ensures caller { self.new ≡ timed_out self.old }
-    {
-        if self.timeouts < 3 {
-            self.timeouts += 1;
-            if self.timeouts == 3 {
-                return Timeout::Dead;
-            }
-        }
-        Timeout::Resend
+        self.callee = callee;
+        self.tries = 0;
     }
 }

@@ -1,20 +1,19 @@
 ghost use Rattle.std.specs.Prelude.{◌≡◌, Some, None, nat_eq, ◌&&◌};
 ghost use Rattle.afs_num.specs.Nodes.{same_node};
-ghost use Rattle.afs_model.specs.Calls.{call_seat, compared, is_last_call, pair_below, repeated};
+ghost use Rattle.afs_model.specs.Calls.{call_seat, compared, is_last_call, key_of, pair_below, repeated};
 ghost use Rattle.afs_call.specs.Admitting.{means};
 
 use afs_num::keyed::{Keyed, find_keyed};
-use afs_num::sequences::Octets;
-use afs_num::types::{Key, Node};
+use afs_num::types::{Head, Key, Node};
 use std::marker::Model;
 
 /// What becomes of a call.
-#[derive(Clone, Copy, Debug)]
-pub enum Admit<'a> {
+#[derive(Drop)]
+pub enum Admit<'a, R: Drop> {
     /// It runs.
     Run,
     /// It has ended, and this reply is sent again.
-    Kept(&'a [u8]),
+    Kept(&'a R),
     /// It hasn't ended, and gets no answer.
     InProgress,
     /// Its caller has made a newer call, and it gets no answer.
@@ -25,23 +24,22 @@ pub enum Admit<'a> {
 
 // The last call of a caller, and its reply: none while the call is in progress.
 #[derive(Drop)]
-pub struct Seat {
+pub struct Seat<R: Drop> {
     caller: Node,
     epoch: u32,
     number: u32,
-    reply: Option<Octets>,
+    reply: Option<R>,
 }
 
-impl Model for Seat {
-    ghost use Rattle.std.specs.Prelude.{ℕ, List};
+impl<R: Drop> Model for Seat<R> {
     ghost use Rattle.afs_model.specs.Calls.{CallSeat};
 
-    ghost Value = { CallSeat (List ℕ) };
+    ghost Value = { CallSeat R };
 
     ghost view = { λ s. record { caller = s.caller; epoch = s.epoch; number = s.number; reply = s.reply } };
 }
 
-impl Keyed for Seat {
+impl<R: Drop> Keyed for Seat<R> {
     type Key = Node;
 
     ghost key = { λ s. s.caller };
@@ -57,6 +55,17 @@ impl Keyed for Seat {
     }
 }
 
+/// The key of the call of this header.
+pub fn key_of(head: &Head) -> Key
+    ensures { result ≡ key_of head.now }
+{
+    Key {
+        node: head.from,
+        epoch: head.epoch,
+        number: head.number,
+    }
+}
+
 fn is_below(epoch: u32, number: u32, other_epoch: u32, other_number: u32) -> bool
     ensures { result ≡ pair_below epoch number other_epoch other_number }
 {
@@ -67,8 +76,8 @@ fn is_below(epoch: u32, number: u32, other_epoch: u32, other_number: u32) -> boo
     }
 }
 
-impl Seat {
-    pub fn begun(key: Key) -> Seat
+impl<R: Drop> Seat<R> {
+    pub fn begun(key: Key) -> Seat<R>
         ensures { result ≡ record { caller = key.node; epoch = key.epoch; number = key.number; reply = None } }
     {
         Seat {
@@ -79,7 +88,7 @@ impl Seat {
         }
     }
 
-    pub fn ended(key: Key, reply: Octets) -> Seat
+    pub fn ended(key: Key, reply: R) -> Seat<R>
         ensures { result ≡ record { caller = key.node; epoch = key.epoch; number = key.number; reply = Some reply } }
     {
         Seat {
@@ -96,17 +105,17 @@ impl Seat {
         self.epoch == key.epoch && self.number == key.number
     }
 
-    fn last(&self) -> Admit<'_>
+    fn last(&self) -> Admit<'_, R>
         ensures { means result ≡ repeated self.now.reply }
     {
         match &self.reply {
-            Some(reply) => Admit::Kept(reply.as_slice()),
+            Some(reply) => Admit::Kept(reply),
             None => Admit::InProgress,
         }
     }
 
     /// What becomes of this caller's call of this epoch and number.
-    pub fn admit(&self, epoch: u32, number: u32) -> Admit<'_>
+    pub fn admit(&self, epoch: u32, number: u32) -> Admit<'_, R>
         ensures { means result ≡ compared epoch number self.now }
     {
         if is_below(epoch, number, self.epoch, self.number) {
@@ -120,7 +129,7 @@ impl Seat {
 }
 
 /// Whether this is the last call of its caller.
-pub fn is_last(seats: &[Seat], key: &Key) -> bool
+pub fn is_last<R: Drop>(seats: &[Seat<R>], key: &Key) -> bool
     ensures { result ≡ is_last_call key.now (call_seat key.now.node seats.now) }
 {
     match find_keyed(seats, &key.node) {

@@ -1,5 +1,5 @@
 -- A reply that waits for new breaks, and what a grant and the clock leave of the numbers of breaks.
-use Rattle.std.proofs.Common.{◌≡◌, ◌≤◌, ◌+◌, ℕ, not, List, [], ◌∷◌, ◌++◌, length, false, refl, sym, ap, subst, ◌∙◌, arith}
+use Rattle.std.proofs.Common.{◌≡◌, ◌≤◌, ◌+◌, ℕ, not, List, [], ◌∷◌, ◌++◌, length, false, sym, ap, subst, ◌∙◌, arith}
 use Rattle.std.specs.Prelude.{nat_lt}
 use Rattle.std.proofs.lemmas.List.{length-append}
 use Rattle.afs_num.specs.declared.messages.Message.{Message}
@@ -8,7 +8,6 @@ use Rattle.afs_num.specs.declared.types.Node.{Node}
 use Rattle.afs_breaks.specs.Promises.{expired, grants_all, is_promise, with_promise, with_promises, without_promise, Lists}
 use Rattle.afs_breaks.specs.declared.types.OwedBreak.{OwedBreak}
 use Rattle.afs_breaks.specs.declared.types.Promise.{Promise}
-use Rattle.afs_rows.specs.Callbacks as row
 use Rattle.afs_rows.specs.Callbacks.{alls, no_turn, numbers}
 use Rattle.afs_rows.specs.States.{Backs}
 use Rattle.afs_server_parts.specs.Turning.{backs_with, IsTurn}
@@ -28,12 +27,6 @@ held_with reply os b l t u is e holds =
     let first = holds l (e ∙ ap (λ (xs : List OwedBreak). xs ++ os) owed) in
     let second = subst (λ (x : Backs). IsTurn (answer_turn reply (numbers os ++ alls t.owed.items) false x) u) (ap (with_lists l) (backs_of b t is)) first in
     subst (λ (xs : List OwedBreak). IsTurn (answer_turn reply (numbers os ++ alls xs) false (with_lists l b)) u) (sym owed) second
-
--- it draws no number of a call
-pub held_last : (reply : Message) (os : List OwedBreak) (b : Backs) (t u : Turn) → IsTurn (no_turn b) t → Holds reply os t u → u.calls.last ≡ b.last_call
-held_last reply os b t u is holds =
-    let l : Lists = record b.lists { owed = b.lists.owed ++ os } in
-    ap (λ (x : row.Turn). x.backs.last_call) (held_with reply os b l t u is refl holds).same
 
 -- ---- the numbers of breaks
 

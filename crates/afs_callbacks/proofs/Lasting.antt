@@ -9,7 +9,7 @@ use Rattle.afs_rows.specs.Callbacks.{ends_all}
 use Rattle.afs_rows.specs.States.{BackCall}
 use Rattle.afs_server_parts.specs.Turning.{breaks_left, IsBreakToNode}
 use Rattle.afs_server_parts.proofs.Turning.{ends_owed}
-use Rattle.afs_callbacks.specs.Ending.{lists_timed}
+use Rattle.afs_callbacks.specs.Waiting.{lists_timed}
 use Rattle.afs_callbacks.specs.States.{IsPromiseToNode}
 
 pub lasting_to_nodes : (now : ℕ) (os : List OwedBreak) → All IsBreakToNode os → All IsBreakToNode (lasting_breaks now os)
@@ -35,14 +35,14 @@ timed_by true l k h i = h
 timed_by false l k h i = i
 
 pub timed_to_nodes : (c : BackCall) (l : Lists) → All IsBreakToNode l.owed → All IsBreakToNode (lists_timed c l).owed
-timed_to_nodes c l h = timed_by (nat_lt c.tries 2) l (ends_all c.breaks l) h (ended_to_nodes c.breaks l h)
+timed_to_nodes c l h = timed_by (nat_lt c.tries 2) l (ends_all c.content l) h (ended_to_nodes c.content l h)
 
 promised_by : (t : Bool) (l k : Lists) → All IsPromiseToNode l.promises → All IsPromiseToNode k.promises → All IsPromiseToNode (cond t l k).promises
 promised_by true l k h i = h
 promised_by false l k h i = i
 
 pub timed_promised : (c : BackCall) (l : Lists) → All IsPromiseToNode l.promises → All IsPromiseToNode (lists_timed c l).promises
-timed_promised c l h = promised_by (nat_lt c.tries 2) l (ends_all c.breaks l) h (ended_promised c.breaks l h)
+timed_promised c l h = promised_by (nat_lt c.tries 2) l (ends_all c.content l) h (ended_promised c.content l h)
 
 pub lasting_promised : (now : ℕ) (ps : List Promise) → All IsPromiseToNode ps → All IsPromiseToNode (lasting now ps)
 lasting_promised now ps h = All-filter (λ (p : Promise). nat_lt now p.expiry) IsPromiseToNode ps h

@@ -4,6 +4,7 @@ pub mod Granting
 pub mod Holding
 pub mod Lasting
 pub mod Numbered
+pub mod Planned
 pub mod Recorded
 pub mod Short
 pub mod Spelled

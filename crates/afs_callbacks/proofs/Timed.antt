@@ -6,14 +6,14 @@ use Rattle.afs_breaks.specs.Promises.{Lists}
 use Rattle.afs_rows.specs.Callbacks as row
 use Rattle.afs_rows.specs.Callbacks.{ends_all, timed}
 use Rattle.afs_rows.specs.States.{BackCall, Backs}
-use Rattle.afs_callbacks.specs.Ending.{lists_timed}
+use Rattle.afs_callbacks.specs.Waiting.{lists_timed}
 
 timed_by : (b : Bool) (t u : row.Turn) (l : Lists) (k : Lists) → t.backs.lists ≡ l → u.backs.lists ≡ k → (cond b t u).backs.lists ≡ cond b l k
 timed_by true t u l k p q = p
 timed_by false t u l k p q = q
 
 pub timed_lists : (me : Node) (boot : ℕ) (n : Node) (c : BackCall) (b : Backs) → (timed me boot n c b).backs.lists ≡ lists_timed c b.lists
-timed_lists me boot n c b = timed_by (nat_lt c.tries 2) _ _ b.lists (ends_all c.breaks b.lists) refl refl
+timed_lists me boot n c b = timed_by (nat_lt c.tries 2) _ _ b.lists (ends_all c.content b.lists) refl refl
 
 last_by : (b : Bool) (t u : row.Turn) (k : ℕ) → t.backs.last_call ≡ k → u.backs.last_call ≡ k → (cond b t u).backs.last_call ≡ k
 last_by true t u k p q = p

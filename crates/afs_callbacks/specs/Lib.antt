@@ -1,5 +1,5 @@
 pub mod Answering
-pub mod Ending
 pub mod Hearing
 pub mod Saving
 pub mod States
+pub mod Waiting

@@ -1,13 +1,10 @@
 -- What a change withdraws and grants, and what it comes to.
-use Rattle.std.specs.Prelude.{◌≡◌, ◌≤◌, ℕ, ◌+◌, List, [], ◌∷◌, ◌++◌, length, map, false, true, Bool, if◌then◌else◌, ◌<◌, ◌^◌}
+use Rattle.std.specs.Prelude.{◌≡◌, ℕ, ◌+◌, List, [], ◌∷◌, ◌++◌, length, map, true, Bool, if◌then◌else◌, ◌<◌, ◌^◌}
 use Rattle.std.specs.List.{list_any, AllByRecursion}
 use Rattle.afs_num.specs.Fids.{same_fid}
 use Rattle.afs_num.specs.declared.calls.FsReply.{FsReply}
 use Rattle.afs_num.specs.declared.calls.FsReply.TheVariants as replies
 use Rattle.afs_num.specs.declared.histories.Version.{Version}
-use Rattle.afs_num.specs.declared.messages.Carried.TheVariants as carried
-use Rattle.afs_num.specs.declared.messages.Message.{Message}
-use Rattle.afs_num.specs.declared.messages.Reply.TheVariants as tell
 use Rattle.afs_num.specs.declared.records.RecordBody.TheVariants as bodies
 use Rattle.afs_num.specs.declared.records.StoreRecord.{StoreRecord}
 use Rattle.afs_num.specs.declared.types.Fid.{Fid}
@@ -16,25 +13,23 @@ use Rattle.afs_num.specs.declared.types.Node.{Node}
 use Rattle.afs_num.specs.declared.volumes.Change.{Change}
 use Rattle.afs_history.specs.declared.lines.Line.{Line}
 use Rattle.afs_history.specs.declared.lines.Line.TheVariants as lines
-use Rattle.afs_breaks.specs.Promises.{hits, lasting, lasting_breaks, left, owes_from, withdraws, Lists}
+use Rattle.afs_breaks.specs.Promises.{hits, lasting, left, owes_from, withdraws, Lists}
 use Rattle.afs_breaks.specs.declared.types.OwedBreak.{OwedBreak}
 use Rattle.afs_breaks.specs.declared.types.Promise.{Promise}
 use Rattle.afs_records.specs.Changes.{keeping}
 use Rattle.afs_records.specs.Records.{FitsRecord}
-use Rattle.afs_rows.specs.Callbacks.{alls, numbers, owe_line, pumped}
-use Rattle.afs_rows.specs.ServerRow.{key_of, promised_in, replied, versioned}
-use Rattle.afs_server_parts.specs.Called.{AreGoodCalls}
-use Rattle.afs_server_parts.specs.Kept.{Spells}
+use Rattle.afs_rows.specs.Callbacks.{owe_line}
+use Rattle.afs_rows.specs.ServerRow.{key_of, versioned}
 use Rattle.afs_server_parts.specs.Telling.{grant_line}
 use Rattle.afs_server_parts.specs.declared.telling.Grant.{Grant}
-use Rattle.afs_callbacks.specs.Answering.{answer_turn, with_lists}
-use Rattle.afs_callbacks.specs.Ending.{Ends}
+use Rattle.afs_server_parts.specs.declared.turns.Stand.{Stand}
+use Rattle.afs_callbacks.specs.Answering.{reply_told, IsRepliedAfter}
 use Rattle.afs_callbacks.specs.declared.saving.Planned.{Planned}
 use Rattle.afs_num.specs.declared.calls.AfsFetchStatus.{AfsFetchStatus}
 use Rattle.afs_num.specs.declared.vnodes.Vnode as image
 use Rattle.afs_num.specs.declared.volumes.Change as made
 use Rattle.afs_ideal.specs.VnodeImage.{kind_fits, FitsImage}
-use Rattle.afs_callbacks.specs.States.{backs_at, CallbackState}
+use Rattle.afs_callbacks.specs.States.{CallbackState}
 
 -- ---- what a change is, so that it has a record
 
@@ -109,26 +104,24 @@ breaks_new n fids now l = owes_from l.last_owed (hits_each n fids (lasting now l
 
 -- ---- what a change comes to, before the disk is touched
 
-abbrev pub reply_told : ℕ → Head → ℕ → Change → Message
-reply_told boot head expiry x = replied boot head (carried.Reply (tell.File (promised_in expiry x.reply)))
+-- the lines of a step that makes these versions, grants these promises and owes these breaks
+abbrev pub saved_lines : Node → Head → ℕ → List Version → List Grant → List OwedBreak → List Line
+saved_lines server head expiry versions grants breaks =
+    (lines.Change server (key_of head) (length versions) ∷ versioned versions []) ++ (map (grant_line server head.from expiry) grants ++ map (owe_line server) breaks)
 
--- the lines of its step
 abbrev pub change_lines : Node → Head → ℕ → Change → List OwedBreak → List Line
-change_lines server head expiry x breaks =
-    (lines.Change server (key_of head) (length x.versions) ∷ versioned x.versions [])
-    ++ (map (grant_line server head.from expiry) (new_grants x.reply) ++ map (owe_line server) breaks)
+change_lines server head expiry x breaks = saved_lines server head expiry x.versions (new_grants x.reply) breaks
 
 abbrev pub change_kept : Head → ℕ → Change → List ℕ → StoreRecord
 change_kept head id x reply = record { head = keeping (key_of head) reply; body = bodies.Change id x.counter x.unique x.vnodes x.removed }
 
--- by this server, in this boot, of which this was the last call, with this in memory
-pub record IsPlanned (server : Node) (boot last now : ℕ) (head : Head) (id : ℕ) (x : Change) (k : CallbackState) (p : Planned) : Type 0 where
-  pub ends : (l : Lists) → l.owed ≡ lasting_breaks now k.lists.owed ++ breaks_new head.from (fids_changed x.versions) now k.lists →
-      Ends l (pumped server boot (answer_turn (reply_told boot head (now + 7200) x) (numbers (breaks_new head.from (fids_changed x.versions) now k.lists) ++ alls (lasting_breaks now k.lists.owed)) false (with_lists l (backs_at k last)))) p.ended
-  pub lines : p.ended.outs.lines ≡ change_lines server head (now + 7200) x (breaks_new head.from (fids_changed x.versions) now k.lists)
-  pub drawn : last ≤ p.ended.last
-  pub good : AreGoodCalls server p.ended.callees.items
-  pub kept : Spells (reply_told boot head (now + 7200) x) p.kept
+-- the breaks that a change by the call of this header makes owed
+abbrev pub breaks_by : Head → ℕ → Change → CallbackState → List OwedBreak
+breaks_by head now x k = breaks_new head.from (fids_changed x.versions) now k.lists
+
+-- by a server that stands so, with this in memory
+pub record IsPlanned (s : Stand) (now : ℕ) (head : Head) (id : ℕ) (x : Change) (k : CallbackState) (p : Planned) : Type 0 where
+  pub replied : IsRepliedAfter s k now (reply_told s.boot head (now + 7200) x.reply) (breaks_by head now x k) (change_lines s.node head (now + 7200) x (breaks_by head now x k)) p.ended p.kept
   pub rec : p.rec ≡ change_kept head id x p.kept
   pub fits : FitsRecord p.rec
   pub changed : p.changed ≡ fids_changed x.versions

@@ -3,17 +3,19 @@ use Rattle.std.specs.Prelude.{ℕ, List, [], map}
 use Rattle.std.specs.List.{All}
 use Rattle.afs_num.specs.Nodes.{IsNode}
 use Rattle.afs_num.specs.declared.types.Node.{Node}
+use Rattle.afs_breaks.specs.declared.types.OwedBreak.{OwedBreak}
 use Rattle.afs_breaks.specs.declared.types.Promise.{Promise}
 use Rattle.afs_breaks.specs.Promises.{Lists, no_lists}
 use Rattle.afs_rows.specs.Callbacks as row
 use Rattle.afs_rows.specs.Callbacks.{first_backs, owe_line}
 use Rattle.afs_rows.specs.States.{Backs, Held}
-use Rattle.afs_server_parts.specs.Called.{calls_seen, known_to, AreGoodCalls, Callee}
+use Rattle.afs_server_parts.specs.Called.{call_to, known_to, AreGoodCalls, Callee}
 use Rattle.afs_server_parts.specs.Turning.{IsBreakToNode}
+use Rattle.afs_server_parts.specs.declared.turns.Stand.{Stand}
 
 pub record CallbackState : Type 0 where
   pub lists : Lists
-  pub callees : List Callee
+  pub callees : List (Callee (List OwedBreak))
   pub held : List Held
 
 -- nothing is promised, owed, called or held
@@ -22,7 +24,11 @@ no_callbacks = record { lists = no_lists; callees = []; held = [] }
 
 -- with the last number of the server's own calls
 abbrev pub backs_at : CallbackState → ℕ → Backs
-backs_at k last = record { lists = k.lists; last_call = last; calls = calls_seen k.callees; known = known_to k.callees; held = k.held }
+backs_at k last = record { lists = k.lists; last_call = last; calls = call_to k.callees; known = known_to k.callees; held = k.held }
+
+-- those of a server that stands so, at this time
+abbrev pub backs_by : CallbackState → Stand → ℕ → Backs
+backs_by k s now = row.expired now (backs_at k s.last)
 
 -- ---- a server that begins again
 
@@ -39,4 +45,4 @@ IsPromiseToNode p = IsNode p.client
 pub record IsToNodes (me : Node) (k : CallbackState) : Type 0 where
   pub node : IsNode me
   pub owed : All IsBreakToNode k.lists.owed
-  pub calls : AreGoodCalls me k.callees
+  pub calls : AreGoodCalls k.callees

@@ -1,31 +1,27 @@
 //! What comes of answers to calls that change nothing on the disk.
 
-ghost use Rattle.std.specs.Prelude.{◌≡◌, ◌≤◌, [], false, IfOk, OnOk};
-ghost use Rattle.afs_num.specs.declared.messages.Carried.TheVariants as carried;
+ghost use Rattle.std.specs.Prelude.{◌≡◌, [], false, IfOk, OnOk};
 ghost use Rattle.afs_num.specs.declared.messages.Reply.TheVariants as tell;
 ghost use Rattle.afs_shape.specs.Rows.{IsWithin};
 ghost use Rattle.afs_model.specs.CellRows.{cell_replies, reply_number};
 ghost use Rattle.afs_model.specs.Heads.{is_zero, IsSoundHead};
 ghost use Rattle.afs_breaks.specs.Promises.{expired, lasting_breaks, Lists};
-ghost use Rattle.afs_rows.specs.Callbacks as row;
-ghost use Rattle.afs_rows.specs.Callbacks.{gives_up_all, pumped};
-ghost use Rattle.afs_rows.specs.ServerRow.{boot_told, given_up_read, promised_in, read_reply_to, refusal, replied};
-ghost use Rattle.afs_server_parts.specs.Called.{AreGoodCalls};
-ghost use Rattle.afs_server_parts.specs.Kept.{Spells};
-ghost use Rattle.afs_server_parts.specs.Turning.{backs_with, IsFresh, IsTurn};
-ghost use Rattle.afs_callbacks.specs.Answering.{answer_turn, sent_turn, with_lists};
-ghost use Rattle.afs_callbacks.specs.Ending.{Ends};
-ghost use Rattle.afs_callbacks.specs.States.{IsToNodes, backs_at};
+ghost use Rattle.afs_rows.specs.Callbacks.{gives_up_all, held_under, key_answered, repeats_by};
+ghost use Rattle.afs_rows.specs.ServerRow.{boot_told, given_up_read, read_reply_to, refusal};
+ghost use Rattle.afs_server_parts.specs.Ending.{IsPlanOf};
+ghost use Rattle.afs_server_parts.specs.Turning.{backs_with, IsFresh, IsReady, IsTurn};
+ghost use Rattle.afs_callbacks.specs.Answering.{answer_turn, reply_told, sent_turn, IsAnswer, IsRepliedNow};
+ghost use Rattle.afs_callbacks.specs.States.{backs_by, IsToNodes};
 
 use crate::callbacks::Callbacks;
-use crate::ending::{Ended, end};
+use afs_message::spelled::SpelledMessage;
 use afs_num::calls::FsReply;
 use afs_num::sequences::{Octets, Sequence};
 use afs_num::types::{Fid, Head, Mem, Node};
 use afs_promise::Promises;
+use afs_server_parts::ending::Ended;
 use afs_server_parts::replies::{notice, promised, refusal, reply};
-use afs_server_parts::spelled::SpelledMessage;
-use afs_server_parts::turns::Turn;
+use afs_server_parts::turns::{Stand, Turn};
 use std::alloc::Global;
 
 /// What comes of a reply to a call that ran: what the step gives out and leaves in memory, and the reply's bytes.
@@ -55,7 +51,7 @@ pub(crate) fn reply_told(
     requires head { IsSoundHead head.now }
     requires opcode { head.now.opcode ≡ reply_number (tell.File told) }
     requires within { IsWithin cell_replies (tell.File told) }
-    ensures { IfOk result (λ m. m ≡ replied boot head.now (carried.Reply (tell.File (promised_in expiry told)))) }
+    ensures { IfOk result (λ m. m ≡ reply_told boot head.now expiry told) }
 {
     let told = promised(alloc, told, expiry)?;
     let message = reply(boot, head, told);
@@ -67,8 +63,8 @@ pub(crate) fn reply_told(
 fn answer_now(alloc: Global, turn: &mut Turn, reply: SpelledMessage) -> Mem<()>
     requires fresh { IsFresh turn.old }
     ensures turn { OnOk result ((l : Lists) → l.owed ≡ turn.old.owed.items → IsTurn (answer_turn reply [] false (backs_with l turn.old.held turn.old.calls)) turn.new) }
-    ensures good { turn.new.calls.callees ≡ turn.old.calls.callees }
-    ensures owed { turn.new.owed ≡ turn.old.owed }
+    ensures stand { turn.new.stand ≡ turn.old.stand }
+    ensures ready { OnOk result (IsReady turn.old → IsReady turn.new) }
 {
     turn.answer(reply, Sequence::new(alloc), false)?;
     Ok(())
@@ -76,139 +72,80 @@ fn answer_now(alloc: Global, turn: &mut Turn, reply: SpelledMessage) -> Mem<()>
 
 impl Callbacks {
     /// What comes of it that a caller is told this server's boot number.
-    pub fn plan_boot_told(
-        &self,
-        server: Node,
-        boot: u32,
-        last: u32,
-        head: &Head,
-        now: u32,
-    ) -> Mem<Ended>
-        requires nodes { IsToNodes server self.now }
+    pub fn plan_boot_told(&self, stand: Stand, head: &Head, now: u32) -> Mem<Ended>
+        requires nodes { IsToNodes stand.node self.now }
         requires head { IsSoundHead head.now }
-        ensures ends { IfOk result (λ e. Ends (expired now self.now.lists) (pumped server boot (sent_turn (boot_told boot head.now) (row.expired now (backs_at self.now last)))) e) }
-        ensures lines { IfOk result (λ e. e.outs.lines ≡ []) }
-        ensures drawn { IfOk result (λ e. last ≤ e.last) }
-        ensures good { IfOk result (λ e. AreGoodCalls server e.callees.items) }
+        ensures { IfOk result (IsPlanOf stand (sent_turn (boot_told stand.boot head.now) (backs_by self.now stand now))) }
     {
-        let message = notice(boot, head);
+        let message = notice(stand.boot, head);
         let told = SpelledMessage::from_message(self.alloc, message)?;
-        let mut turn = self.turn(last, now)?;
+        let mut turn = self.turn(stand, now)?;
         turn.send(told)?;
-        let ended = end(self.alloc, server, boot, turn)?;
+        let ended = turn.end(self.alloc)?;
         Ok(ended)
     }
 
     /// What comes of it that a kept reply is asked again.
     pub fn plan_repeated(
         &self,
-        server: Node,
-        boot: u32,
-        last: u32,
+        stand: Stand,
         reply: SpelledMessage,
         good: bool,
         now: u32,
     ) -> Mem<Ended>
-        requires nodes { IsToNodes server self.now }
-        ensures ends { IfOk result (λ e. Ends (expired now self.now.lists) (pumped server boot (row.repeats_by (row.expired now (backs_at self.now last)) reply (row.held_under (row.key_answered reply) self.now.held) good)) e) }
-        ensures lines { IfOk result (λ e. e.outs.lines ≡ []) }
-        ensures drawn { IfOk result (λ e. last ≤ e.last) }
-        ensures good { IfOk result (λ e. AreGoodCalls server e.callees.items) }
+        requires { IsToNodes stand.node self.now }
+        ensures { IfOk result (IsPlanOf stand (repeats_by (backs_by self.now stand now) reply (held_under (key_answered reply) self.now.held) good)) }
     {
-        let mut turn = self.turn(last, now)?;
+        let mut turn = self.turn(stand, now)?;
         turn.repeat(self.alloc, reply, good)?;
-        let ended = end(self.alloc, server, boot, turn)?;
+        let ended = turn.end(self.alloc)?;
         Ok(ended)
     }
 
     /// What comes of it that a reply goes out at once.
-    fn plan_answer(
-        &self,
-        server: Node,
-        boot: u32,
-        last: u32,
-        reply: SpelledMessage,
-        now: u32,
-    ) -> Mem<Ended>
-        requires nodes { IsToNodes server self.now }
-        ensures ends { IfOk result (λ e. (l : Lists) → l.owed ≡ lasting_breaks now self.now.lists.owed → Ends l (pumped server boot (answer_turn reply [] false (with_lists l (backs_at self.now last)))) e) }
-        ensures lines { IfOk result (λ e. e.outs.lines ≡ []) }
-        ensures drawn { IfOk result (λ e. last ≤ e.last) }
-        ensures good { IfOk result (λ e. AreGoodCalls server e.callees.items) }
+    fn plan_answer(&self, stand: Stand, reply: SpelledMessage, now: u32) -> Mem<Ended>
+        requires { IsToNodes stand.node self.now }
+        ensures { IfOk result (IsAnswer stand self.now reply (lasting_breaks now self.now.lists.owed) [] []) }
     {
-        let mut turn = self.turn(last, now)?;
+        let mut turn = self.turn(stand, now)?;
         answer_now(self.alloc, &mut turn, reply)?;
-        let ended = end(self.alloc, server, boot, turn)?;
+        let ended = turn.end(self.alloc)?;
         Ok(ended)
     }
 
     /// What comes of a reply to a call that ran, in its spelling. It goes out at once, and its bytes are to be kept.
-    pub(crate) fn plan_spelled(
-        &self,
-        server: Node,
-        boot: u32,
-        last: u32,
-        reply: SpelledMessage,
-        now: u32,
-    ) -> Mem<Replied>
-        requires nodes { IsToNodes server self.now }
-        ensures ends { IfOk result (λ r. (l : Lists) → l.owed ≡ lasting_breaks now self.now.lists.owed → Ends l (pumped server boot (answer_turn reply [] false (with_lists l (backs_at self.now last)))) r.ended) }
-        ensures lines { IfOk result (λ r. r.ended.outs.lines ≡ []) }
-        ensures drawn { IfOk result (λ r. last ≤ r.ended.last) }
-        ensures good { IfOk result (λ r. AreGoodCalls server r.ended.callees.items) }
-        ensures kept { IfOk result (λ r. Spells reply r.kept) }
+    pub(crate) fn plan_spelled(&self, stand: Stand, reply: SpelledMessage, now: u32) -> Mem<Replied>
+        requires { IsToNodes stand.node self.now }
+        ensures { IfOk result (λ r. IsRepliedNow stand self.now now reply [] r.ended r.kept) }
     {
         let kept = reply.bytes().copy(self.alloc)?;
-        let ended = self.plan_answer(server, boot, last, reply, now)?;
+        let ended = self.plan_answer(stand, reply, now)?;
         Ok(Replied { ended, kept })
     }
 
     /// What comes of it that a call that runs is refused with this code.
-    pub fn plan_refused(
-        &self,
-        server: Node,
-        boot: u32,
-        last: u32,
-        head: &Head,
-        code: i32,
-        now: u32,
-    ) -> Mem<Replied>
-        requires nodes { IsToNodes server self.now }
+    pub fn plan_refused(&self, stand: Stand, head: &Head, code: i32, now: u32) -> Mem<Replied>
+        requires nodes { IsToNodes stand.node self.now }
         requires head { IsSoundHead head.now }
         requires code { is_zero code ≡ false }
-        ensures ends { IfOk result (λ r. (l : Lists) → l.owed ≡ lasting_breaks now self.now.lists.owed → Ends l (pumped server boot (answer_turn (refusal boot head.now code) [] false (with_lists l (backs_at self.now last)))) r.ended) }
-        ensures lines { IfOk result (λ r. r.ended.outs.lines ≡ []) }
-        ensures drawn { IfOk result (λ r. last ≤ r.ended.last) }
-        ensures good { IfOk result (λ r. AreGoodCalls server r.ended.callees.items) }
-        ensures kept { IfOk result (λ r. Spells (refusal boot head.now code) r.kept) }
+        ensures { IfOk result (λ r. IsRepliedNow stand self.now now (refusal stand.boot head.now code) [] r.ended r.kept) }
     {
-        let message = refusal(boot, head, code);
+        let message = refusal(stand.boot, head, code);
         let reply = SpelledMessage::from_message(self.alloc, message)?;
-        let replied = self.plan_spelled(server, boot, last, reply, now)?;
+        let replied = self.plan_spelled(stand, reply, now)?;
         Ok(replied)
     }
 
     /// What comes of it that a caller gives up promises.
-    pub fn plan_given_up(
-        &self,
-        server: Node,
-        boot: u32,
-        last: u32,
-        head: &Head,
-        now: u32,
-    ) -> Mem<Replied>
-        requires nodes { IsToNodes server self.now }
+    pub fn plan_given_up(&self, stand: Stand, head: &Head, now: u32) -> Mem<Replied>
+        requires nodes { IsToNodes stand.node self.now }
         requires head { IsSoundHead head.now }
         requires opcode { head.now.opcode ≡ 147 }
-        ensures ends { IfOk result (λ r. (l : Lists) → l.owed ≡ lasting_breaks now self.now.lists.owed → Ends l (pumped server boot (answer_turn (read_reply_to boot head.now 0 (given_up_read [])) [] false (with_lists l (backs_at self.now last)))) r.ended) }
-        ensures lines { IfOk result (λ r. r.ended.outs.lines ≡ []) }
-        ensures drawn { IfOk result (λ r. last ≤ r.ended.last) }
-        ensures good { IfOk result (λ r. AreGoodCalls server r.ended.callees.items) }
-        ensures kept { IfOk result (λ r. Spells (read_reply_to boot head.now 0 (given_up_read [])) r.kept) }
+        ensures { IfOk result (λ r. IsRepliedNow stand self.now now (read_reply_to stand.boot head.now 0 (given_up_read [])) [] r.ended r.kept) }
     {
-        let message = reply(boot, head, FsReply::GiveUpCallBacks);
+        let message = reply(stand.boot, head, FsReply::GiveUpCallBacks);
         let told = SpelledMessage::from_message(self.alloc, message)?;
-        let replied = self.plan_spelled(server, boot, last, told, now)?;
+        let replied = self.plan_spelled(stand, told, now)?;
         Ok(replied)
     }
 

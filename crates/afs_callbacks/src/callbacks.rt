@@ -2,11 +2,9 @@
 
 ghost use Rattle.std.specs.Prelude.{◌≡◌, ◌≤◌, IfOk, []};
 ghost use Rattle.afs_breaks.specs.Promises.{lasting_breaks, expired};
-ghost use Rattle.afs_rows.specs.Callbacks as row;
 ghost use Rattle.afs_rows.specs.Callbacks.{no_turn};
-ghost use Rattle.std.specs.List.{All};
-ghost use Rattle.afs_server_parts.specs.Turning.{IsBreakToNode, IsTurn};
-ghost use Rattle.afs_callbacks.specs.States.{backs_at, no_callbacks, CallbackState};
+ghost use Rattle.afs_server_parts.specs.Turning.{IsFresh, IsReady, IsTurn};
+ghost use Rattle.afs_callbacks.specs.States.{backs_by, no_callbacks, IsToNodes};
 ghost use Rattle.std.specs.Option.{option_copied};
 ghost use Rattle.afs_server_parts.specs.Called.{call_to};
 
@@ -14,9 +12,10 @@ use afs_breaks::types::OwedBreak;
 use afs_num::sequences::Sequence;
 use afs_num::types::{Mem, Node};
 use afs_promise::Promises;
-use afs_server_parts::callees::{BackCall, Callee, find_call};
+use afs_server_parts::callees::find_call;
+use afs_server_parts::calling::{BreakCall, BreakCallee};
 use afs_server_parts::held::HeldReply;
-use afs_server_parts::turns::Turn;
+use afs_server_parts::turns::{Stand, Turn};
 use std::alloc::Global;
 use std::marker::Model;
 
@@ -25,7 +24,7 @@ use std::marker::Model;
 pub struct Callbacks {
     pub(crate) alloc: Global,
     pub(crate) promises: Promises,
-    pub(crate) callees: Vec<Callee>,
+    pub(crate) callees: Vec<BreakCallee>,
     pub(crate) held: Sequence<HeldReply>,
 }
 
@@ -91,21 +90,22 @@ impl Callbacks {
     }
 
     /// The server's unanswered call to this node. It takes no memory.
-    pub fn call_to(&self, node: Node) -> Option<&BackCall>
+    pub fn call_to(&self, node: Node) -> Option<&BreakCall>
         ensures { option_copied result ≡ call_to self.now.callees node }
     {
         find_call(&self.callees, node)
     }
 
     /// A step in which nothing happens but that time has passed.
-    pub(crate) fn turn(&self, last: u32, now: u32) -> Mem<Turn>
-        ensures turn { IfOk result (λ t. IsTurn (no_turn (row.expired now (backs_at self.now last))) t) }
-        ensures nodes { All IsBreakToNode self.now.lists.owed → IfOk result (λ t. All IsBreakToNode t.owed.items) }
-        ensures last { IfOk result (λ t. t.calls.last ≡ last) }
-        ensures callees { IfOk result (λ t. t.calls.callees.items ≡ self.now.callees) }
+    pub(crate) fn turn(&self, stand: Stand, now: u32) -> Mem<Turn>
+        requires { IsToNodes stand.node self.now }
+        ensures turn { IfOk result (λ t. IsTurn (no_turn (backs_by self.now stand now)) t) }
+        ensures fresh { IfOk result IsFresh }
+        ensures stand { IfOk result (λ t. t.stand ≡ stand) }
+        ensures ready { IfOk result IsReady }
     {
         let owed = lasting_breaks(self.alloc, &self.promises, now)?;
-        let turn = Turn::new(self.alloc, owed, last, &self.callees, self.held.as_slice())?;
+        let turn = Turn::new(self.alloc, stand, owed, &self.callees, self.held.as_slice())?;
         Ok(turn)
     }
 
@@ -117,7 +117,7 @@ impl Callbacks {
     }
 
     /// The nodes that are called, and the replies that wait, are those that a step left. It takes no memory.
-    pub fn keep(&mut self, callees: Vec<Callee>, held: Sequence<HeldReply>)
+    pub fn keep(&mut self, callees: Vec<BreakCallee>, held: Sequence<HeldReply>)
         ensures { self.new ≡ record self.old { callees = callees.items; held = held } }
     {
         self.callees = callees;

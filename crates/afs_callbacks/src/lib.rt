@@ -4,7 +4,6 @@
 
 pub mod answering;
 mod callbacks;
-pub mod ending;
 mod hearing;
 pub mod restoring;
 pub mod saving;

@@ -1,21 +1,20 @@
 //! A server begins again: the breaks that it then owes, and what comes of them.
 
-ghost use Rattle.std.specs.Prelude.{◌≡◌, ◌≤◌, ◌+◌, [], map, IfOk};
+ghost use Rattle.std.specs.Prelude.{◌≡◌, ◌≤◌, ◌+◌, [], IfOk};
 ghost use Rattle.std.specs.List.{All};
 ghost use Rattle.afs_num.specs.Nodes.{IsNode};
 ghost use Rattle.afs_breaks.specs.Promises.{no_lists};
-ghost use Rattle.afs_rows.specs.Callbacks.{owe_line, owed_to_clients, pumped};
-ghost use Rattle.afs_server_parts.specs.Called.{AreGoodCalls};
+ghost use Rattle.afs_rows.specs.Callbacks.{owed_to_clients};
+ghost use Rattle.afs_server_parts.specs.Ending.{IsPlanOf};
 ghost use Rattle.afs_server_parts.specs.Turning.{IsBreakToNode};
-ghost use Rattle.afs_callbacks.specs.Ending.{Ends};
 ghost use Rattle.afs_callbacks.specs.States.{risen_with};
 
-use crate::ending::{Ended, end};
 use afs_breaks::types::OwedBreak;
 use afs_num::types::{Mem, Node};
 use afs_promise::Promises;
+use afs_server_parts::ending::Ended;
 use afs_server_parts::telling::tell_owed;
-use afs_server_parts::turns::Turn;
+use afs_server_parts::turns::{Stand, Turn};
 use std::alloc::Global;
 
 /// Each client of the cell, of which there are so many, is owed a break on all until this time.
@@ -43,17 +42,16 @@ fn all_breaks(alloc: Global, promises: &Promises) -> Mem<Vec<OwedBreak>>
     Ok(breaks)
 }
 
-/// What comes of it that these breaks are owed, by a server that has called nobody yet.
-pub fn rise(alloc: Global, server: Node, boot: u32, promises: &Promises) -> Mem<Ended>
-    requires server { IsNode server }
+/// What comes of it that these breaks are owed, by a server that stands so and has called nobody yet.
+pub fn rise(alloc: Global, stand: Stand, promises: &Promises) -> Mem<Ended>
+    requires node { IsNode stand.node }
+    requires first { stand.last ≡ 0 }
     requires nodes { All IsBreakToNode promises.now.owed }
-    ensures ends { IfOk result (λ e. Ends promises.now (pumped server boot (risen_with server promises.now)) e) }
-    ensures lines { IfOk result (λ e. e.outs.lines ≡ map (owe_line server) promises.now.owed) }
-    ensures good { IfOk result (λ e. AreGoodCalls server e.callees.items) }
+    ensures { IfOk result (IsPlanOf stand (risen_with stand.node promises.now)) }
 {
     let owed = all_breaks(alloc, promises)?;
-    let mut turn = Turn::new(alloc, owed, 0, &[], &[])?;
-    tell_owed(&mut turn.lines, server, &turn.owed)?;
-    let ended = end(alloc, server, boot, turn)?;
+    let mut turn = Turn::new(alloc, stand, owed, &[], &[])?;
+    tell_owed(&mut turn.lines, stand.node, &turn.owed)?;
+    let ended = turn.end(alloc)?;
     Ok(ended)
 }

@@ -1,6 +1,6 @@
 //! What a change comes to before the disk is touched: its record, and what it withdraws, grants and owes.
 
-ghost use Rattle.std.specs.Prelude.{◌≡◌, ◌≤◌, ◌<◌, ◌+◌, ◌^◌, ◌∷◌, ◌++◌, [], Some, false, true, length, map, IfOk, OnOk, OnErr};
+ghost use Rattle.std.specs.Prelude.{◌≡◌, ◌≤◌, ◌<◌, ◌+◌, ◌^◌, ◌∷◌, ◌++◌, [], Some, false, true, length, IfOk, OnOk, OnErr};
 ghost use Rattle.std.specs.List.{All, AllByRecursion};
 ghost use Rattle.afs_num.specs.Nodes.{IsNode};
 ghost use Rattle.afs_num.specs.declared.messages.Reply.TheVariants as tell;
@@ -15,23 +15,18 @@ ghost use Rattle.afs_breaks.specs.Promises.{expired, lasting, lasting_breaks, ow
 ghost use Rattle.afs_records.specs.Changes.{keeping};
 ghost use Rattle.afs_records.specs.Records.{FitsRecord};
 ghost use Rattle.afs_promise.specs.Found.{without_found};
-ghost use Rattle.afs_rows.specs.Callbacks.{alls, numbers, owe_line, pumped};
-ghost use Rattle.afs_num.specs.declared.messages.Carried.TheVariants as carried;
-ghost use Rattle.afs_rows.specs.ServerRow.{is_client, key_of, promised_in, replied, versioned};
-ghost use Rattle.afs_server_parts.specs.Called.{AreGoodCalls};
-ghost use Rattle.afs_server_parts.specs.Kept.{Spells};
-ghost use Rattle.afs_server_parts.specs.Telling.{grant_line};
-ghost use Rattle.afs_server_parts.specs.Turning.{backs_with, IsBreakToNode, IsFresh, IsTurn};
-ghost use Rattle.afs_callbacks.specs.Answering.{answer_turn, with_lists};
-ghost use Rattle.afs_callbacks.specs.Saving.{CanBeWritten, HasKind, breaks_new, fids_changed, fids_granted, has_fid, hits_each, hits_fresh, hits_new, new_grants, IsPlanned};
-ghost use Rattle.afs_callbacks.specs.Ending.{Ends};
-ghost use Rattle.afs_callbacks.specs.States.{IsPromiseToNode, IsToNodes, backs_at};
+ghost use Rattle.afs_rows.specs.Callbacks.{alls, numbers};
+ghost use Rattle.afs_rows.specs.ServerRow.{is_client, key_of, versioned};
+ghost use Rattle.afs_server_parts.specs.Turning.{backs_with, IsBreakToNode, IsFresh, IsReady, IsTurn};
+ghost use Rattle.afs_callbacks.specs.Answering.{answer_turn, reply_told, IsAnswer, IsRepliedAfter};
+ghost use Rattle.afs_callbacks.specs.Saving.{CanBeWritten, HasKind, breaks_new, fids_changed, fids_granted, has_fid, hits_each, hits_fresh, hits_new, new_grants, saved_lines, IsPlanned};
+ghost use Rattle.afs_callbacks.specs.States.{IsPromiseToNode, IsToNodes};
 
 use crate::answering::{Replied, reply_told};
 use crate::callbacks::Callbacks;
-use crate::ending::{Ended, end};
 use afs_breaks::types::{OwedBreak, Promise};
 use afs_history::lines::{Line, Lines};
+use afs_message::spelled::SpelledMessage;
 use afs_num::calls::{AfsFetchStatus, FsReply};
 use afs_num::histories::{Version, Versions};
 use afs_num::records::{RecordBody, RecordHead, StoreRecord};
@@ -40,10 +35,10 @@ use afs_num::types::{Fid, Head, Key, Mem, Node};
 use afs_num::vnodes::{Vnode, VnodeNumbers, Vnodes};
 use afs_num::volumes::Change;
 use afs_promise::Promises;
+use afs_server_parts::ending::Ended;
 use afs_server_parts::replies::key;
-use afs_server_parts::spelled::SpelledMessage;
 use afs_server_parts::telling::{Grant, tell_grants, tell_owed};
-use afs_server_parts::turns::Turn;
+use afs_server_parts::turns::{Stand, Turn};
 use std::alloc::Global;
 
 /// A promise lasts so many ticks.
@@ -332,7 +327,7 @@ fn saved_lines(
     breaks: &[OwedBreak],
 ) -> Mem<Lines>
     requires { length versions < 2 ^ 32 }
-    ensures { IfOk result (λ ls. ls ≡ (lines.Change server (key_of head.now) (length versions) ∷ versioned versions []) ++ (map (grant_line server head.now.from expiry) grants.now ++ map (owe_line server) breaks.now)) }
+    ensures { IfOk result (λ ls. ls ≡ saved_lines server head.now expiry versions grants.now breaks.now) }
 {
     let mut told = change_told(alloc, server, key(head), versions)?;
     tell_grants(&mut told, server, head.from, expiry, grants)?;
@@ -427,8 +422,8 @@ fn change_record(
 fn hold(alloc: Global, turn: &mut Turn, reply: SpelledMessage, breaks: &[OwedBreak]) -> Mem<()>
     requires fresh { IsFresh turn.old }
     ensures turn { OnOk result ((l : Lists) → l.owed ≡ turn.old.owed.items ++ breaks.now → IsTurn (answer_turn reply (numbers breaks.now ++ alls turn.old.owed.items) false (backs_with l turn.old.held turn.old.calls)) turn.new) }
-    ensures good { OnOk result (turn.new.calls.callees ≡ turn.old.calls.callees) }
-    ensures owed { OnOk result (turn.new.owed.items ≡ turn.old.owed.items ++ breaks.now) }
+    ensures stand { turn.new.stand ≡ turn.old.stand }
+    ensures ready { OnOk result (IsReady turn.old → All IsBreakToNode breaks.now → IsReady turn.new) }
 {
     let waits = waits_for(alloc, breaks, &turn.owed)?;
     turn.owed.extend_from_slice(breaks)?;
@@ -440,50 +435,41 @@ impl Callbacks {
     /// What comes of it that the reply to a change waits for these breaks, and for those on all.
     fn plan_held(
         &self,
-        server: Node,
-        boot: u32,
-        last: u32,
+        stand: Stand,
         reply: SpelledMessage,
         breaks: &[OwedBreak],
         now: u32,
     ) -> Mem<Ended>
-        requires nodes { IsToNodes server self.now }
+        requires nodes { IsToNodes stand.node self.now }
         requires clients { All IsBreakToNode breaks.now }
-        ensures ends { IfOk result (λ e. (l : Lists) → l.owed ≡ lasting_breaks now self.now.lists.owed ++ breaks.now → Ends l (pumped server boot (answer_turn reply (numbers breaks.now ++ alls (lasting_breaks now self.now.lists.owed)) false (with_lists l (backs_at self.now last)))) e) }
-        ensures drawn { IfOk result (λ e. last ≤ e.last) }
-        ensures good { IfOk result (λ e. AreGoodCalls server e.callees.items) }
+        ensures { IfOk result (IsAnswer stand self.now reply (lasting_breaks now self.now.lists.owed ++ breaks.now) (numbers breaks.now ++ alls (lasting_breaks now self.now.lists.owed)) []) }
     {
-        let mut turn = self.turn(last, now)?;
+        let mut turn = self.turn(stand, now)?;
         hold(self.alloc, &mut turn, reply, breaks)?;
-        let ended = end(self.alloc, server, boot, turn)?;
+        let ended = turn.end(self.alloc)?;
         Ok(ended)
     }
 
     /// What comes of it that the call of this header changed something and is told this, once these breaks have ended.
     fn plan_saved(
         &self,
-        server: Node,
-        boot: u32,
-        last: u32,
+        stand: Stand,
         head: &Head,
         told: FsReply,
         breaks: &[OwedBreak],
         now: u32,
     ) -> Mem<Replied>
-        requires nodes { IsToNodes server self.now }
+        requires nodes { IsToNodes stand.node self.now }
         requires clients { All IsBreakToNode breaks.now }
         requires head { IsSoundHead head.now }
         requires opcode { head.now.opcode ≡ reply_number (tell.File told) }
         requires within { IsWithin cell_replies (tell.File told) }
         requires now { now ≤ 1000000000 }
-        ensures ends { IfOk result (λ r. (l : Lists) → l.owed ≡ lasting_breaks now self.now.lists.owed ++ breaks.now → Ends l (pumped server boot (answer_turn (replied boot head.now (carried.Reply (tell.File (promised_in (now + 7200) told)))) (numbers breaks.now ++ alls (lasting_breaks now self.now.lists.owed)) false (with_lists l (backs_at self.now last)))) r.ended) }
-        ensures drawn { IfOk result (λ r. last ≤ r.ended.last) }
-        ensures good { IfOk result (λ r. AreGoodCalls server r.ended.callees.items) }
-        ensures kept { IfOk result (λ r. Spells (replied boot head.now (carried.Reply (tell.File (promised_in (now + 7200) told)))) r.kept) }
+        ensures { IfOk result (λ r. IsRepliedAfter stand self.now now (reply_told stand.boot head.now (now + 7200) told) breaks.now [] r.ended r.kept) }
     {
-        let reply = reply_told(self.alloc, boot, head, told, now + PROMISE_TICKS)?;
+        let reply = reply_told(self.alloc, stand.boot, head, told, now + PROMISE_TICKS)?;
         let kept = reply.bytes().copy(self.alloc)?;
-        let ended = self.plan_held(server, boot, last, reply, breaks, now)?;
+        let ended = self.plan_held(stand, reply, breaks, now)?;
         Ok(Replied { ended, kept })
     }
 
@@ -515,40 +501,34 @@ impl Callbacks {
     /// What comes of it that the call of this header made these versions, withdrew and granted this, and is told this.
     fn plan_told(
         &self,
-        server: Node,
-        boot: u32,
-        last: u32,
+        stand: Stand,
         head: &Head,
         versions: Versions,
         told: FsReply,
         found: &Found,
         now: u32,
     ) -> Mem<Replied>
-        requires nodes { IsToNodes server self.now }
+        requires nodes { IsToNodes stand.node self.now }
         requires clients { All IsBreakToNode found.now.breaks.items }
         requires head { IsSoundHead head.now }
         requires opcode { head.now.opcode ≡ reply_number (tell.File told) }
         requires within { IsWithin cell_replies (tell.File told) }
         requires few { length versions < 2 ^ 32 }
         requires now { now ≤ 1000000000 }
-        ensures ends { IfOk result (λ r. (l : Lists) → l.owed ≡ lasting_breaks now self.now.lists.owed ++ found.now.breaks.items → Ends l (pumped server boot (answer_turn (replied boot head.now (carried.Reply (tell.File (promised_in (now + 7200) told)))) (numbers found.now.breaks.items ++ alls (lasting_breaks now self.now.lists.owed)) false (with_lists l (backs_at self.now last)))) r.ended) }
-        ensures lines { IfOk result (λ r. r.ended.outs.lines ≡ (lines.Change server (key_of head.now) (length versions) ∷ versioned versions []) ++ (map (grant_line server head.now.from (now + 7200)) found.now.grants ++ map (owe_line server) found.now.breaks.items)) }
-        ensures drawn { IfOk result (λ r. last ≤ r.ended.last) }
-        ensures good { IfOk result (λ r. AreGoodCalls server r.ended.callees.items) }
-        ensures kept { IfOk result (λ r. Spells (replied boot head.now (carried.Reply (tell.File (promised_in (now + 7200) told)))) r.kept) }
+        ensures { IfOk result (λ r. IsRepliedAfter stand self.now now (reply_told stand.boot head.now (now + 7200) told) found.now.breaks.items (saved_lines stand.node head.now (now + 7200) versions found.now.grants found.now.breaks.items) r.ended r.kept) }
     {
         let expiry = now + PROMISE_TICKS;
         let grants = found.grants.as_slice();
         let lines = saved_lines(
             self.alloc,
-            server,
+            stand.node,
             head,
             versions,
             grants,
             expiry,
             &found.breaks,
         )?;
-        let mut saved = self.plan_saved(server, boot, last, head, told, &found.breaks, now)?;
+        let mut saved = self.plan_saved(stand, head, told, &found.breaks, now)?;
         saved.ended.outs.lines = lines;
         Ok(saved)
     }
@@ -556,15 +536,13 @@ impl Callbacks {
     /// What a change of the volume of this number comes to.
     pub fn plan_change(
         &self,
-        server: Node,
-        boot: u32,
-        last: u32,
+        stand: Stand,
         head: &Head,
         id: u32,
         change: Change,
         now: u32,
     ) -> Mem<Planned>
-        requires nodes { IsToNodes server self.now }
+        requires nodes { IsToNodes stand.node self.now }
         requires promised { All IsPromiseToNode self.now.lists.promises }
         requires draws { self.now.lists.last_owed + length self.now.lists.promises < 4000000000 }
         requires head { IsSoundHead head.now }
@@ -573,7 +551,7 @@ impl Callbacks {
         requires within { IsWithin cell_replies (tell.File change.reply) }
         requires written { CanBeWritten change }
         requires now { now ≤ 1000000000 }
-        ensures { IfOk result (λ p. IsPlanned server boot last now head.now id change self.now p) }
+        ensures { IfOk result (IsPlanned stand now head.now id change self.now) }
     {
         let found = self.found(head.from, &change, now)?;
         let Change {
@@ -584,7 +562,7 @@ impl Callbacks {
             unique,
             reply,
         } = change;
-        let saved = self.plan_told(server, boot, last, head, versions, reply, &found, now)?;
+        let saved = self.plan_told(stand, head, versions, reply, &found, now)?;
         let Replied { ended, kept } = saved;
         let copy = kept.copy(self.alloc)?;
         let rec = change_record(head, copy, id, counter, unique, vnodes, removed);

@@ -1,21 +1,16 @@
 //! What comes of it that a reading call is told what it asked, and what is promised with that.
 
-ghost use Rattle.std.specs.Prelude.{◌≡◌, ◌≤◌, [], false, map, IfOk, OnErr, OnOk};
-ghost use Rattle.afs_num.specs.declared.messages.Carried.TheVariants as carried;
+ghost use Rattle.std.specs.Prelude.{◌≡◌, map, IfOk, OnErr, OnOk};
 ghost use Rattle.afs_num.specs.declared.messages.Reply.TheVariants as tell;
 ghost use Rattle.afs_shape.specs.Rows.{IsWithin};
 ghost use Rattle.afs_model.specs.CellRows.{cell_replies, reply_number};
 ghost use Rattle.afs_model.specs.Heads.{IsSoundHead};
-ghost use Rattle.afs_breaks.specs.Promises.{grants_all, lasting_breaks, Lists};
-ghost use Rattle.afs_rows.specs.Callbacks.{pumped};
-ghost use Rattle.afs_rows.specs.ServerRow.{granted, promised_in, replied};
-ghost use Rattle.afs_server_parts.specs.Called.{AreGoodCalls};
-ghost use Rattle.afs_server_parts.specs.Kept.{Spells};
+ghost use Rattle.afs_breaks.specs.Promises.{grants_all};
+ghost use Rattle.afs_rows.specs.ServerRow.{granted, replied};
 ghost use Rattle.afs_server_parts.specs.Telling.{grant_line};
 ghost use Rattle.afs_server_parts.specs.declared.telling.Grant as told;
-ghost use Rattle.afs_callbacks.specs.Answering.{answer_turn, with_lists};
-ghost use Rattle.afs_callbacks.specs.Ending.{Ends};
-ghost use Rattle.afs_callbacks.specs.States.{IsToNodes, backs_at};
+ghost use Rattle.afs_callbacks.specs.Answering.{reply_told, IsRepliedNow};
+ghost use Rattle.afs_callbacks.specs.States.{IsToNodes};
 
 use crate::answering::{Replied, reply_told};
 use crate::callbacks::Callbacks;
@@ -25,6 +20,7 @@ use afs_num::calls::FsReply;
 use afs_num::types::{Head, Mem, Node};
 use afs_promise::Promises;
 use afs_server_parts::telling::{Grant, tell_grants};
+use afs_server_parts::turns::Stand;
 use std::alloc::Global;
 use std::slice::from_ref;
 
@@ -67,28 +63,22 @@ impl Callbacks {
     /// What comes of it that a call that reads is told this, and granted these promises.
     pub fn plan_shown(
         &self,
-        server: Node,
-        boot: u32,
-        last: u32,
+        stand: Stand,
         head: &Head,
         told: FsReply,
         grants: &[Grant],
         expiry: u32,
         now: u32,
     ) -> Mem<Replied>
-        requires nodes { IsToNodes server self.now }
+        requires nodes { IsToNodes stand.node self.now }
         requires head { IsSoundHead head.now }
         requires opcode { head.now.opcode ≡ reply_number (tell.File told) }
         requires within { IsWithin cell_replies (tell.File told) }
-        ensures ends { IfOk result (λ r. (l : Lists) → l.owed ≡ lasting_breaks now self.now.lists.owed → Ends l (pumped server boot (answer_turn (replied boot head.now (carried.Reply (tell.File (promised_in expiry told)))) [] false (with_lists l (backs_at self.now last)))) r.ended) }
-        ensures lines { IfOk result (λ r. r.ended.outs.lines ≡ map (grant_line server head.now.from expiry) grants.now) }
-        ensures drawn { IfOk result (λ r. last ≤ r.ended.last) }
-        ensures good { IfOk result (λ r. AreGoodCalls server r.ended.callees.items) }
-        ensures kept { IfOk result (λ r. Spells (replied boot head.now (carried.Reply (tell.File (promised_in expiry told)))) r.kept) }
+        ensures { IfOk result (λ r. IsRepliedNow stand self.now now (reply_told stand.boot head.now expiry told) (map (grant_line stand.node head.now.from expiry) grants.now) r.ended r.kept) }
     {
-        let reply = reply_told(self.alloc, boot, head, told, expiry)?;
-        let lines = granted_lines(self.alloc, server, head.from, expiry, grants)?;
-        let mut replied = self.plan_spelled(server, boot, last, reply, now)?;
+        let reply = reply_told(self.alloc, stand.boot, head, told, expiry)?;
+        let lines = granted_lines(self.alloc, stand.node, head.from, expiry, grants)?;
+        let mut replied = self.plan_spelled(stand, reply, now)?;
         replied.ended.outs.lines = lines;
         Ok(replied)
     }

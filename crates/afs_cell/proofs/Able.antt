@@ -1,19 +1,21 @@
 -- In a safe world each node can be given the next input.
 use Rattle.std.proofs.Common.{arith, ◌≡◌, ◌<◌, ℕ, length, false}
+use Rattle.afs_num.specs.declared.types.Node.TheVariants.{Server}
 use Rattle.afs_history.specs.declared.scripts.Script.{Script}
 use Rattle.afs_host.specs.declared.seats.Seat.TheVariants.{Down, Up}
-use Rattle.afs_cell.specs.Happening.{CanStep, IsSeatOf}
+use Rattle.afs_servers.specs.Happening.{CanStep, IsSeatOf}
 use Rattle.afs_clients.specs.Ready.{AllReady}
-use Rattle.afs_cell.specs.Ready.{AllCanStep}
-use Rattle.afs_cell.specs.Worlds.{most_entries, IsReadySeat, IsSafe, ServerSeat, WorldState}
+use Rattle.afs_servers.specs.Ready.{AllCanStep}
+use Rattle.afs_cell.specs.Worlds.{most_entries, IsSafe, WorldState}
+use Rattle.afs_host.specs.Seated.{IsReadySeat, ServerSeat}
 use Rattle.afs_clients.proofs.Handed.{server_is_node}
 use Rattle.afs_clients.proofs.Numbers.{place_within}
 
-can_step : {D : Type 0} (i entries : ℕ) (seat : ServerSeat D) → entries < most_entries → IsReadySeat i entries seat → CanStep seat
+can_step : {D : Type 0} (i entries : ℕ) (seat : ServerSeat D) → entries < most_entries → IsReadySeat (Server i) entries seat → CanStep seat
 can_step {D} i entries (Up r) few h = (h.can_run, (record { calls = omega (arith, h.calls_drawn, few); breaks = omega (arith, h.breaks_drawn, few) }, omega (arith, h.device_calls, few)))
 can_step {D} i entries (Down s) few h = tt
 
-own_seat : {D : Type 0} (i entries : ℕ) (seat : ServerSeat D) → IsReadySeat i entries seat → IsSeatOf i seat
+own_seat : {D : Type 0} (i entries : ℕ) (seat : ServerSeat D) → IsReadySeat (Server i) entries seat → IsSeatOf (Server i) seat
 own_seat {D} i entries (Up r) h = h.node
 own_seat {D} i entries (Down s) h = tt
 

@@ -7,7 +7,7 @@ use Rattle.afs_num.specs.declared.histories.Actor.TheVariants as actors
 use Rattle.afs_num.specs.declared.messages.Message.{Message}
 use Rattle.afs_num.specs.declared.messages.Received.TheVariants.{Whole}
 use Rattle.afs_num.specs.declared.types.Node.{Node}
-use Rattle.afs_num.specs.declared.types.Node.TheVariants.{Client}
+use Rattle.afs_num.specs.declared.types.Node.TheVariants.{Client, Server}
 use Rattle.afs_num.specs.declared.types.Parcel.{Parcel}
 use Rattle.afs_history.specs.declared.acts.Act.{Act}
 use Rattle.afs_history.specs.declared.scripts.Task.{Task}
@@ -19,14 +19,17 @@ use Rattle.afs_model.specs.Messages.{messages_spelled, parcels_read}
 use Rattle.afs_rows.specs.Callbacks.{put}
 use Rattle.afs_rows.specs.ClientRow.{begin_row, client_row, reborn, timeout_row}
 use Rattle.afs_rows.specs.Going.{ClientState, Going}
-use Rattle.afs_rows.specs.Runs.{begins, begun_by, client_falls, client_moves, client_rises, client_starts, client_stops, given_at, given_to, gives, has_client, is_away, message_at, moved, nothing, steady, turned, voided, waited_by, waits, Cell, Entry, Host, Input, Moved}
+use Rattle.afs_rows.specs.Runs.{begins, begun_by, client_falls, client_moves, client_rises, client_starts, client_stops, given_at, given_to, gives, has_client, is_away, message_at, moved, nothing, turned, voided, waited_by, waits, Cell, Entry, Input, Moved}
+use Rattle.afs_rows.specs.ServerHosts.{ServerHost}
+use Rattle.afs_rows.specs.Hosts.{steady}
 use Rattle.afs_rows.specs.Steps.{Step}
 use Rattle.afs_schedule.specs.Schedules.{act_input, client_act, is_idle, left_by, timeout_input, IsInput, Turn}
 use Rattle.afs_text.specs.Telling.{told, sent_by}
 use Rattle.afs_clients.specs.Happening.{entry_of, ClientHears, ClientMakes, HasBegun, HasFallen, HasRisen, HasTimedOut, IsAsked, IsVoidClient}
 use Rattle.afs_clients.specs.Places.{put_place}
 use Rattle.afs_cell.specs.Steps.{IsAt, Plays}
-use Rattle.afs_cell.specs.Worlds.{falls, IsClient, IsHost, WorldState}
+use Rattle.afs_cell.specs.Worlds.{falls, IsClient, WorldState}
+use Rattle.afs_host.specs.Seated.{IsHost}
 use Rattle.afs_clients.specs.declared.clients.ClientSeat.{ClientSeat}
 use Rattle.afs_clients.specs.declared.happening.ClientInput.{ClientInput}
 use Rattle.afs_clients.specs.declared.happening.ClientInput.TheVariants as client
@@ -114,7 +117,7 @@ module _ {D : Type 0} (seen : D → Option (List ℕ)) (may_leave : D → List �
   at_moved w t is n was now front outs found link at = record {
     cell = record {
       host_count = link.moves.host_count ∙ at.cell.host_count;
-      hosts = λ j z here. subst (λ (h : ℕ → Host). IsHost seen may_leave limit j z (h j)) (sym link.moves.hosts) (at.cell.hosts j z here);
+      hosts = λ j z here. subst (λ (h : ℕ → ServerHost). IsHost seen may_leave limit (Server j) z (h j)) (sym link.moves.hosts) (at.cell.hosts j z here);
       count = link.moves.count ∙ (at.cell.count ∙ sym (length_put n now w.clients));
       clients =
           each_put (λ (j : ℕ) (z : ClientSeat). IsClient z (t.cell.clients j) (t.cell.away j)) (λ (j : ℕ) (z : ClientSeat). IsClient z ((moved t.cell link.input).cell.clients j) ((moved t.cell link.input).cell.away j)) n now was w.clients found at.cell.clients

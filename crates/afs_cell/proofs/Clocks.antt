@@ -1,7 +1,9 @@
 -- The clock where what happened is told.
-use Rattle.std.proofs.Common.{ap, ◌≡◌, ℕ, Option, Result, Ok, Err}
+use Rattle.std.proofs.Common.{ap, ◌∙◌, ◌≡◌, ℕ, List, Option, Result, Ok, Err}
 use Rattle.afs_num.specs.declared.types.Node.{Node}
 use Rattle.afs_history.specs.declared.lines.Line.{Line}
+use Rattle.afs_host.specs.Seated.{ServerSeat}
+use Rattle.afs_clients.specs.declared.clients.ClientSeat.{ClientSeat}
 use Rattle.afs_cell.specs.Happening.{NothingSettles, Settles}
 use Rattle.afs_cell.specs.Worlds.{WorldState}
 use Rattle.afs_cell.specs.declared.faults.WorldFault.{WorldFault}
@@ -25,3 +27,10 @@ module _ {D : Type 0} (old new : WorldState D) where
   settles_clock node front happened.Unchanged (Err e) h = ap clock_in h.1
   settles_clock node front happened.Lost (Ok done) h = absurd h
   settles_clock node front happened.Lost (Err e) h = ap clock_in h.1
+
+-- so it is of a world whose servers have changed, or its clients
+pub clock_served : {D : Type 0} (parts w new : WorldState D) (servers : List (ServerSeat D)) (node : Node) (front : Option Line) (what : Happened) (result : Result (Unit {0}) WorldFault) → parts ≡ w → Settles node front what (record parts { servers = servers }) new result → new.clock ≡ w.clock
+clock_served {D} parts w new servers node front what result same settled = settles_clock (record parts { servers = servers }) new node front what result settled ∙ ap clock_in same
+
+pub clock_heard : {D : Type 0} (parts w new : WorldState D) (clients : List ClientSeat) (node : Node) (front : Option Line) (what : Happened) (result : Result (Unit {0}) WorldFault) → parts ≡ w → Settles node front what (record parts { clients = clients }) new result → new.clock ≡ w.clock
+clock_heard {D} parts w new clients node front what result same settled = settles_clock (record parts { clients = clients }) new node front what result settled ∙ ap clock_in same

@@ -7,7 +7,8 @@ use Rattle.afs_num.specs.declared.types.Node.TheVariants.{Server}
 use Rattle.afs_disk.specs.Disk.{Rose}
 use Rattle.afs_rows.specs.Runs.{moved, Cell, Entry, Input, Leads}
 use Rattle.afs_clients.specs.Places.{put_place}
-use Rattle.afs_cell.specs.Worlds.{falls, falls_at, is_other, own_falls, seat_disk, Counts, IsCounted, ServerSeat}
+use Rattle.afs_cell.specs.Worlds.{falls, falls_at, is_other, own_falls, Counts, IsCounted}
+use Rattle.afs_host.specs.Seated.{seat_disk, ServerSeat}
 use Rattle.afs_clients.proofs.Numbers.{each_map, each_put}
 
 -- ---- at which server

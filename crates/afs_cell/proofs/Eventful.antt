@@ -10,7 +10,8 @@ use Rattle.afs_num.specs.declared.messages.Message.{Message}
 use Rattle.afs_num.specs.declared.types.Node.{Node}
 use Rattle.afs_num.specs.declared.types.Node.TheVariants.{Admin, Loc}
 use Rattle.afs_num.specs.declared.types.Parcel.{Parcel}
-use Rattle.afs_rows.specs.Runs.{given_at, given_to, gives, message_at, moved, nothing, steady, ticks, voided, Cell, Input}
+use Rattle.afs_rows.specs.Runs.{given_at, given_to, gives, message_at, moved, nothing, ticks, voided, Cell, Input}
+use Rattle.afs_rows.specs.Hosts.{steady}
 use Rattle.afs_schedule.specs.Schedules.{IsInput, Turn}
 use Rattle.afs_text.specs.Telling.{sent_by}
 use Rattle.afs_cell.specs.Happening.{NothingSettles}

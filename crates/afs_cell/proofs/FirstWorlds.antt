@@ -2,7 +2,7 @@
 use Rattle.std.proofs.Common.{refl, arith, ap, ap₂, sym, subst, ◌∙◌, ◌≡◌, ◌+◌, ℕ, zero, suc, List, [], ◌∷◌, ◌++◌, length, false, Option, Some}
 use Rattle.std.specs.Prelude.{IsSome, ◌↔◌}
 use Rattle.afs_num.specs.Places.{at_place}
-use Rattle.afs_num.specs.declared.types.Node.TheVariants.{Client}
+use Rattle.afs_num.specs.declared.types.Node.TheVariants.{Client, Server}
 use Rattle.afs_num.specs.declared.types.Parcel.{Parcel}
 use Rattle.afs_history.specs.declared.lines.Entry as kept
 use Rattle.afs_history.specs.declared.scripts.Script.{Script}
@@ -12,13 +12,15 @@ use Rattle.afs_rows.specs.Going.{ClientState}
 use Rattle.afs_rows.specs.Runs.{first_client, first_host, start}
 use Rattle.afs_host.specs.declared.seats.Seat.TheVariants.{Down, Up}
 use Rattle.afs_schedule.specs.Schedules.{tasks_of}
-use Rattle.afs_cell.specs.FirstSeats.{AreFirstSeats, IsFirstSeat}
+use Rattle.afs_ends.specs.FirstSeats.{AreFirstSeats, IsFirstSeat}
 use Rattle.afs_clients.specs.Places.{Each}
 use Rattle.afs_clients.specs.Seating.{AreFirstClients, IsFirstClient}
-use Rattle.afs_cell.specs.Steps.{AreLent, IsFirst, LentTell}
-use Rattle.afs_cell.specs.Worlds.{none_gone, seat_disk, AllTell, IsCell, IsClient, IsHost, IsReadyClient, IsReadySeat, IsSafe, IsWorld, LetGo, ServerSeat, WorldState}
+use Rattle.afs_cell.specs.Steps.{IsFirst}
+use Rattle.afs_ends.specs.Lends.{AreLent, LentTell}
+use Rattle.afs_host.specs.Seated.{seat_disk, IsHost, IsReadySeat, ServerSeat}
+use Rattle.afs_cell.specs.Worlds.{none_gone, AllTell, IsCell, IsClient, IsReadyClient, IsSafe, IsWorld, LetGo, WorldState}
 use Rattle.afs_clients.specs.declared.clients.ClientSeat.{ClientSeat}
-use Rattle.afs_cell.proofs.FirstSeated.{count_seats}
+use Rattle.afs_ends.proofs.FirstSeated.{count_seats}
 use Rattle.afs_clients.proofs.Numbers.{none_some, some_is}
 use Rattle.afs_cell.proofs.UnderWay.{runs_none}
 
@@ -83,11 +85,11 @@ module _ {D : Type 0} (seen : D → Option (List ℕ)) (may_leave : D → List �
   seats_from Q capacity i [] (seat ∷ ss) rest f lent h = absurd h
   seats_from Q capacity i (l ∷ ls) (seat ∷ ss) rest f lent h = (f i l seat lent.1.0 h.0, seats_from Q capacity (i + 1) ls ss rest f lent.1.1 h.1)
 
-  ready_seat : (capacity n : ℕ) (l : Lent D) (seat : ServerSeat D) → limit l.disk ≡ capacity → IsFirstSeat seen may_leave faults limit s n l.disk seat → IsReadySeat n 0 seat
+  ready_seat : (capacity n : ℕ) (l : Lent D) (seat : ServerSeat D) → limit l.disk ≡ capacity → IsFirstSeat seen may_leave faults limit s n l.disk seat → IsReadySeat (Server n) 0 seat
   ready_seat capacity n l (Up r) e h = h.ready
   ready_seat capacity n l (Down r) e h = absurd h
 
-  host_seat : (capacity n : ℕ) (l : Lent D) (seat : ServerSeat D) → limit l.disk ≡ capacity → IsFirstSeat seen may_leave faults limit s n l.disk seat → IsHost seen may_leave limit n seat (first_host s n)
+  host_seat : (capacity n : ℕ) (l : Lent D) (seat : ServerSeat D) → limit l.disk ≡ capacity → IsFirstSeat seen may_leave faults limit s n l.disk seat → IsHost seen may_leave limit (Server n) seat (first_host s n)
   host_seat capacity n l (Up r) e h = h.host
   host_seat capacity n l (Down r) e h = absurd h
 
@@ -112,7 +114,7 @@ module _ {D : Type 0} (seen : D → Option (List ℕ)) (may_leave : D → List �
     is_cell : IsCell seen may_leave limit (first_world ss cs) (start s)
     is_cell = record {
       host_count = sym seats_are;
-      hosts = each_from (λ (i : ℕ) (seat : ServerSeat D). IsHost seen may_leave limit i seat (first_host s i)) ss (seats_from (λ (i : ℕ) (seat : ServerSeat D). IsHost seen may_leave limit i seat (first_host s i)) s.capacity 1 ls ss [] (host_seat s.capacity) lent seats);
+      hosts = each_from (λ (i : ℕ) (seat : ServerSeat D). IsHost seen may_leave limit (Server i) seat (first_host s i)) ss (seats_from (λ (i : ℕ) (seat : ServerSeat D). IsHost seen may_leave limit (Server i) seat (first_host s i)) s.capacity 1 ls ss [] (host_seat s.capacity) lent seats);
       count = sym count;
       clients = each_client s (λ (n : ℕ) (c : ClientSeat). IsClient c (first_client s n) false) cs (λ n c first. record { state_is = first.state; away_is = first.up }) clients;
       sent = refl;
@@ -136,7 +138,7 @@ module _ {D : Type 0} (seen : D → Option (List ℕ)) (may_leave : D → List �
       cell_script = h;
       server_count = seats_are;
       client_count = count;
-      servers = λ still. each_from (λ (i : ℕ) (seat : ServerSeat D). IsReadySeat i 0 seat) ss (seats_from (λ (i : ℕ) (seat : ServerSeat D). IsReadySeat i 0 seat) s.capacity 1 ls ss [] (ready_seat s.capacity) lent seats);
+      servers = λ still. each_from (λ (i : ℕ) (seat : ServerSeat D). IsReadySeat (Server i) 0 seat) ss (seats_from (λ (i : ℕ) (seat : ServerSeat D). IsReadySeat (Server i) 0 seat) s.capacity 1 ls ss [] (ready_seat s.capacity) lent seats);
       clients = λ still. each_client s (λ (n : ℕ) (c : ClientSeat). IsReadyClient s n 0 c) cs (ready_client s) clients;
       disks = each_from (λ (i : ℕ) (seat : ServerSeat D). limit (seat_disk seat) ≡ s.capacity) ss (seats_from (λ (i : ℕ) (seat : ServerSeat D). limit (seat_disk seat) ≡ s.capacity) s.capacity 1 ls ss [] (held_seat s.capacity) lent seats);
       sent = refl;

@@ -10,15 +10,19 @@ use Rattle.afs_disk.specs.declared.disks.Lent.{Lent}
 use Rattle.afs_journal.specs.Records.{whole_records}
 use Rattle.afs_records.specs.Durable.{Durable}
 use Rattle.afs_volstore.specs.Stands.{Stands}
-use Rattle.afs_rows.specs.Runs.{at_rest, begun_by_disk, in_boot, in_step, Cell, Fall, MayBegin, MayFind}
+use Rattle.afs_rows.specs.Runs.{Cell}
+use Rattle.afs_rows.specs.ServerHosts.{begun_by_disk}
+use Rattle.afs_rows.specs.Hosts.{at_rest, in_boot, in_step, Fall, MayBegin, MayFind}
 use Rattle.afs_rows.specs.ServerRow.{begun_after, decides, drops, refuses, repeats, saves, shows, tells_boot, Decision}
 use Rattle.afs_rows.specs.States.{Lasting, ServerState}
 use Rattle.afs_host.specs.Seats.{IsDown, Resting}
 use Rattle.afs_host.specs.Standing.{LiesAs}
 use Rattle.afs_host.specs.declared.seats.Seat.TheVariants.{Down, Up}
-use Rattle.afs_cell.specs.FirstSeats.{AreKeptSeats, IsKeptSeat}
-use Rattle.afs_cell.specs.Steps.{lent_from, AreLent, AreStanding, IsReadAfter, MayBeRead}
-use Rattle.afs_cell.specs.Worlds.{seat_disk, AllHold, IsCell, IsHost, IsReadySeat, IsSafe, ServerSeat, WorldState}
+use Rattle.afs_ends.specs.FirstSeats.{AreKeptSeats, IsKeptSeat}
+use Rattle.afs_cell.specs.Steps.{AreStanding, IsReadAfter, MayBeRead}
+use Rattle.afs_ends.specs.Lends.{lent_from, AreLent}
+use Rattle.afs_host.specs.Seated.{seat_disk, IsHost, IsReadySeat, ServerSeat}
+use Rattle.afs_cell.specs.Worlds.{AllHold, IsCell, IsSafe, WorldState}
 use Rattle.afs_clients.proofs.Numbers.{none_some, some_is}
 
 -- ---- a step leaves the capacity as it is
@@ -40,20 +44,6 @@ each_tail : {A : Type 0} (P : A → Type 0) (x : A) (xs : List A) → ((n : ℕ)
 each_tail P x [] h n y e = absurd (none_some y e)
 each_tail P x (z ∷ zs) h zero y e = absurd (none_some y e)
 each_tail P x (z ∷ zs) h (suc n) y e = h (suc (suc n)) y e
-
--- nothing is left
-pub none_left : {A : Type 0} (xs : List A) (n : ℕ) → n ≡ length xs → n ≡ 0 → xs ≡ []
-none_left [] n e none = refl
-none_left (x ∷ xs) n e none = absurd (omega (arith, e, none))
-
--- one disk more goes back
-pub gives_on : {D : Type 0} (n : ℕ) (back new all : List (Lent D)) (seat : ServerSeat D) (seats rest : List (ServerSeat D)) (d : D) → seats ≡ seat ∷ rest → new ≡ back ++ record { node = n + 1; disk = d } ∷ [] → d ≡ seat_disk seat → back ++ lent_from (n + 1) seats ≡ all
-    → new ++ lent_from ((n + 1) + 1) rest ≡ all
-gives_on {D} n back new all seat seats rest d are given is so_far =
-    ap (λ (ls : List (Lent D)). ls ++ lent_from ((n + 1) + 1) rest) given
-    ∙ (append_assoc back (record { node = n + 1; disk = d } ∷ []) (lent_from ((n + 1) + 1) rest)
-    ∙ (ap (λ (x : D). back ++ record { node = n + 1; disk = x } ∷ lent_from ((n + 1) + 1) rest) is
-    ∙ (ap (λ (ss : List (ServerSeat D)). back ++ lent_from (n + 1) ss) (sym are) ∙ so_far)))
 
 module _ {D : Type 0} (seen : D → Option (List ℕ)) (may_leave : D → List ℕ → Type 0) (limit : D → ℕ) where
   pub lent_all : (capacity i : ℕ) (ss : List (ServerSeat D)) → AllHold limit capacity ss → AreLent limit capacity i (lent_from i ss)
@@ -96,7 +86,7 @@ module _ {D : Type 0} (seen : D → Option (List ℕ)) (may_leave : D → List �
         ),
       )
 
-  seat_stands : (c : Cell) (i entries : ℕ) (seat : ServerSeat D) → IsHost seen may_leave limit i seat (c.hosts i) → IsReadySeat i entries seat → IsKeptSeat seen may_leave limit seat → (bytes : List ℕ) → seen (seat_disk seat) ≡ Some bytes → StandsFor c i (seat_disk seat) bytes
+  seat_stands : (c : Cell) (i entries : ℕ) (seat : ServerSeat D) → IsHost seen may_leave limit (Server i) seat (c.hosts i) → IsReadySeat (Server i) entries seat → IsKeptSeat seen may_leave limit seat → (bytes : List ℕ) → seen (seat_disk seat) ≡ Some bytes → StandsFor c i (seat_disk seat) bytes
   seat_stands c i entries (Up r) up ready kept bytes e =
       let stands = kept.0 ready.can_run.up in
       (r.store.durable, ((false, (subst (λ (o : Option Fall). MayBegin o false) (sym up.down) tt, sym (ap (λ (x : ServerState). x.lasting) up.state))), (stands.stands bytes e, kept.1)))

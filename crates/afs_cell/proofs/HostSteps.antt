@@ -11,15 +11,17 @@ use Rattle.afs_history.specs.declared.scripts.Task.{Task}
 use Rattle.afs_history.specs.declared.lines.Line.{Line}
 use Rattle.afs_history.specs.declared.lines.Outs.{Outs}
 use Rattle.afs_rows.specs.Callbacks.{put}
-use Rattle.afs_rows.specs.Runs.{moved, Cell, Entry, Input, Moved}
+use Rattle.afs_rows.specs.Runs.{moved, Cell, Entry, Input, Moved, placed}
 use Rattle.afs_schedule.specs.Schedules.{left_by, Turn}
 use Rattle.afs_text.specs.Telling.{told, sent_by}
-use Rattle.afs_host.specs.Hosts.{placed, HostStep}
+use Rattle.afs_rows.specs.Hosts.{HostStep}
+use Rattle.afs_rows.specs.States.{ServerState}
 use Rattle.afs_clients.specs.Happening.{entry_of}
-use Rattle.afs_cell.specs.Happening.{IsSeatStep}
+use Rattle.afs_servers.specs.Happening.{IsSeatStep}
 use Rattle.afs_clients.specs.Places.{put_place, Each}
 use Rattle.afs_cell.specs.Steps.{IsAt, Plays}
-use Rattle.afs_cell.specs.Worlds.{falls, seat_disk, IsHost, ServerSeat, WorldState}
+use Rattle.afs_cell.specs.Worlds.{falls, WorldState}
+use Rattle.afs_host.specs.Seated.{seat_disk, IsHost, ServerSeat}
 use Rattle.afs_cell.proofs.Counts.{counts_put, Blames}
 use Rattle.afs_cell.proofs.Parcels.{messages_of-read, messages_spelled-append, parcels_read-append, told-push}
 use Rattle.afs_clients.proofs.Numbers.{each_put, length_put}
@@ -36,15 +38,15 @@ abbrev pub entry_with : Actor → List Line → List Message → Entry
 entry_with actor ls ms = record { actor = actor; lines = ls; sent = ms; volumes = [] }
 
 module _ {D : Type 0} (seen : D → Option (List ℕ)) (may_leave : D → List ℕ → Type 0) (faults limit : D → ℕ) where
-  hosts_placed : (c : Cell) (i : ℕ) (was now : ServerSeat D) (servers : List (ServerSeat D)) (s : HostStep) → at_place servers i ≡ Some was → IsHost seen may_leave limit i now s.host
-      → Each (λ (j : ℕ) (z : ServerSeat D). IsHost seen may_leave limit j z (c.hosts j)) servers → Each (λ (j : ℕ) (z : ServerSeat D). IsHost seen may_leave limit j z (put i s.host c.hosts j)) (put_place i now servers)
+  hosts_placed : (c : Cell) (i : ℕ) (was now : ServerSeat D) (servers : List (ServerSeat D)) (s : HostStep ServerState) → at_place servers i ≡ Some was → IsHost seen may_leave limit (Server i) now s.host
+      → Each (λ (j : ℕ) (z : ServerSeat D). IsHost seen may_leave limit (Server j) z (c.hosts j)) servers → Each (λ (j : ℕ) (z : ServerSeat D). IsHost seen may_leave limit (Server j) z (put i s.host c.hosts j)) (put_place i now servers)
   hosts_placed c i was now servers s found good each =
-      each_put (λ (j : ℕ) (z : ServerSeat D). IsHost seen may_leave limit j z (c.hosts j)) (λ (j : ℕ) (z : ServerSeat D). IsHost seen may_leave limit j z (put i s.host c.hosts j)) i now was servers found each
-      (λ j z apart h. subst (λ (b : Bool). IsHost seen may_leave limit j z (cond b s.host (c.hosts j))) (sym apart) h)
-      (subst (λ (b : Bool). IsHost seen may_leave limit i now (cond b s.host (c.hosts i))) (sym (eq-eqb i i refl)) good)
+      each_put (λ (j : ℕ) (z : ServerSeat D). IsHost seen may_leave limit (Server j) z (c.hosts j)) (λ (j : ℕ) (z : ServerSeat D). IsHost seen may_leave limit (Server j) z (put i s.host c.hosts j)) i now was servers found each
+      (λ j z apart h. subst (λ (b : Bool). IsHost seen may_leave limit (Server j) z (cond b s.host (c.hosts j))) (sym apart) h)
+      (subst (λ (b : Bool). IsHost seen may_leave limit (Server i) now (cond b s.host (c.hosts i))) (sym (eq-eqb i i refl)) good)
 
   -- the world stands for the cell after the step
-  at_placed : (w : WorldState D) (c : Cell) (left : Node → List Task) (i : ℕ) (was now : ServerSeat D) (front : List Line) (outs : Outs) (s : HostStep) → at_place w.servers i ≡ Some was → IsSeatStep seen may_leave limit i now front outs s
+  at_placed : (w : WorldState D) (c : Cell) (left : Node → List Task) (i : ℕ) (was now : ServerSeat D) (front : List Line) (outs : Outs) (s : HostStep ServerState) → at_place w.servers i ≡ Some was → IsSeatStep seen may_leave limit (Server i) now front outs s
       → IsAt seen may_leave limit w c left → IsAt seen may_leave limit (after_step w i now front outs) (placed c i s).cell left
   at_placed w c left i was now front outs s found good at = record {
     cell = record {
@@ -62,10 +64,10 @@ module _ {D : Type 0} (seen : D → Option (List ℕ)) (may_leave : D → List �
   pub record Linked (is : Input → Type 0) (t : Turn) (i : ℕ) (was now : ServerSeat D) (front : List Line) (outs : Outs) : Type 0 where
     pub input : Input
     pub is_one : is input
-    pub step : HostStep
+    pub step : HostStep ServerState
     pub moves : moved t.cell input ≡ placed t.cell i step
     pub left : left_by input t.left ≡ t.left
-    pub good : IsSeatStep seen may_leave limit i now front outs step
+    pub good : IsSeatStep seen may_leave limit (Server i) now front outs step
     pub blames : Blames faults (falls input) was now
 
   pub server_plays : (is : Input → Type 0) (t : Turn) (w : WorldState D) (i : ℕ) (was now : ServerSeat D) (front : List Line) (outs : Outs) → sent_by w.history ≡ length w.wire → at_place w.servers i ≡ Some was

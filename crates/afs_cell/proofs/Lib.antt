@@ -1,14 +1,11 @@
 mod Parcels
 mod Counts
-mod Falling
 mod HostSteps
 mod Links
 mod Settled
 mod ServersTold
 mod ClientSteps
 mod ClientsTold
-mod Seats
-mod Lifted
 mod Going
 mod Able
 mod Eventful
@@ -21,8 +18,6 @@ mod Ticked
 mod Picked
 mod NextEvents
 pub mod UnderWay
-mod FirstStores
-mod FirstSeated
 mod FirstWorlds
 mod GivenBack
 pub mod Whole

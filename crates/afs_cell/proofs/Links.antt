@@ -9,14 +9,16 @@ use Rattle.afs_history.specs.declared.lines.Line.TheVariants as lines
 use Rattle.afs_history.specs.declared.lines.Outs.{Outs}
 use Rattle.afs_history.specs.declared.scripts.Event.TheVariants as events
 use Rattle.afs_disk.specs.Disk.{Rose}
-use Rattle.afs_rows.specs.Runs.{back_timed, comes_up, fails_early, fails_midway, given_at, given_to, gives, gives_out, has_host, if_host, is_full, message_at, moved, server_armed, server_given, server_restarted, server_stopped, server_timed, server_waits, server_wakes, sets_fail, sets_stop, starts_again, steady, stops, voided, wakes, at_rest, in_boot, in_step, leaves_after, Cell, Fall, Input, Luck, MayBegin, Moved, Outcome}
+use Rattle.afs_rows.specs.Runs.{back_timed, given_at, given_to, gives, has_host, if_host, message_at, moved, server_armed, server_given, server_restarted, server_stopped, server_timed, server_waits, server_wakes, sets_fail, sets_stop, starts_again, stops, voided, wakes, Cell, Input, Moved}
+use Rattle.afs_rows.specs.Hosts.{comes_up, fails_early, fails_midway, gives_out, is_full, steady, at_rest, in_boot, in_step, leaves_after, Fall, Luck, MayBegin, Outcome, crashed, restarted, served, set_to_fail, set_to_stop, Fails, GivesOut, HostStep}
 use Rattle.afs_schedule.specs.Schedules.{left_by, IsInput, IsLuck, Turn}
 use Rattle.afs_host.specs.Hosts as host
-use Rattle.afs_host.specs.Hosts.{crashed, restarted, served, set_to_fail, set_to_stop, timed_out, woken, Fails, GivesOut, HostStep}
+use Rattle.afs_rows.specs.ServerHosts.{timed_out, woken, server_kind}
 use Rattle.afs_host.proofs.Placed.{moved_crashed, moved_restarted, moved_served, moved_set_to_fail, moved_set_to_stop, moved_timed_out, moved_woken}
 use Rattle.afs_clients.specs.Happening.{IsGiven}
-use Rattle.afs_cell.specs.Happening.{HasHeard, HasStep, IsFallen, IsSeatStep, IsVoidServer}
-use Rattle.afs_cell.specs.Worlds.{falls, seat_disk, IsCell, ServerSeat, WorldState}
+use Rattle.afs_servers.specs.Happening.{HasHeard, HasStep, IsFallen, IsSeatStep, IsVoidServer}
+use Rattle.afs_cell.specs.Worlds.{falls, IsCell, WorldState}
+use Rattle.afs_host.specs.Seated.{seat_disk, ServerSeat}
 use Rattle.afs_clients.specs.declared.happening.ServerInput.{ServerInput}
 use Rattle.afs_clients.specs.declared.happening.ServerInput.TheVariants as server
 use Rattle.afs_cell.proofs.Counts.{Blames}
@@ -61,7 +63,7 @@ module _ {D : Type 0} (seen : D → Option (List ℕ)) (may_leave : D → List �
 
   -- a message
   pub link_message : (t : Turn) (w : WorldState D) (i place : ℕ) (p : Parcel) (was now : ServerSeat D) (outs : Outs) → IsCell seen may_leave limit w t.cell → at_place w.servers i ≡ Some was → at_place w.wire place ≡ Some p → p.head.to ≡ Server i
-      → HasHeard (Server i) t.cell.clock place p.bytes (t.cell.hosts i) (IsSeatStep seen may_leave limit i now (lines.Given place ∷ []) outs) (Rose (faults (seat_disk was)) (faults (seat_disk now)))
+      → HasHeard (Server i) t.cell.clock place p.bytes (t.cell.hosts i) (IsSeatStep seen may_leave limit (Server i) now (lines.Given place ∷ []) outs) (Rose (faults (seat_disk was)) (faults (seat_disk now)))
       → Linked seen may_leave faults limit (IsInput t (events.Deliver place)) t i was now (lines.Given place ∷ []) outs
   link_message t w i place p was now outs cell here at to heard =
       let f = message_found w t.cell place p cell at in
@@ -69,7 +71,7 @@ module _ {D : Type 0} (seen : D → Option (List ℕ)) (may_leave : D → List �
       record {
         input = gives place s.luck;
         is_one = (s.luck, (refl, luck_is s.luck s.is_luck));
-        step = served (Server i) (t.cell.hosts i) t.cell.clock place s.luck f.message;
+        step = served (server_kind (Server i)) (t.cell.hosts i) t.cell.clock place s.luck f.message;
         moves = moved_served t.cell i place s.luck f.message f.at (sym (ap (λ h. h.to) f.carries.head) ∙ to) (host_there w.servers i was t.cell here cell.host_count) heard.0;
         left = refl;
         good = s.is;
@@ -84,7 +86,7 @@ module _ {D : Type 0} (seen : D → Option (List ℕ)) (may_leave : D → List �
 
   -- what it is given else
   pub link_input : (t : Turn) (w : WorldState D) (i : ℕ) (input : ServerInput) (was now : ServerSeat D) (outs : Outs) → IsCell seen may_leave limit w t.cell → at_place w.servers i ≡ Some was
-      → HasStep (Server i) t.cell.clock t.cell.count input (t.cell.hosts i) (IsSeatStep seen may_leave limit i now [] outs) (Rose (faults (seat_disk was)) (faults (seat_disk now)))
+      → HasStep (Server i) t.cell.clock t.cell.count input (t.cell.hosts i) (IsSeatStep seen may_leave limit (Server i) now [] outs) (Rose (faults (seat_disk was)) (faults (seat_disk now)))
       → Linked seen may_leave faults limit (IsGiven i input t) t i was now [] outs
   link_input t w i (server.TimeOut callee) was now outs cell here h = record {
     input = server_waits i callee;
@@ -107,7 +109,7 @@ module _ {D : Type 0} (seen : D → Option (List ℕ)) (may_leave : D → List �
   link_input t w i (server.Crash pick) was now outs cell here h = record {
     input = stops i;
     is_one = refl;
-    step = crashed (Server i) (t.cell.hosts i);
+    step = crashed (server_kind (Server i)) (t.cell.hosts i);
     moves = moved_crashed t.cell i (host_there w.servers i was t.cell here cell.host_count) h.0;
     left = refl;
     good = h.1;
@@ -116,7 +118,7 @@ module _ {D : Type 0} (seen : D → Option (List ℕ)) (may_leave : D → List �
   link_input t w i server.Restart was now outs cell here h = record {
     input = starts_again i h.1.1.after h.1.1.outcome;
     is_one = (h.1.1.after, (h.1.1.outcome, (subst (λ (d : Option Fall). MayBegin d h.1.1.after) (sym h.1.0) h.1.1.may, refl)));
-    step = restarted (Server i) (t.cell.hosts i) t.cell.clock t.cell.count h.1.1.after h.1.1.outcome h.0;
+    step = restarted (server_kind (Server i)) (t.cell.hosts i) t.cell.clock t.cell.count h.1.1.after h.1.1.outcome h.0;
     moves = moved_restarted t.cell i h.1.1.after h.1.1.outcome h.0 (host_there w.servers i was t.cell here cell.host_count) h.1.0;
     left = refl;
     good = h.1.1.is;
@@ -125,7 +127,7 @@ module _ {D : Type 0} (seen : D → Option (List ℕ)) (may_leave : D → List �
   link_input t w i (server.Stop calls pick) was now outs cell here h = record {
     input = sets_stop i calls pick;
     is_one = refl;
-    step = set_to_stop (Server i) (t.cell.hosts i) calls pick;
+    step = set_to_stop (server_kind (Server i)) (t.cell.hosts i) calls pick;
     moves = moved_set_to_stop t.cell i calls pick (host_there w.servers i was t.cell here cell.host_count) h.0;
     left = refl;
     good = h.1;
@@ -134,7 +136,7 @@ module _ {D : Type 0} (seen : D → Option (List ℕ)) (may_leave : D → List �
   link_input t w i (server.Fail call) was now outs cell here h = record {
     input = sets_fail i call;
     is_one = refl;
-    step = set_to_fail (Server i) (t.cell.hosts i) call;
+    step = set_to_fail (server_kind (Server i)) (t.cell.hosts i) call;
     moves = moved_set_to_fail t.cell i call (host_there w.servers i was t.cell here cell.host_count) h.0;
     left = refl;
     good = h.1;
@@ -187,11 +189,11 @@ void_input c i server.Wake none = gone c i (server_wakes c i (c.hosts i).down) (
 void_input c i (server.Crash pick) none = gone c i (server_stopped c i (c.hosts i).down) (either c i (server_stopped c i) (λ fall. refl) none)
 void_input c i server.Restart none = void_restart c i false none
 void_input c i (server.Stop calls pick) none =
-    gone c i (server_armed c i (lines.Stop (Server i) calls pick) (record (c.hosts i).armed { stop = Some (calls, pick) }) (c.hosts i).down)
-    (either c i (server_armed c i (lines.Stop (Server i) calls pick) (record (c.hosts i).armed { stop = Some (calls, pick) })) (λ fall. refl) none)
+    gone c i (server_armed c i (set_to_stop (server_kind (Server i)) (c.hosts i) calls pick) (c.hosts i).down)
+    (either c i (server_armed c i (set_to_stop (server_kind (Server i)) (c.hosts i) calls pick)) (λ fall. refl) none)
 void_input c i (server.Fail call) none =
-    gone c i (server_armed c i (lines.Fail (Server i) call) (record (c.hosts i).armed { fail = Some call }) (c.hosts i).down)
-    (either c i (server_armed c i (lines.Fail (Server i) call) (record (c.hosts i).armed { fail = Some call })) (λ fall. refl) none)
+    gone c i (server_armed c i (set_to_fail (server_kind (Server i)) (c.hosts i) call) (c.hosts i).down)
+    (either c i (server_armed c i (set_to_fail (server_kind (Server i)) (c.hosts i) call)) (λ fall. refl) none)
 
 -- a restart may always begin in some way
 some_begin : (d : Option Fall) → (after : Bool) × MayBegin d after

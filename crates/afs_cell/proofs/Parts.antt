@@ -8,11 +8,13 @@ use Rattle.afs_history.specs.declared.scripts.Event.TheVariants as events
 use Rattle.afs_grammar.specs.CellScripts.{IsCellScript}
 use Rattle.afs_schedule.specs.Schedules.{IsInput, Turn}
 use Rattle.afs_clients.specs.Happening.{ClientHears, ClientsHappened, ClientTakes, IsAsked, IsGiven, IsVoidClient}
-use Rattle.afs_cell.specs.Happening.{HasHeard, HasStep, IsFallen, IsVoidServer, NothingSettles, ServersHappened, Settles}
+use Rattle.afs_cell.specs.Happening.{NothingSettles, Settles}
+use Rattle.afs_servers.specs.Happening.{HasHeard, HasStep, IsFallen, IsVoidServer, ServersHappened}
 use Rattle.afs_clients.specs.Ready.{AllReady}
-use Rattle.afs_cell.specs.Ready.{AllCanStep}
+use Rattle.afs_servers.specs.Ready.{AllCanStep}
 use Rattle.afs_cell.specs.Steps.{Stepped}
-use Rattle.afs_cell.specs.Worlds.{most_entries, IsSafe, ServerSeat, WorldState}
+use Rattle.afs_host.specs.Seated.{ServerSeat}
+use Rattle.afs_cell.specs.Worlds.{most_entries, IsSafe, WorldState}
 use Rattle.afs_clients.specs.declared.clients.ClientSeat.{ClientSeat}
 use Rattle.afs_cell.specs.declared.faults.WorldFault.{WorldFault}
 use Rattle.afs_clients.specs.declared.happening.ClientInput.{ClientInput}

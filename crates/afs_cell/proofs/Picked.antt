@@ -1,60 +1,35 @@
 -- What a crash of a server leaves of its disk.
-use Rattle.std.proofs.Common.{refl, ap, sym, subst, ◌∙◌, ◌≡◌, ◌-◌, inl, inr, ℕ, List, [], Option, Some, None, Result, Ok, Err}
-use Rattle.std.specs.List.{insert}
+use Rattle.std.proofs.Common.{refl, ap, sym, subst, ◌∙◌, ◌≡◌, inl, inr, ℕ, List, [], Option, Some, None, Result, Ok, Err}
 use Rattle.afs_num.specs.Places.{at_place}
 use Rattle.afs_num.specs.declared.types.Node.TheVariants.{Server}
-use Rattle.afs_rows.specs.Runs.{Host}
-use Rattle.afs_host.specs.Seats.{Running}
+use Rattle.afs_rows.specs.ServerHosts.{ServerHost}
+use Rattle.afs_host.specs.Seats.{ServerRunning}
 use Rattle.afs_host.specs.declared.seats.Seat.TheVariants.{Up}
 use Rattle.afs_server.specs.Handling.{server_seen}
-use Rattle.afs_cell.specs.Happening.{HasStep, IsVoidServer, ServersHappened, Settles}
-use Rattle.afs_cell.specs.Picks.{IsPicked, LeavesPick, OneLeavesPick}
-use Rattle.afs_clients.specs.Places.{IsLifted, Room}
-use Rattle.afs_cell.specs.Worlds.{IsHost, ServerSeat, WorldState}
+use Rattle.afs_cell.specs.Happening.{Settles}
+use Rattle.afs_servers.specs.Happening.{HasStep, IsVoidServer, ServersHappened}
+use Rattle.afs_servers.specs.Picks.{OneLeavesPick}
+use Rattle.afs_host.specs.Seated.{IsHost, ServerSeat}
+use Rattle.afs_cell.specs.Picks.{IsPicked}
+use Rattle.afs_cell.specs.Worlds.{WorldState}
 use Rattle.afs_clients.specs.declared.events.Given.TheVariants as given
 use Rattle.afs_cell.specs.declared.faults.WorldFault.{WorldFault}
 use Rattle.afs_clients.specs.declared.happening.Happened.{Happened}
 use Rattle.afs_clients.specs.declared.happening.Happened.TheVariants as happened
 use Rattle.afs_clients.specs.declared.happening.ServerInput.{ServerInput}
 use Rattle.afs_clients.specs.declared.happening.ServerInput.TheVariants as server
-use Rattle.afs_clients.proofs.Numbers.{at_here}
-
-some_is : {A : Type 0} (x y : A) → Some x ≡ Some y → x ≡ y
-some_is x y e = cc
-
-none_some : {A : Type 0} (x : A) → None ≡ Some x → ⊥
-none_some x e = absurd cc
+use Rattle.afs_clients.proofs.Numbers.{none_some, some_is}
 
 module _ {D : Type 0} (seen : D → Option (List ℕ)) (left_by : D → ℕ → Option (List ℕ)) where
-  -- nothing is said of what is no crash
-  pub not_a_crash : (what : Happened) (input : ServerInput) (old new : ServerSeat D) → ((pick : ℕ) → input ≡ server.Crash pick → ⊥) → LeavesPick seen left_by what input old new
-  not_a_crash happened.Nothing input old new apart = tt
-  not_a_crash (happened.Step outs) (server.TimeOut callee) old new apart = tt
-  not_a_crash (happened.Step outs) server.Wake old new apart = tt
-  not_a_crash (happened.Step outs) (server.Crash pick) old new apart = absurd (apart pick refl)
-  not_a_crash (happened.Step outs) server.Restart old new apart = tt
-  not_a_crash (happened.Step outs) (server.Stop calls pick) old new apart = tt
-  not_a_crash (happened.Step outs) (server.Fail call) old new apart = tt
-  not_a_crash happened.Unchanged input old new apart = tt
-  not_a_crash happened.Lost input old new apart = tt
-
-  -- the server was taken from its place, and put back
-  pub pick_put : (i : ℕ) (input : ServerInput) (what : Happened) (old mid : Room (ServerSeat D)) (new : List (ServerSeat D)) (was now : ServerSeat D) → IsLifted i old mid was → new ≡ insert mid.items (i - 1) now → LeavesPick seen left_by what input was now
-      → OneLeavesPick seen left_by i what input old.items new
-  pick_put i input what old mid new was now lifted is h was1 now1 at1 at2 =
-      let one : was ≡ was1 = some_is was was1 (sym lifted.found ∙ at1) in
-      let two : now ≡ now1 = some_is now now1 (sym (at_here i now was old.items lifted.found) ∙ (ap (λ (ss : List (ServerSeat D)). at_place ss i) (sym (is ∙ lifted.back now)) ∙ at2)) in
-      subst (λ (s : ServerSeat D). LeavesPick seen left_by what input s now1) one (subst (λ (s : ServerSeat D). LeavesPick seen left_by what input was s) two h)
-
   module _ (may_leave : D → List ℕ → Type 0) (faults limit : D → ℕ) where
     -- a server that is up isn't void for a crash
-    up_not_void : (i pick : ℕ) (r : Running D) (old new : List (ServerSeat D)) (clock count : ℕ) → at_place old i ≡ Some (Up r)
+    up_not_void : (i pick : ℕ) (r : ServerRunning D) (old new : List (ServerSeat D)) (clock count : ℕ) → at_place old i ≡ Some (Up r)
         → ServersHappened seen may_leave faults limit i [] (IsVoidServer (server.Crash pick)) (HasStep (Server i) clock count (server.Crash pick)) old new happened.Nothing → ⊥
     up_not_void i pick r old new clock count at (inl none) = none_some (Up r) (sym none.none ∙ at)
     up_not_void i pick r old new clock count at (inr one) =
-        let h : Host = record { state = server_seen r.memory r.store; armed = r.armed; down = None } in
+        let h : ServerHost = record { state = server_seen r.memory r.store; armed = r.armed; down = None } in
         let same : one.was ≡ Up r = some_is one.was (Up r) (sym one.found ∙ at) in
-        let void = one.happens.1 h (subst (λ (s : ServerSeat D). IsHost seen may_leave limit i s h) (sym same) (record { state = refl; down = refl; armed = refl })) in
+        let void = one.happens.1 h (subst (λ (s : ServerSeat D). IsHost seen may_leave limit (Server i) s h) (sym same) (record { state = refl; down = refl; armed = refl })) in
         none_some void.0 void.1
 
     picked_by : (i pick : ℕ) (parts new : WorldState D) (servers : List (ServerSeat D)) (what : Happened) (result : Result (Unit {0}) WorldFault)

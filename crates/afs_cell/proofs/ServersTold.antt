@@ -9,13 +9,17 @@ use Rattle.afs_history.specs.declared.lines.Outs.{Outs}
 use Rattle.afs_history.specs.declared.scripts.Event.TheVariants as events
 use Rattle.afs_history.specs.declared.scripts.Script.{Script}
 use Rattle.afs_disk.specs.Disk.{Rose}
-use Rattle.afs_rows.specs.Runs.{has_host, Host, Input}
+use Rattle.afs_rows.specs.Runs.{has_host, Input}
+use Rattle.afs_rows.specs.ServerHosts.{ServerHost}
 use Rattle.afs_schedule.specs.Schedules.{IsInput, Turn}
-use Rattle.afs_host.specs.Hosts.{HostStep}
+use Rattle.afs_rows.specs.Hosts.{HostStep}
+use Rattle.afs_rows.specs.States.{ServerState}
 use Rattle.afs_clients.specs.Happening.{entry_of, front_lines, void_entry, IsGiven}
-use Rattle.afs_cell.specs.Happening.{HasHeard, HasStep, IsFallen, IsSeatStep, IsVoidServer, OneHappened, ServersHappened, Settles}
+use Rattle.afs_cell.specs.Happening.{Settles}
+use Rattle.afs_servers.specs.Happening.{HasHeard, HasStep, IsFallen, IsSeatStep, IsVoidServer, OneHappened, ServersHappened}
 use Rattle.afs_cell.specs.Steps.{IsAt, Stepped}
-use Rattle.afs_cell.specs.Worlds.{most_entries, seat_disk, AllTell, IsSafe, ServerSeat, WorldState}
+use Rattle.afs_host.specs.Seated.{seat_disk, ServerSeat}
+use Rattle.afs_cell.specs.Worlds.{most_entries, AllTell, IsSafe, WorldState}
 use Rattle.afs_cell.specs.declared.faults.WorldFault.{WorldFault}
 use Rattle.afs_cell.specs.declared.faults.WorldFault.TheVariants as faulty
 use Rattle.afs_clients.specs.declared.happening.Happened.{Happened}
@@ -31,13 +35,13 @@ abbrev with_servers : {D : Type 0} → WorldState D → List (ServerSeat D) → 
 with_servers {D} w servers = record w { servers = servers }
 
 module _ {D : Type 0} (seen : D → Option (List ℕ)) (may_leave : D → List ℕ → Type 0) (faults limit : D → ℕ) (s : Script) (is : Turn → Input → Type 0) (w : WorldState D) (i : ℕ) (front : Option Line)
-    (IsVoid : Host → Type 0) (Has : Host → (HostStep → Type 0) → Type 0 → Type 0) where
+    (IsVoid : ServerHost → Type 0) (Has : ServerHost → (HostStep ServerState → Type 0) → Type 0 → Type 0) where
   abbrev Voids : Type 0
   Voids = AllTell seen w.servers → (t : Turn) → IsAt seen may_leave limit w t.cell t.left → (has_host t.cell i ≡ false) ⊎ IsVoid (t.cell.hosts i) → Voided (is t) t
 
   abbrev Links : Type 0
   Links = AllTell seen w.servers → (t : Turn) → IsAt seen may_leave limit w t.cell t.left → (was now : ServerSeat D) (outs : Outs) → at_place w.servers i ≡ Some was
-      → Has (t.cell.hosts i) (IsSeatStep seen may_leave limit i now (front_lines front) outs) (Rose (faults (seat_disk was)) (faults (seat_disk now))) → Linked seen may_leave faults limit (is t) t i was now (front_lines front) outs
+      → Has (t.cell.hosts i) (IsSeatStep seen may_leave limit (Server i) now (front_lines front) outs) (Rose (faults (seat_disk was)) (faults (seat_disk now))) → Linked seen may_leave faults limit (is t) t i was now (front_lines front) outs
 
   abbrev Result1 : WorldState D → Result (Unit {0}) WorldFault → Type 0
   Result1 new result = Stepped seen may_leave faults limit s is w new result
@@ -92,8 +96,8 @@ module _ {D : Type 0} (seen : D → Option (List ℕ)) (may_leave : D → List �
       server_settles seen may_leave faults limit s (λ (t : Turn). IsGiven i input t) w i None (IsVoidServer input) (HasStep (Server i) w.clock s.clients input) servers what new result safe going place happens
       (λ tell t at none. link_void t i input none)
       (λ tell t at was now outs found has. link_input seen may_leave faults limit t w i input was now outs at.cell found
-      (subst (λ (k : ℕ). HasStep (Server i) t.cell.clock k input (t.cell.hosts i) (IsSeatStep seen may_leave limit i now [] outs) (Rose (faults (seat_disk was)) (faults (seat_disk now)))) (sym (at.cell.count ∙ safe.client_count))
-      (subst (λ (k : ℕ). HasStep (Server i) k s.clients input (t.cell.hosts i) (IsSeatStep seen may_leave limit i now [] outs) (Rose (faults (seat_disk was)) (faults (seat_disk now)))) (sym at.cell.clock) has)))
+      (subst (λ (k : ℕ). HasStep (Server i) t.cell.clock k input (t.cell.hosts i) (IsSeatStep seen may_leave limit (Server i) now [] outs) (Rose (faults (seat_disk was)) (faults (seat_disk now)))) (sym (at.cell.count ∙ safe.client_count))
+      (subst (λ (k : ℕ). HasStep (Server i) k s.clients input (t.cell.hosts i) (IsSeatStep seen may_leave limit (Server i) now [] outs) (Rose (faults (seat_disk was)) (faults (seat_disk now)))) (sym at.cell.clock) has)))
       settles
 
   -- a server was given the message of a place
@@ -107,5 +111,5 @@ module _ {D : Type 0} (seen : D → Option (List ℕ)) (may_leave : D → List �
       let f = message_found seen may_leave faults limit w t.cell place p at.cell found in
       link_void_message t i place f.message f.at (sym (ap (λ h. h.to) f.carries.head) ∙ to) none)
       (λ tell t at was now outs here heard. link_message seen may_leave faults limit t w i place p was now outs at.cell here found to
-      (subst (λ (k : ℕ). HasHeard (Server i) k place p.bytes (t.cell.hosts i) (IsSeatStep seen may_leave limit i now (lines.Given place ∷ []) outs) (Rose (faults (seat_disk was)) (faults (seat_disk now)))) (sym at.cell.clock) heard))
+      (subst (λ (k : ℕ). HasHeard (Server i) k place p.bytes (t.cell.hosts i) (IsSeatStep seen may_leave limit (Server i) now (lines.Given place ∷ []) outs) (Rose (faults (seat_disk was)) (faults (seat_disk now)))) (sym at.cell.clock) heard))
       settles

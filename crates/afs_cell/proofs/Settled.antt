@@ -10,15 +10,17 @@ use Rattle.afs_history.specs.declared.lines.Entry as kept
 use Rattle.afs_history.specs.declared.lines.Line.{Line}
 use Rattle.afs_history.specs.declared.lines.Outs.{Outs}
 use Rattle.afs_history.specs.declared.scripts.Script.{Script}
-use Rattle.afs_rows.specs.Runs.{moved, voided, Cell, Entry, Host, Input, Moved}
+use Rattle.afs_rows.specs.Runs.{moved, voided, Cell, Entry, Input, Moved}
+use Rattle.afs_rows.specs.ServerHosts.{ServerHost}
 use Rattle.afs_schedule.specs.Schedules.{Turn}
 use Rattle.afs_text.specs.Telling.{told, sent_by}
 use Rattle.afs_host.specs.declared.seats.Seat.TheVariants.{Up, Down}
 use Rattle.afs_clients.specs.Happening.{entry_of, void_entry}
-use Rattle.afs_cell.specs.Happening.{SeatGoes, SeatKeeps}
+use Rattle.afs_servers.specs.Happening.{SeatGoes, SeatKeeps}
 use Rattle.afs_clients.specs.Places.{put_place, Each}
 use Rattle.afs_cell.specs.Steps.{IsAt, Plays, Stepped}
-use Rattle.afs_cell.specs.Worlds.{most_entries, seat_disk, AllHold, AllTell, IsHost, IsReadyClient, IsReadySeat, IsSafe, ServerSeat, WorldState}
+use Rattle.afs_cell.specs.Worlds.{most_entries, AllHold, AllTell, IsReadyClient, IsSafe, WorldState}
+use Rattle.afs_host.specs.Seated.{seat_disk, IsHost, IsReadySeat, ServerSeat}
 use Rattle.afs_clients.specs.declared.clients.ClientSeat.{ClientSeat}
 use Rattle.afs_cell.specs.declared.faults.WorldFault.TheVariants as faulty
 use Rattle.afs_clients.specs.declared.happening.Happened.TheVariants as happened
@@ -30,7 +32,7 @@ use Rattle.afs_cell.proofs.HostSteps.{after_step, server_plays, Linked}
 
 -- ---- what one entry more leaves
 
-ready_more : {D : Type 0} (j n : ℕ) (z : ServerSeat D) → IsReadySeat j n z → IsReadySeat j (n + 1) z
+ready_more : {D : Type 0} (j n : ℕ) (z : ServerSeat D) → IsReadySeat (Server j) n z → IsReadySeat (Server j) (n + 1) z
 ready_more {D} j n (Up r) h = record {
   node = h.node;
   can_run = h.can_run;
@@ -47,7 +49,7 @@ pub one_longer : (es : List kept.Entry) (e : kept.Entry) → length (es ++ e ∷
 one_longer es e = length-append es (e ∷ [])
 
 abbrev pub ReadyServers : {D : Type 0} → ℕ → List (ServerSeat D) → Type 0
-ReadyServers {D} n ss = Each (λ (j : ℕ) (z : ServerSeat D). IsReadySeat j n z) ss
+ReadyServers {D} n ss = Each (λ (j : ℕ) (z : ServerSeat D). IsReadySeat (Server j) n z) ss
 
 abbrev pub ReadyClients : Script → ℕ → List ClientSeat → Type 0
 ReadyClients s n cs = Each (λ (j : ℕ) (z : ClientSeat). IsReadyClient s j n z) cs
@@ -55,7 +57,7 @@ ReadyClients s n cs = Each (λ (j : ℕ) (z : ClientSeat). IsReadyClient s j n z
 pub servers_more : {D : Type 0} (es : List kept.Entry) (e : kept.Entry) (ss : List (ServerSeat D)) → ReadyServers (length es) ss → ReadyServers (length (es ++ e ∷ [])) ss
 servers_more {D} es e ss h =
     subst (λ (n : ℕ). ReadyServers n ss) (sym (one_longer es e))
-    (each_map (λ (j : ℕ) (z : ServerSeat D). IsReadySeat j (length es) z) (λ (j : ℕ) (z : ServerSeat D). IsReadySeat j (length es + 1) z) ss (λ j z. ready_more j (length es) z) h)
+    (each_map (λ (j : ℕ) (z : ServerSeat D). IsReadySeat (Server j) (length es) z) (λ (j : ℕ) (z : ServerSeat D). IsReadySeat (Server j) (length es + 1) z) ss (λ j z. ready_more j (length es) z) h)
 
 pub clients_more : (s : Script) (es : List kept.Entry) (e : kept.Entry) (cs : List ClientSeat) → ReadyClients s (length es) cs → ReadyClients s (length (es ++ e ∷ [])) cs
 clients_more s es e cs h =
@@ -141,7 +143,7 @@ module _ {D : Type 0} (seen : D → Option (List ℕ)) (may_leave : D → List �
       each_put (λ (j : ℕ) (z : ServerSeat D). limit (seat_disk z) ≡ capacity) (λ (j : ℕ) (z : ServerSeat D). limit (seat_disk z) ≡ capacity) i now was ss found h (λ j z apart good. good) (keeps.same_limit ∙ h i was found)
 
   pub safe_step : (s : Script) (w : WorldState D) (i : ℕ) (was now : ServerSeat D) (front : List Line) (outs : Outs) → IsSafe limit s w → w.is_lost ≡ false → length w.history < most_entries → at_place w.servers i ≡ Some was
-      → SeatGoes i was now (happened.Step outs) → SeatKeeps seen faults limit was now → IsSafe limit s (after_step w i now front outs)
+      → SeatGoes (Server i) was now (happened.Step outs) → SeatKeeps seen faults limit was now → IsSafe limit s (after_step w i now front outs)
   safe_step s w i was now front outs safe going place found goes keeps = record {
     script = safe.script;
     cell_script = safe.cell_script;
@@ -149,7 +151,7 @@ module _ {D : Type 0} (seen : D → Option (List ℕ)) (may_leave : D → List �
     client_count = safe.client_count;
     servers = λ still.
         subst (λ (n : ℕ). ReadyServers n (put_place i now w.servers)) (sym (one_longer w.history (entry_of (Server i) (front ++ outs.lines) (length outs.parcels))))
-        (each_put (λ (j : ℕ) (z : ServerSeat D). IsReadySeat j (length w.history) z) (λ (j : ℕ) (z : ServerSeat D). IsReadySeat j (length w.history + 1) z) i now was w.servers found (safe.servers going)
+        (each_put (λ (j : ℕ) (z : ServerSeat D). IsReadySeat (Server j) (length w.history) z) (λ (j : ℕ) (z : ServerSeat D). IsReadySeat (Server j) (length w.history + 1) z) i now was w.servers found (safe.servers going)
         (λ j z apart. ready_more j (length w.history) z) (goes (length w.history) (safe.servers going i was found)));
     clients = λ still. clients_more s w.history (entry_of (Server i) (front ++ outs.lines) (length outs.parcels)) w.clients (safe.clients going);
     disks = disks_put i s.capacity was now w.servers found keeps safe.disks;
@@ -164,7 +166,7 @@ module _ {D : Type 0} (seen : D → Option (List ℕ)) (may_leave : D → List �
   }
 
   pub step_told : (s : Script) (is : Turn → Input → Type 0) (w : WorldState D) (i : ℕ) (was now : ServerSeat D) (front : List Line) (outs : Outs) → IsSafe limit s w → w.is_lost ≡ false → length w.history < most_entries
-      → at_place w.servers i ≡ Some was → SeatGoes i was now (happened.Step outs) → SeatKeeps seen faults limit was now
+      → at_place w.servers i ≡ Some was → SeatGoes (Server i) was now (happened.Step outs) → SeatKeeps seen faults limit was now
       → (AllTell seen w.servers → (t : Turn) → IsAt seen may_leave limit w t.cell t.left → Linked seen may_leave faults limit (is t) t i was now front outs) → Stepped seen may_leave faults limit s is w (after_step w i now front outs) (Ok tt)
   step_told s is w i was now front outs safe going place found goes keeps link = record {
     steps = record {
@@ -183,8 +185,8 @@ module _ {D : Type 0} (seen : D → Option (List ℕ)) (may_leave : D → List �
   put_server w i now = record w { servers = put_place i now w.servers }
 
   pub step_wants : (s : Script) (is : Turn → Input → Type 0) (w : WorldState D) (i : ℕ) (was now : ServerSeat D) → IsSafe limit s w → at_place w.servers i ≡ Some was
-      → ((entries : ℕ) → IsReadySeat i entries was → IsReadySeat i entries now) → SeatKeeps seen faults limit was now
-      → ((h : Host) → IsHost seen may_leave limit i was h → IsHost seen may_leave limit i now h) → Stepped seen may_leave faults limit s is w (put_server w i now) (Err faulty.OutOfMemory)
+      → ((entries : ℕ) → IsReadySeat (Server i) entries was → IsReadySeat (Server i) entries now) → SeatKeeps seen faults limit was now
+      → ((h : ServerHost) → IsHost seen may_leave limit (Server i) was h → IsHost seen may_leave limit (Server i) now h) → Stepped seen may_leave faults limit s is w (put_server w i now) (Err faulty.OutOfMemory)
   step_wants s is w i was now safe found goes keeps same = record {
     steps = (
       record { script = refl; history = refl; wire = refl; clock = refl },
@@ -195,7 +197,7 @@ module _ {D : Type 0} (seen : D → Option (List ℕ)) (may_leave : D → List �
           cell = record {
             host_count = at.cell.host_count ∙ sym (length_put i now w.servers);
             hosts =
-                each_put (λ (j : ℕ) (z : ServerSeat D). IsHost seen may_leave limit j z (c.hosts j)) (λ (j : ℕ) (z : ServerSeat D). IsHost seen may_leave limit j z (c.hosts j)) i now was w.servers found at.cell.hosts (λ j z apart h. h)
+                each_put (λ (j : ℕ) (z : ServerSeat D). IsHost seen may_leave limit (Server j) z (c.hosts j)) (λ (j : ℕ) (z : ServerSeat D). IsHost seen may_leave limit (Server j) z (c.hosts j)) i now was w.servers found at.cell.hosts (λ j z apart h. h)
                 (same (c.hosts i) (at.cell.hosts i was found));
             count = at.cell.count;
             clients = at.cell.clients;
@@ -212,7 +214,7 @@ module _ {D : Type 0} (seen : D → Option (List ℕ)) (may_leave : D → List �
       server_count = length_put i now w.servers ∙ safe.server_count;
       client_count = safe.client_count;
       servers = λ going.
-          each_put (λ (j : ℕ) (z : ServerSeat D). IsReadySeat j (length w.history) z) (λ (j : ℕ) (z : ServerSeat D). IsReadySeat j (length w.history) z) i now was w.servers found (safe.servers going) (λ j z apart h. h)
+          each_put (λ (j : ℕ) (z : ServerSeat D). IsReadySeat (Server j) (length w.history) z) (λ (j : ℕ) (z : ServerSeat D). IsReadySeat (Server j) (length w.history) z) i now was w.servers found (safe.servers going) (λ j z apart h. h)
           (goes (length w.history) (safe.servers going i was found));
       clients = safe.clients;
       disks = disks_put i s.capacity was now w.servers found keeps safe.disks;

@@ -16,13 +16,15 @@ use Rattle.afs_wire.specs.Sent as wire
 use Rattle.afs_wire.specs.Sent.{Sent}
 use Rattle.afs_schedule.specs.Schedules.{IsInput, Turn}
 use Rattle.afs_clients.specs.Happening.{ClientHears, ClientsHappened, ClientTakes, IsAsked, IsGiven, IsVoidClient}
-use Rattle.afs_cell.specs.Happening.{HasHeard, HasStep, IsFallen, IsVoidServer, NothingSettles, ServersHappened, Settles}
+use Rattle.afs_cell.specs.Happening.{NothingSettles, Settles}
+use Rattle.afs_servers.specs.Happening.{HasHeard, HasStep, IsFallen, IsVoidServer, ServersHappened}
 use Rattle.afs_cell.specs.Noting.{Notes}
 use Rattle.afs_clients.specs.Ready.{AllReady}
-use Rattle.afs_cell.specs.Ready.{AllCanStep}
+use Rattle.afs_servers.specs.Ready.{AllCanStep}
 use Rattle.afs_clients.specs.Meaning.{IsMeant}
 use Rattle.afs_cell.specs.Since.{whole, DeliversKept, IsBefore, IsSafeSince, Keeps, LetsGo, SteppedSince}
-use Rattle.afs_cell.specs.Worlds.{most_entries, most_ticks, HistoryTold, LetGo, ServerSeat, WorldState}
+use Rattle.afs_host.specs.Seated.{ServerSeat}
+use Rattle.afs_cell.specs.Worlds.{most_entries, most_ticks, HistoryTold, LetGo, WorldState}
 use Rattle.afs_clients.specs.declared.clients.ClientSeat.{ClientSeat}
 use Rattle.afs_clients.specs.declared.events.Given.TheVariants as given
 use Rattle.afs_cell.specs.declared.faults.WorldFault.{WorldFault}

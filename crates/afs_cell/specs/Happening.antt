@@ -1,112 +1,13 @@
--- What comes of an input at a server, and how a step of any node is told.
-use Rattle.std.specs.Prelude.{◌≡◌, ◌≤◌, ◌<◌, ◌+◌, ◌^◌, ◌⊎◌, ◌↔◌, ℕ, List, [], ◌∷◌, ◌++◌, true, length, Option, Some, None, Result, Ok, Err, IsSome}
-use Rattle.afs_num.specs.Places.{at_place}
-use Rattle.afs_num.specs.declared.messages.Message.{Message}
-use Rattle.afs_num.specs.declared.messages.Received.TheVariants.{Whole}
+-- How what happened at a node is told.
+use Rattle.std.specs.Prelude.{◌≡◌, ◌+◌, [], ◌∷◌, ◌++◌, true, length, Option, Result, Ok, Err}
 use Rattle.afs_num.specs.declared.types.Node.{Node}
-use Rattle.afs_num.specs.declared.types.Node.TheVariants.{Server}
 use Rattle.afs_history.specs.declared.lines.Line.{Line}
-use Rattle.afs_history.specs.declared.lines.Outs.{Outs}
-use Rattle.afs_disk.specs.Disk.{Rose}
-use Rattle.afs_model.specs.Messages.{messages_spelled, parcels_read, received}
-use Rattle.afs_rows.specs.Runs.{Fall, Host}
-use Rattle.afs_rows.specs.States.{BackCall}
-use Rattle.afs_server.specs.Seen.{CanDraw}
-use Rattle.afs_host.specs.Hosts.{crashed, set_to_fail, set_to_stop, timed_out, woken, HostStep}
-use Rattle.afs_host.specs.Seats.{CanRun}
-use Rattle.afs_host.specs.Serving.{HasServed}
-use Rattle.afs_host.specs.Starting.{HasStarted}
-use Rattle.afs_host.specs.declared.seats.Seat.TheVariants.{Up, Down}
-use Rattle.afs_clients.specs.Places.{put_place}
-use Rattle.afs_cell.specs.Worlds.{seat_disk, IsHost, IsReadySeat, ServerSeat, WorldState}
+use Rattle.afs_cell.specs.Worlds.{WorldState}
 use Rattle.afs_cell.specs.declared.faults.WorldFault.{WorldFault}
 use Rattle.afs_cell.specs.declared.faults.WorldFault.TheVariants as faults
 use Rattle.afs_clients.specs.declared.happening.Happened.{Happened}
 use Rattle.afs_clients.specs.declared.happening.Happened.TheVariants as happened
-use Rattle.afs_clients.specs.declared.happening.ServerInput.{ServerInput}
-use Rattle.afs_clients.specs.declared.happening.ServerInput.TheVariants as server
-use Rattle.afs_clients.specs.Happening.{entry_of, front_lines, void_entry, NoneHappened}
-
--- ---- servers
-
--- the host is down
-abbrev pub IsFallen : Host → Type 0
-IsFallen h = (fall : Fall) × (h.down ≡ Some fall)
-
--- nothing comes of this at the host
-abbrev pub IsVoidServer : ServerInput → Host → Type 0
-IsVoidServer (server.TimeOut callee) h = IsFallen h ⊎ (h.state.backs.calls callee ≡ None)
-IsVoidServer server.Restart h = h.down ≡ None
-IsVoidServer input h = IsFallen h
-
--- What it makes of this, at this time in a cell of so many clients, has a step that `Is` tells of. Where its disk fails by itself, the
--- disk's count rose.
-abbrev pub HasStep : Node → ℕ → ℕ → ServerInput → Host → (HostStep → Type 0) → Type 0 → Type 0
-HasStep me clock count (server.TimeOut callee) h Is rose = (h.down ≡ None) × ((b : BackCall) × ((h.state.backs.calls callee ≡ Some b) × Is (timed_out me h clock callee b)))
-HasStep me clock count server.Wake h Is rose = (h.down ≡ None) × Is (woken me h clock)
-HasStep me clock count (server.Crash pick) h Is rose = (h.down ≡ None) × Is (crashed me h)
-HasStep me clock count server.Restart h Is rose = (fall : Fall) × ((h.down ≡ Some fall) × HasStarted me h clock count fall Is rose)
-HasStep me clock count (server.Stop calls pick) h Is rose = (h.down ≡ None) × Is (set_to_stop me h calls pick)
-HasStep me clock count (server.Fail call) h Is rose = (h.down ≡ None) × Is (set_to_fail me h call)
-
--- the message of a place, by its bytes
-abbrev pub HasHeard : Node → ℕ → ℕ → List ℕ → Host → (HostStep → Type 0) → Type 0 → Type 0
-HasHeard me clock place bytes h Is rose = (h.down ≡ None) × ((m : Message) → received bytes ≡ Whole m → HasServed me h clock place m Is rose)
-
--- the server is what the host is after this step, and gave this out; these lines come before its own
-pub record IsSeatStep {D : Type 0} (seen : D → Option (List ℕ)) (may_leave : D → List ℕ → Type 0) (limit : D → ℕ) (i : ℕ) (new : ServerSeat D) (front : List Line) (outs : Outs) (s : HostStep) : Type 0 where
-  pub host : IsHost seen may_leave limit i new s.host
-  pub lines : front ++ outs.lines ≡ s.lines
-  pub sent : parcels_read outs.parcels ≡ messages_spelled s.sent
-
--- Nothing came of it, and it wasn't for such a server; or the server made a step; or memory was wanting, and it stands for what it
--- stood for, or can't be told of.
-abbrev pub SeatHappens : {D : Type 0} → (D → Option (List ℕ)) → (D → List ℕ → Type 0) → (D → ℕ) → (D → ℕ) → ℕ → List Line → (Host → Type 0) → (Host → (HostStep → Type 0) → Type 0 → Type 0) →
-    ServerSeat D → ServerSeat D → Happened → Type 0
-SeatHappens {D} seen may_leave faults limit i front IsVoid Has old new happened.Nothing = (new ≡ old) × ((h : Host) → IsHost seen may_leave limit i old h → IsVoid h)
-SeatHappens {D} seen may_leave faults limit i front IsVoid Has old new (happened.Step outs) =
-    IsSome (seen (seat_disk old)) → (h : Host) → IsHost seen may_leave limit i old h → Has h (IsSeatStep seen may_leave limit i new front outs) (Rose (faults (seat_disk old)) (faults (seat_disk new)))
-SeatHappens {D} seen may_leave faults limit i front IsVoid Has old new happened.Unchanged = (h : Host) → IsHost seen may_leave limit i old h → IsHost seen may_leave limit i new h
-SeatHappens {D} seen may_leave faults limit i front IsVoid Has old new happened.Lost = Unit {0}
-
--- it can be given what comes next
-abbrev pub SeatGoes : {D : Type 0} → ℕ → ServerSeat D → ServerSeat D → Happened → Type 0
-SeatGoes {D} i old new (happened.Step outs) = (entries : ℕ) → IsReadySeat i entries old → IsReadySeat i (entries + 1) new
-SeatGoes {D} i old new happened.Lost = Unit {0}
-SeatGoes {D} i old new other = (entries : ℕ) → IsReadySeat i entries old → IsReadySeat i entries new
-
--- The disk tells as before, and has the same room; its count of faults doesn't fall.
-pub record SeatKeeps {D : Type 0} (seen : D → Option (List ℕ)) (faults limit : D → ℕ) (old new : ServerSeat D) : Type 0 where
-  pub told : IsSome (seen (seat_disk new)) ↔ IsSome (seen (seat_disk old))
-  pub same_limit : limit (seat_disk new) ≡ limit (seat_disk old)
-  pub no_fewer : faults (seat_disk old) ≤ faults (seat_disk new)
-
--- a server can be given something
-abbrev pub CanStep : {D : Type 0} → ServerSeat D → Type 0
-CanStep {D} (Up r) = CanRun r × (CanDraw r.memory r.store.drawn × (r.store.disk.calls < 2 ^ 63))
-CanStep {D} (Down s) = Unit {0}
-
--- it is the server of this number
-abbrev pub IsSeatOf : {D : Type 0} → ℕ → ServerSeat D → Type 0
-IsSeatOf {D} i (Up r) = r.store.node ≡ Server i
-IsSeatOf {D} i (Down s) = Unit {0}
-
--- ---- the servers
-
--- one server took it
-pub record OneHappened {D : Type 0} (seen : D → Option (List ℕ)) (may_leave : D → List ℕ → Type 0) (faults limit : D → ℕ) (i : ℕ) (front : List Line) (IsVoid : Host → Type 0) (Has : Host → (HostStep → Type 0) → Type 0 → Type 0) (old new : List (ServerSeat D)) (what : Happened) : Type 0 where
-  pub was : ServerSeat D
-  pub now : ServerSeat D
-  pub found : at_place old i ≡ Some was
-  pub put : new ≡ put_place i now old
-  pub happens : SeatHappens seen may_leave faults limit i front IsVoid Has was now what
-  pub goes : SeatGoes i was now what
-  pub keeps : SeatKeeps seen faults limit was now
-
-abbrev pub ServersHappened : {D : Type 0} → (D → Option (List ℕ)) → (D → List ℕ → Type 0) → (D → ℕ) → (D → ℕ) → ℕ → List Line → (Host → Type 0) → (Host → (HostStep → Type 0) → Type 0 → Type 0) →
-    List (ServerSeat D) → List (ServerSeat D) → Happened → Type 0
-ServersHappened {D} seen may_leave faults limit i front IsVoid Has old new what =
-    NoneHappened i old new what ⊎ OneHappened seen may_leave faults limit i front IsVoid Has old new what
+use Rattle.afs_clients.specs.Happening.{entry_of, front_lines, void_entry}
 
 -- ---- what is told of it
 

@@ -1,14 +1,8 @@
 pub mod Worlds
 pub mod Steps
 pub mod Happening
-pub mod Hearing
-pub mod Readable
-pub mod Ready
 pub mod Noting
 pub mod Picks
-pub mod Ends
 pub mod UnderWay
-pub mod FirstSeats
-pub mod Refusing
 pub mod Since
 pub mod UnderWaySince

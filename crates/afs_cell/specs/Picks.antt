@@ -1,25 +1,16 @@
 -- What a crash leaves of a server's disk.
 use Rattle.std.specs.Prelude.{◌≡◌, ℕ, List, Option, Some, Result, Ok, Err}
 use Rattle.afs_num.specs.Places.{at_place}
-use Rattle.afs_host.specs.Seats.{disk_of, Running}
+use Rattle.afs_host.specs.Seats.{disk_of, ServerRunning}
 use Rattle.afs_host.specs.declared.seats.Seat.TheVariants.{Up}
-use Rattle.afs_cell.specs.Worlds.{seat_disk, ServerSeat}
+use Rattle.afs_host.specs.Seated.{seat_disk, ServerSeat}
 use Rattle.afs_cell.specs.declared.faults.WorldFault.{WorldFault}
 use Rattle.afs_clients.specs.declared.happening.Happened.{Happened}
 use Rattle.afs_clients.specs.declared.happening.Happened.TheVariants as happened
 use Rattle.afs_clients.specs.declared.happening.ServerInput.{ServerInput}
 use Rattle.afs_clients.specs.declared.happening.ServerInput.TheVariants as server
 
--- where a server crashes with this pick, its disk keeps what a crash with that pick leaves of it
-abbrev pub LeavesPick : {D : Type 0} → (D → Option (List ℕ)) → (D → ℕ → Option (List ℕ)) → Happened → ServerInput → ServerSeat D → ServerSeat D → Type 0
-LeavesPick {D} seen left_by (happened.Step outs) (server.Crash pick) old new = seen (seat_disk new) ≡ left_by (seat_disk old) pick
-LeavesPick {D} seen left_by what input old new = Unit {0}
-
--- so it is of the server of this number
-abbrev pub OneLeavesPick : {D : Type 0} → (D → Option (List ℕ)) → (D → ℕ → Option (List ℕ)) → ℕ → Happened → ServerInput → List (ServerSeat D) → List (ServerSeat D) → Type 0
-OneLeavesPick {D} seen left_by i what input old new = (was now : ServerSeat D) → at_place old i ≡ Some was → at_place new i ≡ Some now → LeavesPick seen left_by what input was now
-
 -- once this server, which was up, has crashed with this pick, its disk keeps what the pick says
 abbrev pub IsPicked : {D : Type 0} → (D → Option (List ℕ)) → (D → ℕ → Option (List ℕ)) → ℕ → ℕ → List (ServerSeat D) → List (ServerSeat D) → Result (Unit {0}) WorldFault → Type 0
-IsPicked {D} seen left_by i pick old new (Ok done) = (r : Running D) (now : ServerSeat D) → at_place old i ≡ Some (Up r) → at_place new i ≡ Some now → seen (seat_disk now) ≡ left_by (disk_of r) pick
+IsPicked {D} seen left_by i pick old new (Ok done) = (r : ServerRunning D) (now : ServerSeat D) → at_place old i ≡ Some (Up r) → at_place new i ≡ Some now → seen (seat_disk now) ≡ left_by (disk_of r) pick
 IsPicked {D} seen left_by i pick old new (Err e) = Unit {0}

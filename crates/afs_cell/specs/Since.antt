@@ -58,6 +58,12 @@ abbrev pub StepsSince : {D : Type 0} → (D → Option (List ℕ)) → (D → Li
 StepsSince {D} seen may_leave faults limit is w new result =
     (before : HistoryTold) → IsBefore before w → IsWorld seen may_leave faults limit w.script (whole before w) → Steps seen may_leave faults limit is (whole before w) (whole before new) result
 
+-- So it was, whatever was let go before: nothing is let go, and the clock rose by so many ticks at most.
+pub record PlaysSince {D : Type 0} (seen : D → Option (List ℕ)) (may_leave : D → List ℕ → Type 0) (faults limit : D → ℕ) (is : Turn → Input → Type 0) (ticks : ℕ) (old new : WorldState D) (result : Result (Unit {0}) WorldFault) : Type 0 where
+  pub stepped : SteppedSince seen may_leave faults limit is old new result
+  pub keeps : Keeps old new
+  pub clock : new.clock ≤ old.clock + ticks
+
 -- ---- more is let go
 
 -- The entries were let go, and some of the first messages, none of them behind this place. Either no message is kept then, or at most half

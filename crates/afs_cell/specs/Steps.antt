@@ -5,7 +5,9 @@ use Rattle.afs_history.specs.declared.scripts.Script.{Script}
 use Rattle.afs_disk.specs.declared.disks.Lent.{Lent}
 use Rattle.afs_num.specs.declared.types.Node.{Node}
 use Rattle.afs_num.specs.declared.types.Node.TheVariants.{Client, Server}
-use Rattle.afs_rows.specs.Runs.{begun_by_disk, moved, start, Cell, Fall, Input, MayBegin}
+use Rattle.afs_rows.specs.Runs.{moved, start, Cell, Input}
+use Rattle.afs_rows.specs.Hosts.{Fall, MayBegin}
+use Rattle.afs_rows.specs.ServerHosts.{begun_by_disk}
 use Rattle.afs_rows.specs.States.{ServerState}
 use Rattle.afs_server.specs.Seen.{lasting_of}
 use Rattle.afs_records.specs.Durable.{Durable}
@@ -13,20 +15,13 @@ use Rattle.afs_volstore.specs.Stands.{Stands}
 use Rattle.afs_schedule.specs.Schedules.{events_of, first_turn, left_by, tasks_of, AreFirst, AreInputs, Turn}
 use Rattle.afs_clients.specs.Places.{Each}
 use Rattle.afs_text.specs.Telling.{told}
-use Rattle.afs_cell.specs.Worlds.{falls_at, most_entries, none_gone, seat_disk, AllTell, Counts, IsCell, IsSafe, Runs, ServerSeat, WorldState}
+use Rattle.afs_cell.specs.Worlds.{falls_at, most_entries, none_gone, AllTell, Counts, IsCell, IsSafe, Runs, WorldState}
+use Rattle.afs_host.specs.Seated.{seat_disk, ServerSeat}
 use Rattle.afs_clients.specs.declared.clients.ClientSeat.{ClientSeat}
 use Rattle.afs_cell.specs.declared.faults.WorldFault.{WorldFault}
 use Rattle.afs_cell.specs.declared.faults.WorldFault.TheVariants as faults
 
 -- ---- set-up
-
--- the disks of these servers, in order of number from this one on, each for so many bytes
-abbrev pub AreLent : {D : Type 0} → (D → ℕ) → ℕ → ℕ → List (Lent D) → Type 0
-AreLent {D} limit capacity i [] = Unit {0}
-AreLent {D} limit capacity i (l ∷ ls) = (l.node ≡ i) × ((limit l.disk ≡ capacity) × AreLent limit capacity (i + 1) ls)
-
-abbrev pub LentTell : {D : Type 0} → (D → Option (List ℕ)) → List (Lent D) → Type 0
-LentTell {D} seen lent = Each (λ (i : ℕ) (l : Lent D). IsSome (seen l.disk)) lent
 
 -- the world at set-up: nothing has happened, and it stands for the script's first cell
 pub record IsFirst {D : Type 0} (seen : D → Option (List ℕ)) (may_leave : D → List ℕ → Type 0) (limit : D → ℕ) (s : Script) (w : WorldState D) : Type 0 where
@@ -90,11 +85,6 @@ pub record Stepped {D : Type 0} (seen : D → Option (List ℕ)) (may_leave : D 
   pub counts : (own : ℕ → ℕ) → Counts faults own w.servers → Counts faults own new.servers
 
 -- ---- the disks that are given back
-
--- the disks of these servers, in order of number from this one on
-abbrev pub lent_from : {D : Type 0} → ℕ → List (ServerSeat D) → List (Lent D)
-lent_from {D} i [] = []
-lent_from {D} i (s ∷ ss) = record { node = i; disk = seat_disk s } ∷ lent_from (i + 1) ss
 
 -- What is read from this part is what the server keeps after the interrupted step, while it is down.
 abbrev pub IsReadAfter : Node → ServerState → Option Fall → Durable → Type 0

@@ -1,5 +1,5 @@
 -- The program's cell, and the cell of the definitions that it stands for.
-use Rattle.std.specs.Prelude.{◌≡◌, ◌≤◌, ◌⊎◌, ◌+◌, ◌-◌, ◌*◌, ◌^◌, ℕ, List, [], ◌∷◌, Bool, false, not, nat_eq, if◌then◌else◌, Option, length, IsSome}
+use Rattle.std.specs.Prelude.{◌≡◌, ◌≤◌, ◌⊎◌, ◌+◌, ◌-◌, ◌^◌, ℕ, List, ◌∷◌, Bool, false, not, nat_eq, if◌then◌else◌, Option, length, IsSome}
 use Rattle.afs_num.specs.declared.histories.Actor.{Actor}
 use Rattle.afs_num.specs.declared.histories.Actor.TheVariants as actors
 use Rattle.afs_num.specs.declared.types.Node.TheVariants.{Server}
@@ -9,17 +9,13 @@ use Rattle.afs_history.specs.declared.scripts.Script.{Script}
 use Rattle.afs_grammar.specs.CellScripts.{IsCellScript}
 use Rattle.afs_model.specs.Messages.{messages_spelled, parcels_read}
 use Rattle.afs_rows.specs.Going.{ClientState}
-use Rattle.afs_rows.specs.Runs.{fails_early, fails_midway, gives, gives_out, start, starts_again, Cell, Entry, Host, Input, Leads}
-use Rattle.afs_host.specs.Seats.{CanRun, IsDown, IsUp, Resting, Running}
-use Rattle.afs_host.specs.declared.seats.Seat.{Seat}
-use Rattle.afs_host.specs.declared.seats.Seat.TheVariants.{Up, Down}
+use Rattle.afs_rows.specs.Runs.{gives, start, starts_again, Cell, Entry, Input, Leads}
+use Rattle.afs_rows.specs.Hosts.{fails_early, fails_midway, gives_out}
+use Rattle.afs_host.specs.Seated.{seat_disk, IsHost, IsReadySeat, ServerSeat}
 use Rattle.afs_clients.specs.Places.{Each}
 use Rattle.afs_text.specs.Telling.{told, sent_by, AreRead}
 use Rattle.afs_clients.specs.declared.clients.ClientSeat.{ClientSeat}
 use Rattle.afs_clients.specs.Seating.{IsHanded}
-
-abbrev pub ServerSeat : Type 0 → Type 0
-ServerSeat D = Seat (Running D) (Resting D)
 
 -- What was told and let go: so many entries, which sent so many messages; and of the messages so many, as nothing delivers them any more.
 pub record LetGo : Type 0 where
@@ -49,11 +45,6 @@ pub record HistoryTold : Type 0 where
 
 -- ---- the cell
 
--- the server of this number is the host, up or down
-abbrev pub IsHost : {D : Type 0} → (D → Option (List ℕ)) → (D → List ℕ → Type 0) → (D → ℕ) → ℕ → ServerSeat D → Host → Type 0
-IsHost {D} seen may_leave limit i (Up r) h = IsUp r h
-IsHost {D} seen may_leave limit i (Down s) h = IsDown seen may_leave limit (Server i) s h
-
 -- a client's seat has the state that the cell has, and is away where the cell has it away
 pub record IsClient (s : ClientSeat) (state : ClientState) (away : Bool) : Type 0 where
   pub state_is : s.client.state ≡ state
@@ -62,26 +53,13 @@ pub record IsClient (s : ClientSeat) (state : ClientState) (away : Bool) : Type 
 -- the cell that the world stands for
 pub record IsCell {D : Type 0} (seen : D → Option (List ℕ)) (may_leave : D → List ℕ → Type 0) (limit : D → ℕ) (w : WorldState D) (c : Cell) : Type 0 where
   pub host_count : c.host_count ≡ length w.servers
-  pub hosts : Each (λ (i : ℕ) (s : ServerSeat D). IsHost seen may_leave limit i s (c.hosts i)) w.servers
+  pub hosts : Each (λ (i : ℕ) (s : ServerSeat D). IsHost seen may_leave limit (Server i) s (c.hosts i)) w.servers
   pub count : c.count ≡ length w.clients
   pub clients : Each (λ (n : ℕ) (s : ClientSeat). IsClient s (c.clients n) (c.away n)) w.clients
   pub sent : parcels_read w.wire ≡ messages_spelled c.sent
   pub clock : c.clock ≡ w.clock
 
 -- ---- what the next input may rely on
-
--- A server can be given what comes next, in a history of so many entries: no step draws more than so many numbers, nor makes more
--- than four device calls; setting up makes at most twelve, a restart ten.
-pub record IsReady {D : Type 0} (i entries : ℕ) (r : Running D) : Type 0 where
-  pub node : r.store.node ≡ Server i
-  pub can_run : CanRun r
-  pub calls_drawn : r.store.drawn ≤ 204 * (entries + 1)
-  pub breaks_drawn : r.memory.lists.last_owed + length r.memory.lists.promises ≤ 50 * (entries + 1)
-  pub device_calls : r.store.disk.calls ≤ 12 + 4 * entries
-
-abbrev pub IsReadySeat : {D : Type 0} → ℕ → ℕ → ServerSeat D → Type 0
-IsReadySeat {D} i entries (Up r) = IsReady i entries r
-IsReadySeat {D} i entries (Down s) = Unit {0}
 
 -- A client can be given what comes next, too: no step makes more than one call, or begins more than one epoch.
 pub record IsReadyClient (s : Script) (n entries : ℕ) (seat : ClientSeat) : Type 0 where
@@ -90,10 +68,6 @@ pub record IsReadyClient (s : Script) (n entries : ℕ) (seat : ClientSeat) : Ty
   pub last : seat.client.state.last ≤ entries
 
 -- ---- disks
-
-abbrev pub seat_disk : {D : Type 0} → ServerSeat D → D
-seat_disk {D} (Up r) = r.store.disk.disk
-seat_disk {D} (Down s) = s.disk
 
 -- each server's disk tells its bytes
 abbrev pub AllTell : {D : Type 0} → (D → Option (List ℕ)) → List (ServerSeat D) → Type 0
@@ -147,7 +121,7 @@ pub record IsSafe {D : Type 0} (limit : D → ℕ) (s : Script) (w : WorldState 
   pub cell_script : IsCellScript s
   pub server_count : length w.servers ≡ s.servers
   pub client_count : length w.clients ≡ s.clients
-  pub servers : w.is_lost ≡ false → Each (λ (i : ℕ) (seat : ServerSeat D). IsReadySeat i (length w.history) seat) w.servers
+  pub servers : w.is_lost ≡ false → Each (λ (i : ℕ) (seat : ServerSeat D). IsReadySeat (Server i) (length w.history) seat) w.servers
   pub clients : w.is_lost ≡ false → Each (λ (n : ℕ) (seat : ClientSeat). IsReadyClient s n (length w.history) seat) w.clients
   pub disks : AllHold limit s.capacity w.servers
   pub sent : sent_by w.history ≡ length w.wire

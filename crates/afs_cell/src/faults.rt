@@ -1,10 +1,8 @@
-//! Why a cell makes no step, or isn't set up.
+//! Why a cell makes no step.
 
 ghost use Rattle.std.specs.Prelude.{◌≡◌};
 ghost use Rattle.afs_cell.specs.declared.faults.WorldFault.TheVariants as world;
-ghost use Rattle.afs_cell.specs.declared.faults.SetupFault.TheVariants as setup;
 
-use afs_num::types::Node;
 use std::alloc::{AllocError, AllocFailed};
 
 /// Why an event was not played: the history is as long as one may be; or memory was wanting, and the cell is as it was,
@@ -28,28 +26,5 @@ impl<T: Drop> From<AllocFailed<T>> for WorldFault {
 
     fn from(_: AllocFailed<T>) -> WorldFault {
         WorldFault::OutOfMemory
-    }
-}
-
-/// Why a cell wasn't set up: a disk failed, or has no room for the first record; or memory was wanting.
-#[derive(Clone, Copy, Debug, PartialEq, Eq)]
-pub enum SetupFault {
-    Disk(Node),
-    OutOfMemory,
-}
-
-impl From<AllocError> for SetupFault {
-    ghost from_gives = { λ _ e. e ≡ setup.OutOfMemory };
-
-    fn from(_: AllocError) -> SetupFault {
-        SetupFault::OutOfMemory
-    }
-}
-
-impl<T: Drop> From<AllocFailed<T>> for SetupFault {
-    ghost from_gives = { λ _ e. e ≡ setup.OutOfMemory };
-
-    fn from(_: AllocFailed<T>) -> SetupFault {
-        SetupFault::OutOfMemory
     }
 }

@@ -12,14 +12,13 @@ ghost use Rattle.afs_clients.specs.Happening.{IsAsked, IsDue, IsGiven};
 ghost use Rattle.afs_cell.specs.Happening.{NothingSettles, Settles};
 ghost use Rattle.afs_cell.specs.Noting.{given_line, Notes};
 ghost use Rattle.afs_cell.specs.Picks.{IsPicked};
-ghost use Rattle.afs_cell.specs.Since.{DeliversKept, GoesOnSince, IsSafeSince, IsWorldSince, Keeps, LetsGo, SteppedSince, StepsSince};
+ghost use Rattle.afs_cell.specs.Since.{DeliversKept, GoesOnSince, IsSafeSince, IsWorldSince, Keeps, LetsGo, PlaysSince, SteppedSince, StepsSince};
 ghost use Rattle.afs_cell.specs.Worlds.{most_entries, most_ticks, AllTell, Counts};
 ghost use Rattle.afs_cell.specs.declared.faults.WorldFault.TheVariants as faults;
 ghost use Rattle.afs_clients.specs.declared.happening.Happened.TheVariants as happened;
 ghost use Rattle.afs_clients.specs.declared.happening.ServerInput.TheVariants as input;
 
 use crate::faults::WorldFault;
-use crate::giving::{server_hears, server_takes};
 use afs_clients::clients::ClientSeat;
 use afs_clients::events::{Given, meaning_of};
 use afs_clients::giving::{client_hears, client_takes};
@@ -32,6 +31,7 @@ use afs_history::scripts::{Event, Script};
 use afs_host::ServerSeat;
 use afs_num::histories::Actor;
 use afs_num::types::{Node, Parcel};
+use afs_servers::giving::{server_hears, server_takes};
 use afs_wire::Wire;
 use std::alloc::Global;
 use std::marker::Model;
@@ -264,9 +264,7 @@ impl<'a, D: Disk> World<'a, D> {
         requires one { event ≡ events.Drain → ⊥ }
         requires kept { DeliversKept self.old event }
         requires ticks { self.old.clock + ticks_of event ≤ most_ticks }
-        ensures stepped { SteppedSince D.seen D.may_leave D.faults D.limit (λ t. IsInput t event) self.old self.new result }
-        ensures keeps { Keeps self.old self.new }
-        ensures clock { self.new.clock ≤ self.old.clock + ticks_of event }
+        ensures plays { PlaysSince D.seen D.may_leave D.faults D.limit (λ t. IsInput t event) (ticks_of event) self.old self.new result }
         ensures picked { (i pick : ℕ) → event ≡ events.CrashDisk (Server i) pick → IsPicked D.seen D.left_by i pick self.old.servers self.new.servers result }
     {
         match meaning_of(event) {

@@ -16,7 +16,7 @@ use Rattle.afs_model.specs.Messages.{HasSpelling}
 use Rattle.afs_ideal.specs.Operations.{the_user, volume_called}
 use Rattle.afs_rows.specs.ServerRow.{admits, called, drops, is_client, not_served, refuses, runs, runs_received, serves_call, time_read, with_volume}
 use Rattle.afs_rows.specs.States.{Seat, ServerState}
-use Rattle.afs_server_parts.specs.Kept.{Spells}
+use Rattle.afs_message.specs.Spelled.{Spells}
 use Rattle.afs_server_parts.specs.declared.telling.Grant.{Grant}
 use Rattle.afs_decisions.specs.Deciding.{is_on_volume, CanBeTold, Decides, IsByClient, Runs}
 use Rattle.afs_decisions.specs.declared.decided.Decided.{Decided}

@@ -1,9 +1,9 @@
 // What is decided on a call.
+use afs_message::spelled::SpelledMessage;
 use afs_num::calls::FsReply;
 use afs_num::sequences::Sequence;
 use afs_num::types::Fid;
 use afs_server_parts::few::Few;
-use afs_server_parts::spelled::SpelledMessage;
 use afs_server_parts::telling::Grant;
 use afs_volume::ReadyChange;
 

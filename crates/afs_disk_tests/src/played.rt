@@ -63,7 +63,10 @@ fn put_bytes(out: &mut String, bytes: &[u8]) {
 
 /// Tells the records that were found as it was attached.
 pub(crate) fn put_records<D: Disk>(out: &mut String, journal: &Journal<D>) {
-    for record in journal.records().as_slice() {
-        put_bytes(out, record.as_slice());
+    let records = journal.records();
+    for place in 0..records.len() {
+        if let Some(record) = records.get(place) {
+            put_bytes(out, record);
+        }
     }
 }

@@ -28,12 +28,6 @@ pub const TARGET_LIMIT: u32 = 1024;
 /// The fids, statuses or callbacks in a list.
 pub const LIST_LIMIT: u32 = 50;
 
-/// The fields of a call that are of a fixed size take so many bytes at most, with the lengths and the filling of the others.
-const CALL_ROOM: usize = 64;
-
-/// The fields of a reply that are of a fixed size take so many bytes at most, with the lengths and the filling of the others.
-const REPLY_ROOM: usize = 216;
-
 /// The calls, with the fields behind the user.
 macro_rules! with_calls {
     ($arms:ident $value:tt) => {
@@ -119,7 +113,7 @@ impl Messages for FsCalls {
     }
 
     fn room(call: &FsCall) -> usize {
-        with_calls!(room_of(call, FsCall, CALL_ROOM))
+        with_calls!(room_of(call, FsCall))
     }
 
     #[tactic(auto, using(afs_shape::proofs::Spellable::parts_spellable))]
@@ -147,7 +141,7 @@ impl Messages for FsReplies {
     }
 
     fn room(reply: &FsReply) -> usize {
-        with_replies!(room_of(reply, FsReply, REPLY_ROOM))
+        with_replies!(room_of(reply, FsReply))
     }
 
     #[tactic(auto, using(afs_shape::proofs::Spellable::parts_spellable))]

@@ -6,15 +6,16 @@ use Rattle.afs_num.specs.declared.types.Node.{Node}
 use Rattle.afs_history.specs.declared.lines.Line.TheVariants as lines
 use Rattle.afs_history.specs.declared.lines.Outs.{Outs}
 use Rattle.afs_disk.specs.Fuses.{Fused}
-use Rattle.afs_rows.specs.Runs.{steady}
+use Rattle.afs_rows.specs.Hosts.{steady}
 use Rattle.afs_volstore.specs.Stores.{Store}
 use Rattle.afs_server.specs.declared.faults.NodeFault.{NodeFault}
 use Rattle.afs_server.specs.declared.faults.NodeFault.TheVariants as nodes
-use Rattle.afs_host.specs.Seats.{count_mark, disk_of, CanRun, Running}
+use Rattle.afs_host.specs.Seats.{disk_of, CanRun, ServerRunning}
+use Rattle.afs_host.specs.Views.{count_mark}
 use Rattle.afs_host.specs.Serving.{disk_served, Becomes, GoesOnServed, IsHandled, IsServed, KeepsMark, MakesRow, RestsServed, RunsRow}
 use Rattle.afs_host.proofs.Breaking.{down_step}
 
-module _ {D : Type 0} (seen : D → Option (List ℕ)) (left_by : D → ℕ → Option (List ℕ)) (size : D → ℕ) (may_leave : D → List ℕ → Type 0) (moment : D → ℕ) (left_since : D → ℕ → List ℕ → Type 0) (faults limit : D → ℕ) (old new : Running D) where
+module _ {D : Type 0} (seen : D → Option (List ℕ)) (left_by : D → ℕ → Option (List ℕ)) (size : D → ℕ) (may_leave : D → List ℕ → Type 0) (moment : D → ℕ) (left_since : D → ℕ → List ℕ → Type 0) (faults limit : D → ℕ) (old new : ServerRunning D) where
   abbrev Handled : ℕ → Received → Result Outs NodeFault → Type 0
   Handled clock found result = IsHandled seen left_by size may_leave moment left_since faults limit old clock found new result
 

@@ -23,14 +23,16 @@ use Rattle.afs_records.specs.Records.{head_form, record_bytes, FitsRecord}
 use Rattle.afs_records.proofs.Forms.{some_is}
 use Rattle.afs_records.proofs.Spelled.{record_read}
 use Rattle.afs_rows.specs.Callbacks.{pumped, risen_turn}
-use Rattle.afs_rows.specs.Runs.{at_rest, comes_up, fails_midway, in_boot, is_full, settled, unarmed, Outcome}
-use Rattle.afs_rows.specs.ServerRow.{lasting_started, Begun}
+use Rattle.afs_rows.specs.Hosts.{at_rest, comes_up, fails_midway, in_boot, is_full, settled, unarmed, Outcome, goes, stays}
+use Rattle.afs_rows.specs.ServerRow.{lasting_started}
+use Rattle.afs_rows.specs.Steps.{Begun}
 use Rattle.afs_rows.specs.ServerSteps.{start_row}
 use Rattle.afs_rows.specs.States.{durable_of, Lasting, ServerState}
+use Rattle.afs_rows.specs.ServerHosts.{can_start}
 use Rattle.afs_volstore.specs.Stores.{IsCounted, IsKept, LeftAround, SameBut, Store}
 use Rattle.afs_server.specs.Seen.{begun_state, begun_step, lasting_of}
-use Rattle.afs_host.specs.Hosts.{goes, stays}
-use Rattle.afs_host.specs.Seats.{count_mark, IsStepDown, IsStepUp, Resting, Running}
+use Rattle.afs_host.specs.Views.{count_mark, shown_store}
+use Rattle.afs_host.specs.Seats.{IsStepDown, IsStepUp, Resting, ServerRunning}
 use Rattle.afs_host.specs.Standing.{Lies, LiesFound}
 use Rattle.afs_host.specs.Starting.{begun_with, BootsFrom, BootsOver, HasRisen, IsFound, Rises, Stays}
 use Rattle.afs_host.specs.declared.starting.Start.{Start}
@@ -50,19 +52,19 @@ refused_by f = Err f
 same_test : (d : Durable) (l : Lasting) → lasting_of d ≡ l → can_boot (durable_of l) ≡ can_boot d
 same_test d l read = ap (λ (x : Lasting). can_boot (durable_of x)) (sym read)
 
-settled_full : (s : ServerState) (d : Durable) → lasting_of d ≡ s.lasting → can_boot d ≡ false → settled s is_full ≡ is_full
+settled_full : (s : ServerState) (d : Durable) → lasting_of d ≡ s.lasting → can_boot d ≡ false → settled (can_start s) is_full ≡ is_full
 settled_full s d read not = ap (λ (t : Bool). if t then comes_up else is_full) (same_test d s.lasting read ∙ not)
 
-settled_up : (s : ServerState) (d : Durable) → lasting_of d ≡ s.lasting → can_boot d ≡ true → settled s comes_up ≡ comes_up
+settled_up : (s : ServerState) (d : Durable) → lasting_of d ≡ s.lasting → can_boot d ≡ true → settled (can_start s) comes_up ≡ comes_up
 settled_up s d read can = ap (λ (t : Bool). if t then comes_up else is_full) (same_test d s.lasting read ∙ can)
 
-settled_midway : (s : ServerState) (d : Durable) → lasting_of d ≡ s.lasting → can_boot d ≡ true → settled s fails_midway ≡ fails_midway
+settled_midway : (s : ServerState) (d : Durable) → lasting_of d ≡ s.lasting → can_boot d ≡ true → settled (can_start s) fails_midway ≡ fails_midway
 settled_midway s d read can = ap (λ (t : Bool). if t then fails_midway else is_full) (same_test d s.lasting read ∙ can)
 
 up_not_full : comes_up ≡ is_full → ⊥
 up_not_full e = absurd cc
 
-not_full : (s : ServerState) (d : Durable) → lasting_of d ≡ s.lasting → can_boot d ≡ true → settled s is_full ≡ is_full → ⊥
+not_full : (s : ServerState) (d : Durable) → lasting_of d ≡ s.lasting → can_boot d ≡ true → settled (can_start s) is_full ≡ is_full → ⊥
 not_full s d read can full = up_not_full (sym (ap (λ (t : Bool). if t then comes_up else is_full) (same_test d s.lasting read ∙ can)) ∙ full)
 
 pub is_true : (t : Bool) → (t ≡ false → ⊥) → t ≡ true
@@ -95,8 +97,8 @@ memory_failed f is failed = absurd cc
 
 -- ---- it doesn't fit
 
-pub full_boots : {D : Type 0} (seen : D → Option (List ℕ)) (may_leave : D → List ℕ → Type 0) (faults limit : D → ℕ) (begun : Begun) (records : List (List ℕ)) (front : List Line) (s t : Store (Fused D)) (clock count : ℕ) → IsFound seen begun records front s → SameBut s t → can_boot s.durable ≡ false →
-    IsKept t.durable (seen t.disk.disk) (may_leave t.disk.disk) → IsCounted t.count (seen t.disk.disk) → t.durable.capacity ≡ limit t.disk.disk → (result : Start (Running D) (Resting D)) → Stays t front (lines.Full s.node) result →
+pub full_boots : {D : Type 0} (seen : D → Option (List ℕ)) (may_leave : D → List ℕ → Type 0) (faults limit : D → ℕ) (begun : Begun ServerState) (records : List (List ℕ)) (front : List Line) (s t : Store (Fused D)) (clock count : ℕ) → IsFound seen begun records front s → SameBut s t → can_boot s.durable ≡ false →
+    IsKept t.durable (seen t.disk.disk) (may_leave t.disk.disk) → IsCounted t.count (seen t.disk.disk) → t.durable.capacity ≡ limit t.disk.disk → (result : Start (ServerRunning D) (Resting D)) → Stays (shown_store t) front (lines.Full s.node) result →
     BootsFrom seen may_leave faults limit begun records s.node clock count s.disk.disk result
 full_boots {D} seen may_leave faults limit begun records front s t clock count found same not kept counted capacity (starts.Up r outs) stays_so = absurd stays_so
 full_boots {D} seen may_leave faults limit begun records front s t clock count found same not kept counted capacity (starts.Down d ls) stays_so =
@@ -136,7 +138,7 @@ pub record BootFails {D : Type 0} (seen : D → Option (List ℕ)) (moment : D �
   pub capacity : t.durable.capacity ≡ limit t.disk.disk
 
 failed_lies : {D : Type 0} (seen : D → Option (List ℕ)) (may_leave : D → List ℕ → Type 0) (moment : D → ℕ) (left_since : D → ℕ → List ℕ → Type 0) (now : (disk : D) (t : ℕ) (c : List ℕ) → t ≤ moment disk → may_leave disk c → left_since disk t c) (kept_law : StartsAreKept) (faults limit : D → ℕ)
-    (begun : Begun) (records : List (List ℕ)) (front : List Line) (me : Node) (s t : Store (Fused D)) → IsFound seen begun records front s → BootFails seen moment left_since faults limit s t → (c : List ℕ) → may_leave t.disk.disk c → Lies me begun.state in_boot (count_mark s.count) c
+    (begun : Begun ServerState) (records : List (List ℕ)) (front : List Line) (me : Node) (s t : Store (Fused D)) → IsFound seen begun records front s → BootFails seen moment left_since faults limit s t → (c : List ℕ) → may_leave t.disk.disk c → Lies me begun.state in_boot (count_mark s.count) c
 failed_lies {D} seen may_leave moment left_since now kept_law faults limit begun records front me s t found fails c left =
     let d = s.durable in
     let r = boot_record (d.boot + 1) in
@@ -155,7 +157,7 @@ failed_lies {D} seen may_leave moment left_since now kept_law faults limit begun
     }) c is around.1
 
 pub failed_boots : {D : Type 0} (seen : D → Option (List ℕ)) (may_leave : D → List ℕ → Type 0) (moment : D → ℕ) (left_since : D → ℕ → List ℕ → Type 0) (now : (disk : D) (t : ℕ) (c : List ℕ) → t ≤ moment disk → may_leave disk c → left_since disk t c) (kept_law : StartsAreKept) (faults limit : D → ℕ)
-    (begun : Begun) (records : List (List ℕ)) (front : List Line) (s t : Store (Fused D)) (clock count : ℕ) → IsFound seen begun records front s → BootFails seen moment left_since faults limit s t → ((bytes : List ℕ) → seen t.disk.disk ≡ Some bytes → may_leave t.disk.disk bytes) → (result : Start (Running D) (Resting D)) → Stays t front (lines.Fault s.node) result →
+    (begun : Begun ServerState) (records : List (List ℕ)) (front : List Line) (s t : Store (Fused D)) (clock count : ℕ) → IsFound seen begun records front s → BootFails seen moment left_since faults limit s t → ((bytes : List ℕ) → seen t.disk.disk ≡ Some bytes → may_leave t.disk.disk bytes) → (result : Start (ServerRunning D) (Resting D)) → Stays (shown_store t) front (lines.Fault s.node) result →
     BootsFrom seen may_leave faults limit begun records s.node clock count s.disk.disk result
 failed_boots {D} seen may_leave moment left_since now kept_law faults limit begun records front s t clock count found fails shows (starts.Up r outs) stays_so = absurd stays_so
 failed_boots {D} seen may_leave moment left_since now kept_law faults limit begun records front s t clock count found fails shows (starts.Down d ls) stays_so =
@@ -193,13 +195,13 @@ still bs bytes rs n (inl is) counted same = is
 still bs bytes rs n (inr is) counted same = absurd (one_longer bs bytes rs n is counted same)
 
 -- before the boot was begun
-pub untouched : {D : Type 0} (seen : D → Option (List ℕ)) (may_leave : D → List ℕ → Type 0) (begun : Begun) (records : List (List ℕ)) (front : List Line) (s : Store (Fused D)) → IsFound seen begun records front s → IsKept s.durable (seen s.disk.disk) (may_leave s.disk.disk) →
+pub untouched : {D : Type 0} (seen : D → Option (List ℕ)) (may_leave : D → List ℕ → Type 0) (begun : Begun ServerState) (records : List (List ℕ)) (front : List Line) (s : Store (Fused D)) → IsFound seen begun records front s → IsKept s.durable (seen s.disk.disk) (may_leave s.disk.disk) →
     (c : List ℕ) → may_leave s.disk.disk c → whole_records c ≡ records
 untouched {D} seen may_leave begun records front s found kept c left = ap whole_records (kept.durable found.told.0 found.told.1.0 c left) ∙ found.told.1.1
 
 -- or in it, and nothing was written
 pub still_there : {D : Type 0} (seen : D → Option (List ℕ)) (may_leave : D → List ℕ → Type 0) (moment : D → ℕ) (left_since : D → ℕ → List ℕ → Type 0) (now : (disk : D) (t : ℕ) (c : List ℕ) → t ≤ moment disk → may_leave disk c → left_since disk t c)
-    (begun : Begun) (records : List (List ℕ)) (front : List Line) (s t : Store (Fused D)) → IsFound seen begun records front s → SameBut s t → IsKept t.durable (seen t.disk.disk) (may_leave t.disk.disk) → IsCounted t.count (seen t.disk.disk) →
+    (begun : Begun ServerState) (records : List (List ℕ)) (front : List Line) (s t : Store (Fused D)) → IsFound seen begun records front s → SameBut s t → IsKept t.durable (seen t.disk.disk) (may_leave t.disk.disk) → IsCounted t.count (seen t.disk.disk) →
     ((bytes : List ℕ) → seen s.disk.disk ≡ Some bytes → LeavesOnly moment left_since s.disk.disk t.disk.disk (LeftAround (whole_records bytes) (boot_record (s.durable.boot + 1)) s.durable)) →
     IsSome (seen t.disk.disk) → (c : List ℕ) → may_leave t.disk.disk c → whole_records c ≡ records
 still_there {D} seen may_leave moment left_since now begun records front s t found same kept counted leaves told c left =
@@ -213,21 +215,21 @@ still_there {D} seen may_leave moment left_since now begun records front s t fou
 
 -- ---- the server is up
 
-risen_state : (me : Node) (clock count : ℕ) (begun : Begun) (d : Durable) → lasting_of d ≡ lasting_started begun.state.lasting → (begun_step me d clock count).state ≡ (start_row me clock count begun).state
+risen_state : (me : Node) (clock count : ℕ) (begun : Begun ServerState) (d : Durable) → lasting_of d ≡ lasting_started begun.state.lasting → (begun_step me d clock count).state ≡ (start_row me clock count begun).state
 unfolding start_row
 risen_state me clock count begun d read = ap (λ (l : Lasting). record { lasting = l; seats = l.kept; backs = (pumped me l.boot (risen_turn me clock count)).backs }) read
 
-risen_sent : (me : Node) (clock count : ℕ) (begun : Begun) (d : Durable) → lasting_of d ≡ lasting_started begun.state.lasting → (begun_step me d clock count).sent ≡ (start_row me clock count begun).sent
+risen_sent : (me : Node) (clock count : ℕ) (begun : Begun ServerState) (d : Durable) → lasting_of d ≡ lasting_started begun.state.lasting → (begun_step me d clock count).sent ≡ (start_row me clock count begun).sent
 unfolding start_row
 risen_sent me clock count begun d read = ap (λ (l : Lasting). (pumped me l.boot (risen_turn me clock count)).sent) read
 
-risen_lines : (me : Node) (clock count : ℕ) (begun : Begun) (front : List Line) (d : Durable) → lasting_of d ≡ lasting_started begun.state.lasting → ((ls : List Line) → begun.before ls ≡ front ++ ls) →
+risen_lines : (me : Node) (clock count : ℕ) (begun : Begun ServerState) (front : List Line) (d : Durable) → lasting_of d ≡ lasting_started begun.state.lasting → ((ls : List Line) → begun.before ls ≡ front ++ ls) →
     front ++ lines.Restart me d.boot ∷ (begun_step me d clock count).lines ≡ (start_row me clock count begun).lines
 unfolding start_row
 risen_lines me clock count begun front d read before =
     ap (λ (l : Lasting). front ++ lines.Restart me l.boot ∷ (risen_turn me clock count).lines) read ∙ sym (before (lines.Restart me (begun.state.lasting.boot + 1) ∷ (risen_turn me clock count).lines))
 
-risen_up : {D : Type 0} (begun : Begun) (front : List Line) (s t : Store (Fused D)) (clock count : ℕ) (r : Running D) (outs : Outs) → lasting_of s.durable ≡ begun.state.lasting → ((ls : List Line) → begun.before ls ≡ front ++ ls) →
+risen_up : {D : Type 0} (begun : Begun ServerState) (front : List Line) (s t : Store (Fused D)) (clock count : ℕ) (r : ServerRunning D) (outs : Outs) → lasting_of s.durable ≡ begun.state.lasting → ((ls : List Line) → begun.before ls ≡ front ++ ls) →
     t ≡ record s { durable = started s.durable; disk = t.disk; prepared = None; count = s.count + 1 } → HasRisen t front count clock r outs → IsStepUp r [] outs (goes unarmed (start_row s.node clock count begun))
 risen_up {D} begun front s t clock count r outs read before store risen =
     let node : t.node ≡ s.node = ap (λ (x : Store (Fused D)). x.node) store in
@@ -243,8 +245,8 @@ risen_up {D} begun front s t clock count r outs read before store risen =
       sent = risen.sent ∙ (ap (λ (n : Node). messages_spelled (begun_step n t.durable clock count).sent) node ∙ ap messages_spelled (risen_sent s.node clock count begun t.durable lasting));
     }
 
-pub risen_boots : {D : Type 0} (seen : D → Option (List ℕ)) (may_leave : D → List ℕ → Type 0) (faults limit : D → ℕ) (begun : Begun) (records : List (List ℕ)) (front : List Line) (s t : Store (Fused D)) (clock count : ℕ) → IsFound seen begun records front s → can_boot s.durable ≡ true →
-    t ≡ record s { durable = started s.durable; disk = t.disk; prepared = None; count = s.count + 1 } → (result : Start (Running D) (Resting D)) → Rises t front count clock result → BootsFrom seen may_leave faults limit begun records s.node clock count s.disk.disk result
+pub risen_boots : {D : Type 0} (seen : D → Option (List ℕ)) (may_leave : D → List ℕ → Type 0) (faults limit : D → ℕ) (begun : Begun ServerState) (records : List (List ℕ)) (front : List Line) (s t : Store (Fused D)) (clock count : ℕ) → IsFound seen begun records front s → can_boot s.durable ≡ true →
+    t ≡ record s { durable = started s.durable; disk = t.disk; prepared = None; count = s.count + 1 } → (result : Start (ServerRunning D) (Resting D)) → Rises t front count clock result → BootsFrom seen may_leave faults limit begun records s.node clock count s.disk.disk result
 risen_boots {D} seen may_leave faults limit begun records front s t clock count found can store (starts.Up r outs) risen =
     (settled_up begun.state s.durable found.read can, risen_up begun front s t clock count r outs found.read found.before store risen)
 risen_boots {D} seen may_leave faults limit begun records front s t clock count found can store (starts.Down d ls) risen = absurd risen
@@ -254,7 +256,7 @@ risen_boots {D} seen may_leave faults limit begun records front s t clock count 
 -- ---- whatever the disk tells
 
 pub risen_over : {D : Type 0} (faults : D → ℕ) (front : List Line) (s t : Store (Fused D)) (clock count : ℕ) → can_boot s.durable ≡ true → t ≡ record s { durable = started s.durable; disk = t.disk; prepared = None; count = s.count + 1 } → faults t.disk.disk ≡ faults s.disk.disk →
-    (result : Start (Running D) (Resting D)) → Rises t front count clock result → BootsOver faults s.durable front s.node clock count (faults s.disk.disk) result
+    (result : Start (ServerRunning D) (Resting D)) → Rises t front count clock result → BootsOver faults s.durable front s.node clock count (faults s.disk.disk) result
 risen_over {D} faults front s t clock count can store quiet (starts.Up r outs) risen = (
   settled_up (begun_state s.durable) s.durable refl can,
   (risen_up (begun_with s.durable front) front s t clock count r outs refl (λ ls. refl) store risen, ap (λ (x : Store (Fused D)). faults x.disk.disk) risen.store ∙ quiet),
@@ -263,14 +265,14 @@ risen_over {D} faults front s t clock count can store quiet (starts.Down d ls) r
 risen_over {D} faults front s t clock count can store quiet (starts.Unchanged d) risen = absurd risen
 risen_over {D} faults front s t clock count can store quiet (starts.Lost d) risen = (not_full (begun_state s.durable) s.durable refl can, ap faults risen ∙ quiet)
 
-pub full_over : {D : Type 0} (faults : D → ℕ) (front : List Line) (s t : Store (Fused D)) (clock count : ℕ) → can_boot s.durable ≡ false → faults t.disk.disk ≡ faults s.disk.disk → (result : Start (Running D) (Resting D)) → Stays t front (lines.Full s.node) result →
+pub full_over : {D : Type 0} (faults : D → ℕ) (front : List Line) (s t : Store (Fused D)) (clock count : ℕ) → can_boot s.durable ≡ false → faults t.disk.disk ≡ faults s.disk.disk → (result : Start (ServerRunning D) (Resting D)) → Stays (shown_store t) front (lines.Full s.node) result →
     BootsOver faults s.durable front s.node clock count (faults s.disk.disk) result
 full_over {D} faults front s t clock count not quiet (starts.Up r outs) stays_so = absurd stays_so
 full_over {D} faults front s t clock count not quiet (starts.Down d ls) stays_so = inl (settled_full (begun_state s.durable) s.durable refl not, (stays_so.1, ap (λ (x : Resting D). faults x.disk) stays_so.0 ∙ quiet))
 full_over {D} faults front s t clock count not quiet (starts.Unchanged d) stays_so = absurd stays_so
 full_over {D} faults front s t clock count not quiet (starts.Lost d) stays_so = absurd stays_so
 
-pub failed_over : {D : Type 0} (faults : D → ℕ) (front : List Line) (s t : Store (Fused D)) (clock count : ℕ) → can_boot s.durable ≡ true → Rose (faults s.disk.disk) (faults t.disk.disk) → (result : Start (Running D) (Resting D)) → Stays t front (lines.Fault s.node) result →
+pub failed_over : {D : Type 0} (faults : D → ℕ) (front : List Line) (s t : Store (Fused D)) (clock count : ℕ) → can_boot s.durable ≡ true → Rose (faults s.disk.disk) (faults t.disk.disk) → (result : Start (ServerRunning D) (Resting D)) → Stays (shown_store t) front (lines.Fault s.node) result →
     BootsOver faults s.durable front s.node clock count (faults s.disk.disk) result
 failed_over {D} faults front s t clock count can rose (starts.Up r outs) stays_so = absurd stays_so
 failed_over {D} faults front s t clock count can rose (starts.Down d ls) stays_so =

@@ -17,16 +17,17 @@ use Rattle.afs_model.specs.Messages.{FoundBy}
 use Rattle.afs_records.specs.Durable.{folded, Durable}
 use Rattle.afs_records.specs.Records.{record_bytes, FitsRecord}
 use Rattle.afs_records.proofs.Spelled.{record_read}
-use Rattle.afs_rows.specs.Runs.{in_step, leaves_after, struck, Armed, Blow, Host}
+use Rattle.afs_rows.specs.Hosts.{in_step, leaves_after, struck, Armed, Blow, fall_line, served, served_by}
+use Rattle.afs_rows.specs.ServerHosts.{ServerHost, server_kind}
 use Rattle.afs_rows.specs.ServerRow.{begun_after, decides, device_calls, drops, refuses, repeats, saves, shows, tells_boot, Decision}
 use Rattle.afs_rows.specs.States.{ServerState}
 use Rattle.afs_volstore.specs.Stores.{IsCounted, IsKept, LeftAround, Store}
 use Rattle.afs_server.specs.Handling.{calls_served, record_decided, server_seen}
 use Rattle.afs_server.specs.Putting.{IsToldAgain}
 use Rattle.afs_server.specs.Seen.{lasting_of}
-use Rattle.afs_host.specs.Hosts.{fall_line, served, served_by}
-use Rattle.afs_host.specs.Seats.{count_mark, disk_of, CanRun, IsStepDown, IsUp, Resting, Running}
-use Rattle.afs_host.specs.Serving.{HasFallen, HasServed, IsBroken}
+use Rattle.afs_host.specs.Views.{count_mark}
+use Rattle.afs_host.specs.Seats.{disk_of, CanRun, IsStepDown, IsUp, Resting, ServerRunning}
+use Rattle.afs_host.specs.Serving.{HasServed, IsBroken, HasFallen}
 use Rattle.afs_host.specs.Setting.{pick_of, stops_now}
 use Rattle.afs_host.specs.Standing.{Lies, LiesAs, LiesFound, LiesIn}
 use Rattle.afs_host.proofs.Blows.{explained, neither, IsSetBlow}
@@ -49,7 +50,7 @@ saves_calls s clock (shows head r) some = absurd (some refl)
 saves_calls s clock (saves head c) some = refl
 
 -- What is known of a step that its disk ended, and of what a crash leaves after it.
-pub record Ended {D : Type 0} (seen : D → Option (List ℕ)) (may_leave : D → List ℕ → Type 0) (moment : D → ℕ) (left_since : D → ℕ → List ℕ → Type 0) (clock : ℕ) (found : Received) (old : Running D) (before after : D) : Type 0 where
+pub record Ended {D : Type 0} (seen : D → Option (List ℕ)) (may_leave : D → List ℕ → Type 0) (moment : D → ℕ) (left_since : D → ℕ → List ℕ → Type 0) (clock : ℕ) (found : Received) (old : ServerRunning D) (before after : D) : Type 0 where
   pub kept : IsKept old.store.durable (seen before) (may_leave before)
   pub counted : IsCounted old.store.count (seen before)
   pub some : record_decided old.store.durable.boot clock (decides old.store.node (server_seen old.memory old.store) clock found) ≡ None → ⊥
@@ -63,7 +64,7 @@ pub record Ended {D : Type 0} (seen : D → Option (List ℕ)) (may_leave : D �
   pub told : IsSome (seen after) → IsSome (seen before)
 
 -- its record was begun
-ended_begins : {D : Type 0} (seen : D → Option (List ℕ)) (may_leave : D → List ℕ → Type 0) (moment : D → ℕ) (left_since : D → ℕ → List ℕ → Type 0) (clock : ℕ) (found : Received) (old : Running D) (before after : D) → Ended seen may_leave moment left_since clock found old before after →
+ended_begins : {D : Type 0} (seen : D → Option (List ℕ)) (may_leave : D → List ℕ → Type 0) (moment : D → ℕ) (left_since : D → ℕ → List ℕ → Type 0) (clock : ℕ) (found : Received) (old : ServerRunning D) (before after : D) → Ended seen may_leave moment left_since clock found old before after →
     (m : Message) → FoundBy calls_served m found → (b : Blow) (bytes : List ℕ) → seen before ≡ Some bytes → (r : StoreRecord) → record_decided old.store.durable.boot clock (decides old.store.node (server_seen old.memory old.store) clock found) ≡ Some r →
     Begins old.store.node (server_seen old.memory old.store) (in_step m clock b) (whole_records bytes) old.store.count old.store.durable r
 ended_begins {D} seen may_leave moment left_since clock found old before after ended m by b bytes at r is =
@@ -83,7 +84,7 @@ ended_begins {D} seen may_leave moment left_since clock found old before after e
 
 -- whatever it leaves stands for the state before the step, or after it
 pub ended_lies : {D : Type 0} (seen : D → Option (List ℕ)) (may_leave : D → List ℕ → Type 0) (moment : D → ℕ) (left_since : D → ℕ → List ℕ → Type 0) (now : (disk : D) (t : ℕ) (c : List ℕ) → t ≤ moment disk → may_leave disk c → left_since disk t c) (clock : ℕ) (found : Received)
-    (old : Running D) (before after : D) → Ended seen may_leave moment left_since clock found old before after → (m : Message) → FoundBy calls_served m found → (b : Blow) → IsSome (seen after) → (c : List ℕ) → may_leave after c →
+    (old : ServerRunning D) (before after : D) → Ended seen may_leave moment left_since clock found old before after → (m : Message) → FoundBy calls_served m found → (b : Blow) → IsSome (seen after) → (c : List ℕ) → may_leave after c →
     Lies old.store.node (server_seen old.memory old.store) (in_step m clock b) (count_mark old.store.count) c
 ended_lies {D} seen may_leave moment left_since now clock found old before after ended m by b told c left =
     let d = old.store.durable in
@@ -96,7 +97,7 @@ ended_lies {D} seen may_leave moment left_since now clock found old before after
 
 -- Where its disk was set to end the step, what a crash with each pick leaves is told by the call that wasn't made.
 pub ended_left : {D : Type 0} (seen : D → Option (List ℕ)) (left_by : D → ℕ → Option (List ℕ)) (may_leave : D → List ℕ → Type 0) (moment : D → ℕ) (left_since : D → ℕ → List ℕ → Type 0) (now : (disk : D) (t : ℕ) (c : List ℕ) → t ≤ moment disk → may_leave disk c → left_since disk t c)
-    (leaves : (disk : D) (pick : ℕ) (c : List ℕ) → left_by disk pick ≡ Some c → may_leave disk c) (clock : ℕ) (found : Received) (old : Running D) (before after : D) → Ended seen may_leave moment left_since clock found old before after → (m : Message) → FoundBy calls_served m found → (b : Blow) → IsSome (seen after) → (n : ℕ) →
+    (leaves : (disk : D) (pick : ℕ) (c : List ℕ) → left_by disk pick ≡ Some c → may_leave disk c) (clock : ℕ) (found : Received) (old : ServerRunning D) (before after : D) → Ended seen may_leave moment left_since clock found old before after → (m : Message) → FoundBy calls_served m found → (b : Blow) → IsSome (seen after) → (n : ℕ) →
     ((r : StoreRecord) → record_decided old.store.durable.boot clock (decides old.store.node (server_seen old.memory old.store) clock found) ≡ Some r → (bytes : List ℕ) → seen before ≡ Some bytes → (pick : ℕ) (c : List ℕ) → left_by after pick ≡ Some c → whole_records c ≡ records_left n pick (whole_records bytes) (record_bytes r)) →
     (pick : ℕ) (c : List ℕ) → left_by after pick ≡ Some c → LiesAs old.store.node (server_seen old.memory old.store) (in_step m clock b) (count_mark old.store.count) (is_left_whole n pick) (whole_records c)
 ended_left {D} seen left_by may_leave moment left_since now leaves clock found old before after ended m by b told n picked pick c left =
@@ -134,7 +135,7 @@ own_found : (me : Node) (s : ServerState) (m : Message) (clock : ℕ) (b : Blow)
 own_found me s m clock b mark records own lies = found_free me s (in_step m clock b) mark records (λ after set. absurd (neither b.is_set set own)) lies
 
 -- what a read gives then is what a restart may find
-fallen_found : {D : Type 0} (seen : D → Option (List ℕ)) (left_by : D → ℕ → Option (List ℕ)) (may_leave : D → List ℕ → Type 0) (leaves : (disk : D) (pick : ℕ) (c : List ℕ) → left_by disk pick ≡ Some c → may_leave disk c) (reads : (disk : D) → left_by disk 1 ≡ seen disk) (faults limit : D → ℕ) (old new : Running D)
+fallen_found : {D : Type 0} (seen : D → Option (List ℕ)) (left_by : D → ℕ → Option (List ℕ)) (may_leave : D → List ℕ → Type 0) (leaves : (disk : D) (pick : ℕ) (c : List ℕ) → left_by disk pick ≡ Some c → may_leave disk c) (reads : (disk : D) → left_by disk 1 ≡ seen disk) (faults limit : D → ℕ) (old new : ServerRunning D)
     (clock : ℕ) (found : Received) → IsBroken seen left_by may_leave faults limit old clock found new → (s : Resting D) (line : Line) → (fallen : HasFallen seen left_by may_leave faults limit new s line) → (m : Message) → found ≡ Whole m → (b : Blow) → b.stops ≡ stops_now fallen.came old.armed → s.mark ≡ count_mark old.store.count →
     (b.is_set ≡ true → IsSetBlow old.armed (record { stop = old.store.disk.stop; fail = old.store.disk.fail }) old.store.disk.calls new.store.disk.calls b) → (bytes : List ℕ) → seen s.disk ≡ Some bytes → IsSome (seen s.disk) → (set : Bool) → b.is_set ≡ set → (stops : Bool) → b.stops ≡ stops →
     LiesFound old.store.node (server_seen old.memory old.store) (in_step m clock b) s.mark (whole_records bytes)
@@ -156,9 +157,9 @@ fallen_found {D} seen left_by may_leave leaves reads faults limit old new clock 
     (λ yes. absurd (neither b.stops yes e)) (λ no. refl) (broken.left m b whole (fallen.told.0 some) t.trips 1 bytes left)
 
 -- the host fell with some luck, and as the line tells
-pub down_step : {D : Type 0} (seen : D → Option (List ℕ)) (left_by : D → ℕ → Option (List ℕ)) (may_leave : D → List ℕ → Type 0) (leaves : (disk : D) (pick : ℕ) (c : List ℕ) → left_by disk pick ≡ Some c → may_leave disk c) (reads : (disk : D) → left_by disk 1 ≡ seen disk) (faults limit : D → ℕ) (old new : Running D) (clock : ℕ) (found : Received) → CanRun old → IsBroken seen left_by may_leave faults limit old clock found new →
-    (s : Resting D) (line : Line) → HasFallen seen left_by may_leave faults limit new s line → (h : Host) → IsUp old h → (m : Message) → found ≡ Whole m → (place : ℕ) →
-    HasServed old.store.node h clock place m (IsStepDown seen may_leave limit old.store.node s (lines.Given place ∷ line ∷ [])) (Rose (faults (disk_of old)) (faults s.disk))
+pub down_step : {D : Type 0} (seen : D → Option (List ℕ)) (left_by : D → ℕ → Option (List ℕ)) (may_leave : D → List ℕ → Type 0) (leaves : (disk : D) (pick : ℕ) (c : List ℕ) → left_by disk pick ≡ Some c → may_leave disk c) (reads : (disk : D) → left_by disk 1 ≡ seen disk) (faults limit : D → ℕ) (old new : ServerRunning D) (clock : ℕ) (found : Received) → CanRun old → IsBroken seen left_by may_leave faults limit old clock found new →
+    (s : Resting D) (line : Line) → HasFallen seen left_by may_leave faults limit new s line → (h : ServerHost) → IsUp old h → (m : Message) → found ≡ Whole m → (place : ℕ) →
+    HasServed (server_kind old.store.node) h clock place m (IsStepDown seen may_leave limit old.store.node s (lines.Given place ∷ line ∷ [])) (Rose (faults (disk_of old)) (faults s.disk))
 down_step {D} seen left_by may_leave leaves reads faults limit old new clock found can broken s line fallen h up m whole place =
     let me = old.store.node in
     let state = server_seen old.memory old.store in
@@ -178,8 +179,8 @@ down_step {D} seen left_by may_leave leaves reads faults limit old new clock fou
     record {
       luck = x.luck;
       is_luck = x.is_luck;
-      is = as_up old h (λ (y : Host). IsStepDown seen may_leave limit me s (lines.Given place ∷ line ∷ []) (served me y clock place x.luck m)) up
-          (subst (λ (b : Option Blow). IsStepDown seen may_leave limit me s (lines.Given place ∷ line ∷ []) (served_by me (record { state = state; down = None; armed = old.armed }) clock place m b)) (sym hit) (record {
+      is = as_up old h (λ (y : ServerHost). IsStepDown seen may_leave limit me s (lines.Given place ∷ line ∷ []) (served (server_kind me) y clock place x.luck m)) up
+          (subst (λ (b : Option Blow). IsStepDown seen may_leave limit me s (lines.Given place ∷ line ∷ []) (served_by (server_kind me) (record { state = state; down = None; armed = old.armed }) clock place m b)) (sym hit) (record {
             host = record {
               fall = in_step m clock x.blow;
               down = refl;

@@ -12,8 +12,10 @@ use Rattle.afs_shape.specs.Taking.{◌>>=◌}
 use Rattle.afs_records.specs.Durable.{bad_by, bad_from, effect_of, first_bad, first_folded, fold_all, fold_from, folded, mark_of, nothing_on, Durable, StandFor}
 use Rattle.afs_records.specs.Records.{record_at, record_bytes}
 use Rattle.afs_records.proofs.Forms.{bound, some_is}
-use Rattle.afs_rows.specs.Runs.{at_rest, begun_by_disk, in_boot, in_step, Fall, MayFind}
-use Rattle.afs_rows.specs.ServerRow.{begun_after, begun_before, decides, drops, refuses, repeats, saves, shows, tells_boot, Begun, Decision}
+use Rattle.afs_rows.specs.Hosts.{at_rest, in_boot, in_step, Fall, MayFind}
+use Rattle.afs_rows.specs.ServerHosts.{begun_by_disk}
+use Rattle.afs_rows.specs.Steps.{begun_before, Begun}
+use Rattle.afs_rows.specs.ServerRow.{begun_after, decides, drops, refuses, repeats, saves, shows, tells_boot, Decision}
 use Rattle.afs_rows.specs.States.{Lasting, ServerState}
 use Rattle.afs_num.specs.declared.messages.Received.TheVariants.{Whole}
 use Rattle.afs_volstore.specs.Opening.{last_effect, last_from, lines_begun, lines_unless_told, same_mark}
@@ -123,8 +125,8 @@ finds_before me s fall mark records durable front capacity dc sc stands lines ma
     record {
       after = false;
       may = may;
-      read = ap lasting_of same ∙ (b.before.read ∙ ap (λ (x : Begun). x.state.lasting) (sym (state_before me s fall)));
-      before = λ ls. ap (λ (x : Begun). x.before ls) (state_before me s fall) ∙ ap (λ (f : List Line). f ++ ls) (sym none);
+      read = ap lasting_of same ∙ (b.before.read ∙ ap (λ (x : Begun ServerState). x.state.lasting) (sym (state_before me s fall)));
+      before = λ ls. ap (λ (x : Begun ServerState). x.before ls) (state_before me s fall) ∙ ap (λ (f : List Line). f ++ ls) (sym none);
     }
 
 finds_after : (me : Node) (s : ServerState) (fall : Fall) (mark : Mark) (records : List (List ℕ)) (durable : Durable) (front : List Line) (capacity : ℕ) → durable.capacity ≡ capacity → s.lasting.capacity ≡ capacity →

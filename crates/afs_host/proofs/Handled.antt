@@ -11,15 +11,15 @@ use Rattle.afs_history.specs.declared.lines.Outs.{Outs}
 use Rattle.afs_disk.specs.Disk.{PassesAll, Setting}
 use Rattle.afs_disk.specs.Fuses.{Fused}
 use Rattle.afs_model.specs.Messages.{received, received_by, FindsMessages}
-use Rattle.afs_rows.specs.Runs.{lowered, steady, Armed, Host}
+use Rattle.afs_rows.specs.Hosts.{lowered, steady, Armed, given, served}
+use Rattle.afs_rows.specs.ServerHosts.{ServerHost, server_kind}
 use Rattle.afs_rows.specs.ServerRow.{decides, device_calls, Decision}
 use Rattle.afs_rows.specs.ServerSteps.{server_row}
 use Rattle.afs_volstore.specs.Stores.{Store}
 use Rattle.afs_server.specs.Handling.{calls_served, server_seen, IsQuiet, Makes, SameStore}
 use Rattle.afs_server.specs.Seen.{Memory, Serves}
 use Rattle.afs_server.specs.declared.faults.NodeFault.TheVariants as nodes
-use Rattle.afs_host.specs.Hosts.{given, served}
-use Rattle.afs_host.specs.Seats.{CanRun, GoesOn, IsStepUp, IsUp, Running}
+use Rattle.afs_host.specs.Seats.{CanRun, GoesOn, IsStepUp, IsUp, ServerRunning}
 use Rattle.afs_host.specs.Serving.{RunsRow}
 use Rattle.afs_host.specs.Setting.{IsSet}
 use Rattle.afs_host.proofs.Stepping.{as_up, lowered_set, unstruck, up_step}
@@ -28,14 +28,14 @@ use Rattle.afs_host.proofs.Stepping.{as_up, lowered_set, unstruck, up_step}
 abbrev Moves : {D : Type 0} → Store D → Store D → Type 0
 Moves {D} s t = t ≡ record s { durable = t.durable; disk = t.disk; prepared = t.prepared; count = t.count; drawn = t.drawn }
 
-abbrev the_decision : {D : Type 0} → Running D → ℕ → List ℕ → Decision
+abbrev the_decision : {D : Type 0} → ServerRunning D → ℕ → List ℕ → Decision
 the_decision {D} old clock bytes = decides old.store.node (server_seen old.memory old.store) clock (received_by calls_served bytes)
 
-abbrev the_calls : {D : Type 0} → Running D → ℕ → List ℕ → ℕ
+abbrev the_calls : {D : Type 0} → ServerRunning D → ℕ → List ℕ → ℕ
 the_calls {D} old clock bytes = device_calls (server_seen old.memory old.store) clock (the_decision old clock bytes)
 
 -- what is known of a step that was made
-pub record Passed {D : Type 0} (clock : ℕ) (bytes : List ℕ) (old new : Running D) (outs : Outs) : Type 0 where
+pub record Passed {D : Type 0} (clock : ℕ) (bytes : List ℕ) (old new : ServerRunning D) (outs : Outs) : Type 0 where
   pub step : (place : ℕ) → Makes (server_row old.store.node (server_seen old.memory old.store) clock place (received_by calls_served bytes)) (lines.Given place ∷ []) new.memory new.store outs
   pub found : FindsMessages calls_served bytes
   pub serves : Serves new.store.node new.memory new.store.durable
@@ -49,29 +49,29 @@ pub record Passed {D : Type 0} (clock : ℕ) (bytes : List ℕ) (old new : Runni
   pub stop : new.store.disk.stop ≡ old.store.disk.stop
   pub fail : new.store.disk.fail ≡ old.store.disk.fail
 
-passed_so : {D : Type 0} (clock : ℕ) (bytes : List ℕ) (old new : Running D) (outs : Outs) → Passed clock bytes old new outs →
+passed_so : {D : Type 0} (clock : ℕ) (bytes : List ℕ) (old new : ServerRunning D) (outs : Outs) → Passed clock bytes old new outs →
     PassesAll (record { stop = old.store.disk.stop; fail = old.store.disk.fail }) old.store.disk.calls (old.store.disk.calls + the_calls old clock bytes)
 passed_so {D} clock bytes old new outs p = subst (PassesAll (record { stop = old.store.disk.stop; fail = old.store.disk.fail }) old.store.disk.calls) p.calls p.passes
 
-pub passed_step : {D : Type 0} (clock : ℕ) (bytes : List ℕ) (old new : Running D) (outs : Outs) → CanRun old → Passed clock bytes old new outs → (h : Host) → IsUp old h → (m : Message) → received bytes ≡ Whole m → (place : ℕ) →
-    IsStepUp new (lines.Given place ∷ []) outs (served old.store.node h clock place steady m)
+pub passed_step : {D : Type 0} (clock : ℕ) (bytes : List ℕ) (old new : ServerRunning D) (outs : Outs) → CanRun old → Passed clock bytes old new outs → (h : ServerHost) → IsUp old h → (m : Message) → received bytes ≡ Whole m → (place : ℕ) →
+    IsStepUp new (lines.Given place ∷ []) outs (served (server_kind old.store.node) h clock place steady m)
 passed_step {D} clock bytes old new outs can p h up m whole place =
     up_step old new h up old.store.node clock place m (received_by calls_served bytes) (p.found m whole) outs (p.step place) p.armed
     (unstruck old.armed old.store.disk (the_calls old clock bytes) can.set (passed_so clock bytes old new outs p))
 
 -- whatever the bytes are, it is the step of the row
-pub row_made : {D : Type 0} (clock : ℕ) (bytes : List ℕ) (old new : Running D) (outs : Outs) →
+pub row_made : {D : Type 0} (clock : ℕ) (bytes : List ℕ) (old new : ServerRunning D) (outs : Outs) →
     ((place : ℕ) → Makes (server_row old.store.node (server_seen old.memory old.store) clock place (received_by calls_served bytes)) (lines.Given place ∷ []) new.memory new.store outs) → new.armed ≡ lowered (the_calls old clock bytes) old.armed →
     RunsRow old clock bytes new (Ok outs)
 row_made {D} clock bytes old new outs step armed = λ h up place.
     let makes = step place in
-    as_up old h (λ (x : Host). IsStepUp new (lines.Given place ∷ []) outs (given old.store.node x clock place (received_by calls_served bytes))) up (record {
+    as_up old h (λ (x : ServerHost). IsStepUp new (lines.Given place ∷ []) outs (given (server_kind old.store.node) x clock place (received_by calls_served bytes))) up (record {
       host = record { state = sym makes.state; down = refl; armed = sym armed };
       lines = makes.lines;
       sent = makes.sent;
     })
 
-pub passed_goes_on : {D : Type 0} (clock : ℕ) (bytes : List ℕ) (old new : Running D) (outs : Outs) → CanRun old → Passed clock bytes old new outs → GoesOn 4 50 old new
+pub passed_goes_on : {D : Type 0} (clock : ℕ) (bytes : List ℕ) (old new : ServerRunning D) (outs : Outs) → CanRun old → Passed clock bytes old new outs → GoesOn 4 50 old new
 passed_goes_on {D} clock bytes old new outs can p = record {
   node = ap (λ (t : Store (Fused D)). t.node) p.store;
   can_run = record {
@@ -96,7 +96,7 @@ same_set {D} armed f t set stop fail calls = record {
   due = set.due;
 }
 
-pub same_goes_on : {D : Type 0} (old new : Running D) → CanRun old → new.memory ≡ old.memory → new.armed ≡ old.armed → SameStore old.store new.store → new.store.disk.stop ≡ old.store.disk.stop → new.store.disk.fail ≡ old.store.disk.fail → new.store.disk.calls ≡ old.store.disk.calls →
+pub same_goes_on : {D : Type 0} (old new : ServerRunning D) → CanRun old → new.memory ≡ old.memory → new.armed ≡ old.armed → SameStore old.store new.store → new.store.disk.stop ≡ old.store.disk.stop → new.store.disk.fail ≡ old.store.disk.fail → new.store.disk.calls ≡ old.store.disk.calls →
     GoesOn 4 50 old new
 same_goes_on {D} old new can memory armed store stop fail calls = record {
   node = ap (λ (t : Store (Fused D)). t.node) store;

@@ -12,12 +12,13 @@ use Rattle.afs_records.specs.Durable.{effect_of, first_folded, fold_all, fold_fr
 use Rattle.afs_records.specs.Records.{record_at, record_bytes}
 use Rattle.afs_volstore.specs.Stands.{Stands}
 use Rattle.afs_records.proofs.Forms.{bound, some_is}
-use Rattle.afs_rows.specs.Runs.{begun_by_disk, Fall, MayFind}
+use Rattle.afs_rows.specs.ServerHosts.{begun_by_disk}
+use Rattle.afs_rows.specs.Hosts.{Fall, MayFind}
 use Rattle.afs_rows.specs.States.{Lasting, ServerState}
 use Rattle.afs_volstore.specs.Stores.{IsCounted, IsKept, StandsAround}
 use Rattle.afs_memory.specs.Telling.{in_words}
 use Rattle.afs_server.specs.Seen.{lasting_of}
-use Rattle.afs_host.specs.Seats.{count_mark}
+use Rattle.afs_host.specs.Views.{count_mark}
 use Rattle.afs_host.specs.Standing.{record_of_fall, Lies, LiesAfter, LiesAs, LiesBefore, LiesFound, LiesIn, StandsFor}
 
 pub some_of : {A : Type 0} (o : Option A) → IsSome o → (x : A) × (o ≡ Some x)

@@ -14,13 +14,13 @@ use Rattle.afs_journal.specs.Log.{IsJournal, StandsAsBefore}
 use Rattle.afs_journal.specs.Records.{journal_bytes, whole_records}
 use Rattle.afs_records.specs.Durable.{first_bad, StandFor}
 use Rattle.afs_volstore.specs.Stands.{Stands}
-use Rattle.afs_rows.specs.Runs.{at_rest, begun_by_disk, comes_up, fails_early, fails_midway, in_boot, is_full, settled, Fall, Host, MayFind, Outcome}
-use Rattle.afs_rows.specs.ServerRow.{Begun}
+use Rattle.afs_rows.specs.Hosts.{at_rest, comes_up, fails_early, fails_midway, in_boot, is_full, settled, Fall, MayFind, Outcome, ends, falls, restarted, HostStep}
+use Rattle.afs_rows.specs.ServerHosts.{begun_by_disk, ServerHost, server_kind}
+use Rattle.afs_rows.specs.Steps.{Begun}
 use Rattle.afs_volstore.specs.Opening.{lines_begun, IsAttachFault}
 use Rattle.afs_volstore.specs.Stores.{IsCaused, Store}
 use Rattle.afs_server.specs.Seen.{lasting_of}
-use Rattle.afs_host.specs.Hosts.{ends, falls, restarted, HostStep}
-use Rattle.afs_host.specs.Seats.{disk_of, IsDown, IsStepDown, IsStepUp, Resting, Running}
+use Rattle.afs_host.specs.Seats.{disk_of, IsDown, IsStepDown, IsStepUp, Resting, ServerRunning}
 use Rattle.afs_host.specs.Standing.{Lies, LiesFound, LiesIn}
 use Rattle.afs_host.specs.Starting.{disk_started, BootsFrom, BootsOver, GoesOnBooted, HasStarted, IsFound, IsRefused, IsStarted, StartsOver}
 use Rattle.afs_host.specs.declared.starting.Start.{Start}
@@ -43,7 +43,7 @@ own_quiet setting last a b c d refusal caused is = (subst (IsCaused setting last
 -- ---- the disk was taken up
 
 -- what is known of a store that was made of the disk of a server that was down, and of what became of its boot
-pub record TakenUp {D : Type 0} (seen : D → Option (List ℕ)) (may_leave : D → List ℕ → Type 0) (faults limit : D → ℕ) (me : Node) (clock count : ℕ) (old : Resting D) (s : Store (Fused D)) (front : List Line) (result : Start (Running D) (Resting D)) : Type 0 where
+pub record TakenUp {D : Type 0} (seen : D → Option (List ℕ)) (may_leave : D → List ℕ → Type 0) (faults limit : D → ℕ) (me : Node) (clock count : ℕ) (old : Resting D) (s : Store (Fused D)) (front : List Line) (result : Start (ServerRunning D) (Resting D)) : Type 0 where
   pub node : s.node ≡ me
   pub shows : (disk : D) (bytes : List ℕ) → seen disk ≡ Some bytes → may_leave disk bytes
   pub stands : (bytes : List ℕ) → seen old.disk ≡ Some bytes → Stands bytes s.durable
@@ -52,18 +52,18 @@ pub record TakenUp {D : Type 0} (seen : D → Option (List ℕ)) (may_leave : D 
   pub counted : (bytes : List ℕ) → seen old.disk ≡ Some bytes → s.count ≡ length (whole_records bytes)
   pub capacity : s.durable.capacity ≡ limit old.disk
   pub quiet : faults s.disk.disk ≡ faults old.disk
-  pub boots : (begun : Begun) (records : List (List ℕ)) → IsFound seen begun records front s → BootsFrom seen may_leave faults limit begun records s.node clock count s.disk.disk result
+  pub boots : (begun : Begun ServerState) (records : List (List ℕ)) → IsFound seen begun records front s → BootsFrom seen may_leave faults limit begun records s.node clock count s.disk.disk result
   pub goes_on : GoesOnBooted s old.mark result
   pub same_limit : limit (disk_started result) ≡ limit old.disk
 
 -- what was found of the host
-record Taken {D : Type 0} (seen : D → Option (List ℕ)) (me : Node) (h : Host) (fall : Fall) (mark : Mark) (front : List Line) (s : Store (Fused D)) (bytes : List ℕ) : Type 0 where
+record Taken {D : Type 0} (seen : D → Option (List ℕ)) (me : Node) (h : ServerHost) (fall : Fall) (mark : Mark) (front : List Line) (s : Store (Fused D)) (bytes : List ℕ) : Type 0 where
   lies : LiesFound me h.state fall mark (whole_records bytes)
   what : Finds me h.state fall s.durable front
   found : IsFound seen (begun_by_disk me h.state what.after fall) (whole_records bytes) front s
 
-taken : {D : Type 0} (seen : D → Option (List ℕ)) (may_leave : D → List ℕ → Type 0) (faults limit : D → ℕ) (me : Node) (clock count : ℕ) (old : Resting D) (s : Store (Fused D)) (front : List Line) (result : Start (Running D) (Resting D)) →
-    TakenUp seen may_leave faults limit me clock count old s front result → (told : IsSome (seen old.disk)) → (h : Host) (was : IsDown seen may_leave limit me old h) → Taken seen me h was.fall old.mark front s (some_of (seen old.disk) told).0
+taken : {D : Type 0} (seen : D → Option (List ℕ)) (may_leave : D → List ℕ → Type 0) (faults limit : D → ℕ) (me : Node) (clock count : ℕ) (old : Resting D) (s : Store (Fused D)) (front : List Line) (result : Start (ServerRunning D) (Resting D)) →
+    TakenUp seen may_leave faults limit me clock count old s front result → (told : IsSome (seen old.disk)) → (h : ServerHost) (was : IsDown seen may_leave limit me old h) → Taken seen me h was.fall old.mark front s (some_of (seen old.disk) told).0
 taken {D} seen may_leave faults limit me clock count old s front result t told h was =
     let bytes = some_of (seen old.disk) told in
     let lies = was.found bytes.0 bytes.1 in
@@ -81,41 +81,41 @@ taken {D} seen may_leave faults limit me clock count old s front result t told h
       };
     }
 
-started_up : {D : Type 0} (seen : D → Option (List ℕ)) (may_leave : D → List ℕ → Type 0) (faults limit : D → ℕ) (me : Node) (clock count : ℕ) (h : Host) (fall : Fall) (after : Bool) → MayFind fall after → (records : List (List ℕ)) (disk : D) (rose : Type 0) (r : Running D) (outs : Outs) →
-    BootsFrom seen may_leave faults limit (begun_by_disk me h.state after fall) records me clock count disk (starts.Up r outs) → HasStarted me h clock count fall (IsStepUp r [] outs) rose
+started_up : {D : Type 0} (seen : D → Option (List ℕ)) (may_leave : D → List ℕ → Type 0) (faults limit : D → ℕ) (me : Node) (clock count : ℕ) (h : ServerHost) (fall : Fall) (after : Bool) → MayFind fall after → (records : List (List ℕ)) (disk : D) (rose : Type 0) (r : ServerRunning D) (outs : Outs) →
+    BootsFrom seen may_leave faults limit (begun_by_disk me h.state after fall) records me clock count disk (starts.Up r outs) → HasStarted (server_kind me) h clock count fall (IsStepUp r [] outs) rose
 started_up {D} seen may_leave faults limit me clock count h fall after may records disk rose r outs b = record {
   after = after;
   may = may;
   outcome = comes_up;
-  is = subst (λ (o : Outcome). IsStepUp r [] outs (ends me h clock count (begun_by_disk me h.state after fall) fall o)) (sym b.0) b.1;
+  is = subst (λ (o : Outcome). IsStepUp r [] outs (ends (server_kind me) h clock count (begun_by_disk me h.state after fall) fall o)) (sym b.0) b.1;
   blame = λ impossible. absurd impossible;
 }
 
-started_down : {D : Type 0} (seen : D → Option (List ℕ)) (may_leave : D → List ℕ → Type 0) (faults limit : D → ℕ) (me : Node) (clock count : ℕ) (h : Host) (fall : Fall) (after : Bool) → MayFind fall after → (records : List (List ℕ)) (disk : D) (rose : Type 0) (d : Resting D) (ls : List Line) → (Rose (faults disk) (faults d.disk) → rose) →
-    BootsFrom seen may_leave faults limit (begun_by_disk me h.state after fall) records me clock count disk (starts.Down d ls) → HasStarted me h clock count fall (IsStepDown seen may_leave limit me d ls) rose
+started_down : {D : Type 0} (seen : D → Option (List ℕ)) (may_leave : D → List ℕ → Type 0) (faults limit : D → ℕ) (me : Node) (clock count : ℕ) (h : ServerHost) (fall : Fall) (after : Bool) → MayFind fall after → (records : List (List ℕ)) (disk : D) (rose : Type 0) (d : Resting D) (ls : List Line) → (Rose (faults disk) (faults d.disk) → rose) →
+    BootsFrom seen may_leave faults limit (begun_by_disk me h.state after fall) records me clock count disk (starts.Down d ls) → HasStarted (server_kind me) h clock count fall (IsStepDown seen may_leave limit me d ls) rose
 started_down {D} seen may_leave faults limit me clock count h fall after may records disk rose d ls since (inl full) = record {
   after = after;
   may = may;
   outcome = is_full;
-  is = subst (λ (o : Outcome). IsStepDown seen may_leave limit me d ls (ends me h clock count (begun_by_disk me h.state after fall) fall o)) (sym full.0) full.1;
+  is = subst (λ (o : Outcome). IsStepDown seen may_leave limit me d ls (ends (server_kind me) h clock count (begun_by_disk me h.state after fall) fall o)) (sym full.0) full.1;
   blame = λ impossible. absurd impossible;
 }
 started_down {D} seen may_leave faults limit me clock count h fall after may records disk rose d ls since (inr failed) = record {
   after = after;
   may = may;
   outcome = fails_midway;
-  is = subst (λ (o : Outcome). IsStepDown seen may_leave limit me d ls (ends me h clock count (begun_by_disk me h.state after fall) fall o)) (sym failed.0) failed.1.0;
+  is = subst (λ (o : Outcome). IsStepDown seen may_leave limit me d ls (ends (server_kind me) h clock count (begun_by_disk me h.state after fall) fall o)) (sym failed.0) failed.1.0;
   blame = λ own. since failed.1.1;
 }
 
 -- the same records lie there as before
-same_lies : (me : Node) (h : Host) (fall : Fall) (mark : Mark) (bytes c : List ℕ) → whole_records c ≡ whole_records bytes → Lies me h.state fall mark bytes → Lies me h.state fall mark c
+same_lies : (me : Node) (h : ServerHost) (fall : Fall) (mark : Mark) (bytes c : List ℕ) → whole_records c ≡ whole_records bytes → Lies me h.state fall mark bytes → Lies me h.state fall mark c
 same_lies me h fall mark bytes c same lies = subst (LiesIn me h.state fall mark) (sym same) lies
 
-same_found : (me : Node) (h : Host) (fall : Fall) (mark : Mark) (bytes c : List ℕ) → whole_records c ≡ whole_records bytes → LiesFound me h.state fall mark (whole_records bytes) → LiesFound me h.state fall mark (whole_records c)
+same_found : (me : Node) (h : ServerHost) (fall : Fall) (mark : Mark) (bytes c : List ℕ) → whole_records c ≡ whole_records bytes → LiesFound me h.state fall mark (whole_records bytes) → LiesFound me h.state fall mark (whole_records c)
 same_found me h fall mark bytes c same lies = subst (LiesFound me h.state fall mark) (sym same) lies
 
-pub taken_up : {D : Type 0} (seen : D → Option (List ℕ)) (may_leave : D → List ℕ → Type 0) (faults limit : D → ℕ) (me : Node) (clock count : ℕ) (old : Resting D) (s : Store (Fused D)) (front : List Line) (result : Start (Running D) (Resting D)) →
+pub taken_up : {D : Type 0} (seen : D → Option (List ℕ)) (may_leave : D → List ℕ → Type 0) (faults limit : D → ℕ) (me : Node) (clock count : ℕ) (old : Resting D) (s : Store (Fused D)) (front : List Line) (result : Start (ServerRunning D) (Resting D)) →
     TakenUp seen may_leave faults limit me clock count old s front result → IsSome (seen old.disk) → IsStarted seen may_leave faults limit me clock count old result
 taken_up {D} seen may_leave faults limit me clock count old s front (starts.Up r outs) t told = λ h was.
     let k = taken seen may_leave faults limit me clock count old s front (starts.Up r outs) t told h was in
@@ -156,7 +156,7 @@ pub record Refused {D : Type 0} (seen : D → Option (List ℕ)) (may_leave : D 
   pub failed : refusal ≡ refusals.Failed → Rose (faults old.disk) (faults new.disk)
 
 abbrev still_down : {D : Type 0} (seen : D → Option (List ℕ)) (may_leave : D → List ℕ → Type 0) (moment : D → ℕ) (left_since : D → ℕ → List ℕ → Type 0) (now : (disk : D) (t : ℕ) (c : List ℕ) → t ≤ moment disk → may_leave disk c → left_since disk t c) (faults limit : D → ℕ) (refusal : StoreFault) (me : Node) (old new : Resting D) →
-    Refused seen may_leave moment left_since faults limit refusal old new → (h : Host) → IsDown seen may_leave limit me old h → IsDown seen may_leave limit me new h
+    Refused seen may_leave moment left_since faults limit refusal old new → (h : ServerHost) → IsDown seen may_leave limit me old h → IsDown seen may_leave limit me new h
 still_down {D} seen may_leave moment left_since now faults limit refusal me old new r h was = record {
   fall = was.fall;
   down = was.down;
@@ -175,7 +175,7 @@ still_down {D} seen may_leave moment left_since now faults limit refusal me old 
 
 -- a disk that tells has no record that can't be taken
 why_refused : {D : Type 0} (seen : D → Option (List ℕ)) (may_leave : D → List ℕ → Type 0) (moment : D → ℕ) (left_since : D → ℕ → List ℕ → Type 0) (faults limit : D → ℕ) (refusal : StoreFault) (me : Node) (old new : Resting D) →
-    Refused seen may_leave moment left_since faults limit refusal old new → (told : IsSome (seen old.disk)) (h : Host) → IsDown seen may_leave limit me old h → (f : StoreFault) → refusal ≡ f → IsAttachFault f → (refusal ≡ refusals.OutOfMemory → ⊥) → Rose (faults old.disk) (faults new.disk)
+    Refused seen may_leave moment left_since faults limit refusal old new → (told : IsSome (seen old.disk)) (h : ServerHost) → IsDown seen may_leave limit me old h → (f : StoreFault) → refusal ≡ f → IsAttachFault f → (refusal ≡ refusals.OutOfMemory → ⊥) → Rose (faults old.disk) (faults new.disk)
 why_refused {D} seen may_leave moment left_since faults limit refusal me old new r told h was refusals.Failed is ok other = r.failed is
 why_refused {D} seen may_leave moment left_since faults limit refusal me old new r told h was refusals.OutOfMemory is ok other = absurd (other is)
 why_refused {D} seen may_leave moment left_since faults limit refusal me old new r told h was (refusals.BadRecord number) is ok other =
@@ -185,7 +185,7 @@ why_refused {D} seen may_leave moment left_since faults limit refusal me old new
 why_refused {D} seen may_leave moment left_since faults limit refusal me old new r told h was refusals.Closed is ok other = absurd ok
 
 pub refused_so : {D : Type 0} (seen : D → Option (List ℕ)) (may_leave : D → List ℕ → Type 0) (moment : D → ℕ) (left_since : D → ℕ → List ℕ → Type 0) (now : (disk : D) (t : ℕ) (c : List ℕ) → t ≤ moment disk → may_leave disk c → left_since disk t c) (faults limit : D → ℕ) (refusal : StoreFault) (me : Node) (clock count : ℕ) (old new : Resting D) →
-    Refused seen may_leave moment left_since faults limit refusal old new → (result : Start (Running D) (Resting D)) → IsRefused refusal new (lines.Fault me ∷ []) result → IsSome (seen old.disk) → IsStarted seen may_leave faults limit me clock count old result
+    Refused seen may_leave moment left_since faults limit refusal old new → (result : Start (ServerRunning D) (Resting D)) → IsRefused refusal new (lines.Fault me ∷ []) result → IsSome (seen old.disk) → IsStarted seen may_leave faults limit me clock count old result
 refused_so {D} seen may_leave moment left_since now faults limit refusal me clock count old new r (starts.Up up outs) so told = absurd so
 refused_so {D} seen may_leave moment left_since now faults limit refusal me clock count old new r (starts.Down d ls) so told = λ h was.
     let down = still_down seen may_leave moment left_since now faults limit refusal me old new r h was in
@@ -210,7 +210,7 @@ refused_so {D} seen may_leave moment left_since now faults limit refusal me cloc
 -- ---- whatever the disk tells
 
 pub boots_over : {D : Type 0} (seen : D → Option (List ℕ)) (faults limit : D → ℕ) (me : Node) (clock count : ℕ) (old : Resting D) (s : Store (Fused D)) (front : List Line) → s.durable.capacity ≡ limit old.disk →
-    (result : Start (Running D) (Resting D)) → BootsOver faults s.durable front me clock count (faults old.disk) result → StartsOver seen faults limit me clock count old result
+    (result : Start (ServerRunning D) (Resting D)) → BootsOver faults s.durable front me clock count (faults old.disk) result → StartsOver seen faults limit me clock count old result
 boots_over {D} seen faults limit me clock count old s front capacity (starts.Up r outs) boots = record { durable = s.durable; capacity = capacity; front = front; boots = boots }
 boots_over {D} seen faults limit me clock count old s front capacity (starts.Down d ls) boots = inr (record { durable = s.durable; capacity = capacity; front = front; boots = boots })
 boots_over {D} seen faults limit me clock count old s front capacity (starts.Unchanged d) boots = boots
@@ -228,7 +228,7 @@ cause_over {D} seen faults limit old new refusal bad failed refusals.Closed is o
 
 pub refused_over : {D : Type 0} (seen : D → Option (List ℕ)) (faults limit : D → ℕ) (me : Node) (clock count : ℕ) (old new : Resting D) (refusal : StoreFault) → new.mark ≡ old.mark → IsAttachFault refusal →
     ((number : ℕ) → refusal ≡ refusals.BadRecord number → (bytes : List ℕ) → seen old.disk ≡ Some bytes → first_bad (limit old.disk) (whole_records bytes) ≡ Some number) → (refusal ≡ refusals.Failed → Rose (faults old.disk) (faults new.disk)) →
-    (refusal ≡ refusals.OutOfMemory → faults new.disk ≡ faults old.disk) → (result : Start (Running D) (Resting D)) → IsRefused refusal new (lines.Fault me ∷ []) result → StartsOver seen faults limit me clock count old result
+    (refusal ≡ refusals.OutOfMemory → faults new.disk ≡ faults old.disk) → (result : Start (ServerRunning D) (Resting D)) → IsRefused refusal new (lines.Fault me ∷ []) result → StartsOver seen faults limit me clock count old result
 refused_over {D} seen faults limit me clock count old new refusal mark ok bad failed quiet (starts.Up up outs) so = absurd so
 refused_over {D} seen faults limit me clock count old new refusal mark ok bad failed quiet (starts.Down d ls) so = inl (record {
   mark = ap (λ (x : Resting D). x.mark) so.1.0 ∙ mark;

@@ -27,21 +27,21 @@ use Rattle.afs_model.specs.Calls as pairs
 use Rattle.afs_model.specs.CellRows.{call_number}
 use Rattle.afs_model.specs.Messages.{is_unserved, is_whole, messages_spelled, FoundBy}
 use Rattle.afs_rows.specs.Callbacks.{expired, turned_in}
-use Rattle.afs_rows.specs.Runs.{fail_blow, lowered, sooner, steady, stop_blow, struck, within, Armed, Blow, Host}
+use Rattle.afs_rows.specs.Hosts.{fail_blow, lowered, sooner, steady, stop_blow, struck, within, Armed, Blow, goes, served, served_by, HostStep}
+use Rattle.afs_rows.specs.ServerHosts.{ServerHost, server_kind}
 use Rattle.afs_rows.specs.ServerRow.{admits, called, decides, device_calls, drops, hears, is_client, not_served, refuses, repeats, runs, runs_carried, runs_received, saves, serves_call, shows, tells_boot, whole, Decision}
 use Rattle.afs_rows.specs.ServerSteps.{done, server_row}
 use Rattle.afs_rows.specs.States.{BackCall, ServerState}
 use Rattle.afs_rows.specs.Steps.{Step}
 use Rattle.afs_records.proofs.Forms.{some_is}
 use Rattle.afs_volstore.specs.Stores.{Store}
-use Rattle.afs_server_parts.specs.Called.{calls_seen}
+use Rattle.afs_server_parts.specs.Called.{call_to}
 use Rattle.afs_server.specs.Handling.{calls_served, record_decided, server_seen, IsDone, Makes}
-use Rattle.afs_host.specs.Hosts.{goes, served, served_by, HostStep}
-use Rattle.afs_host.specs.Seats.{waits_for, IsStepUp, IsUp, Running}
+use Rattle.afs_host.specs.Seats.{waits_for, IsStepUp, IsUp, ServerRunning}
 use Rattle.afs_host.specs.Setting.{IsSet}
 
 -- what holds of the host that is just the server's state holds of each for which it stands
-pub as_up : {D : Type 0} (r : Running D) (h : Host) (P : Host → Type 0) → IsUp r h → P (record { state = server_seen r.memory r.store; down = None; armed = r.armed }) → P h
+pub as_up : {D : Type 0} (r : ServerRunning D) (h : ServerHost) (P : ServerHost → Type 0) → IsUp r h → P (record { state = server_seen r.memory r.store; down = None; armed = r.armed }) → P h
 as_up {D} r h P up p =
     let state = subst (λ (s : ServerState). P (record { state = s; down = None; armed = r.armed })) (sym up.state) p in
     let down = subst (λ d. P (record { state = h.state; down = d; armed = r.armed })) (sym up.down) state in
@@ -200,17 +200,17 @@ made_calls {D} x clock (shows head r) s t done = omega (arith, done.1)
 made_calls {D} x clock (saves head c) s t done = omega (arith, done.1)
 
 -- the step was made: the host's, where nothing hit it
-pub up_step : {D : Type 0} (old new : Running D) (h : Host) → IsUp old h → (me : Node) (clock place : ℕ) (m : Message) (found : Received) → FoundBy calls_served m found → (outs : Outs) →
+pub up_step : {D : Type 0} (old new : ServerRunning D) (h : ServerHost) → IsUp old h → (me : Node) (clock place : ℕ) (m : Message) (found : Received) → FoundBy calls_served m found → (outs : Outs) →
     Makes (server_row me (server_seen old.memory old.store) clock place found) (lines.Given place ∷ []) new.memory new.store outs →
     new.armed ≡ lowered (device_calls (server_seen old.memory old.store) clock (decides me (server_seen old.memory old.store) clock found)) old.armed →
     struck old.armed steady (device_calls (server_seen old.memory old.store) clock (decides me (server_seen old.memory old.store) clock found)) ≡ None →
-    IsStepUp new (lines.Given place ∷ []) outs (served me h clock place steady m)
+    IsStepUp new (lines.Given place ∷ []) outs (served (server_kind me) h clock place steady m)
 up_step {D} old new h up me clock place m found by outs makes armed none =
     let s = server_seen old.memory old.store in
     let same = same_row me s clock m found by in
     let nothing = subst (λ (d : Decision). struck old.armed steady (device_calls s clock d) ≡ None) same.decision none in
-    as_up old h (λ (x : Host). IsStepUp new (lines.Given place ∷ []) outs (served me x clock place steady m)) up
-    (subst (λ (b : Option Blow). IsStepUp new (lines.Given place ∷ []) outs (served_by me (record { state = s; down = None; armed = old.armed }) clock place m b)) (sym nothing) (record {
+    as_up old h (λ (x : ServerHost). IsStepUp new (lines.Given place ∷ []) outs (served (server_kind me) x clock place steady m)) up
+    (subst (λ (b : Option Blow). IsStepUp new (lines.Given place ∷ []) outs (served_by (server_kind me) (record { state = s; down = None; armed = old.armed }) clock place m b)) (sym nothing) (record {
       host = record {
         state = ap (λ (x : Step ServerState). x.state) (sym (same.row place)) ∙ sym makes.state;
         down = refl;
@@ -230,10 +230,10 @@ called_none : (o : Option BackCall) → is_some o ≡ false → o ≡ None
 called_none None e = refl
 called_none (Some b) e = absurd cc
 
-pub waits_some : {D : Type 0} (r : Running D) (h : Host) (callee : Node) → IsUp r h → waits_for r callee ≡ true → (b : BackCall) × (h.state.backs.calls callee ≡ Some b)
+pub waits_some : {D : Type 0} (r : ServerRunning D) (h : ServerHost) (callee : Node) → IsUp r h → waits_for r callee ≡ true → (b : BackCall) × (h.state.backs.calls callee ≡ Some b)
 waits_some {D} r h callee up waits =
-    let b = called_one (calls_seen r.memory.callees callee) waits in
+    let b = called_one (call_to r.memory.callees callee) waits in
     (b.0, ap (λ (s : ServerState). s.backs.calls callee) up.state ∙ b.1)
 
-pub waits_none : {D : Type 0} (r : Running D) (h : Host) (callee : Node) → IsUp r h → waits_for r callee ≡ false → h.state.backs.calls callee ≡ None
-waits_none {D} r h callee up waits = ap (λ (s : ServerState). s.backs.calls callee) up.state ∙ called_none (calls_seen r.memory.callees callee) waits
+pub waits_none : {D : Type 0} (r : ServerRunning D) (h : ServerHost) (callee : Node) → IsUp r h → waits_for r callee ≡ false → h.state.backs.calls callee ≡ None
+waits_none {D} r h callee up waits = ap (λ (s : ServerState). s.backs.calls callee) up.state ∙ called_none (call_to r.memory.callees callee) waits

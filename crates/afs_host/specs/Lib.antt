@@ -1,6 +1,7 @@
-pub mod Hosts
+pub mod Seated
 pub mod Seats
 pub mod Serving
 pub mod Setting
 pub mod Standing
 pub mod Starting
+pub mod Views

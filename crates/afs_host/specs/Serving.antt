@@ -11,22 +11,23 @@ use Rattle.afs_disk.specs.Disk.{IsBeyond, LeavesJust, Rose, Trips}
 use Rattle.afs_journal.specs.Left.{is_left_whole, ReachesCall}
 use Rattle.afs_journal.specs.Records.{whole_records}
 use Rattle.afs_model.specs.Messages.{received, received_by}
-use Rattle.afs_rows.specs.Runs.{in_step, steady, Blow, Host, Luck}
+use Rattle.afs_rows.specs.Hosts.{fall_line, given, in_step, served, steady, Armed, Blow, GivesOut, Host, HostStep, IsLuck, Kind, Luck}
+use Rattle.afs_rows.specs.ServerHosts.{server_kind, ServerHost}
 use Rattle.afs_rows.specs.ServerRow.{decides, device_calls}
 use Rattle.afs_server.specs.Handling.{calls_served, server_seen, IsClosed}
 use Rattle.afs_server.specs.declared.faults.NodeFault.{NodeFault}
 use Rattle.afs_server.specs.declared.faults.NodeFault.TheVariants as nodes
-use Rattle.afs_host.specs.Hosts.{fall_line, given, served, GivesOut, HostStep, IsLuck}
-use Rattle.afs_host.specs.Seats.{count_mark, disk_of, GoesOn, IsSame, IsStepDown, IsStepUp, IsUp, Resting, Running}
+use Rattle.afs_host.specs.Seats.{disk_of, GoesOn, IsSame, IsStepDown, IsStepUp, IsUp, Resting, ServerRunning}
 use Rattle.afs_host.specs.Setting.{pick_of, stops_now}
 use Rattle.afs_host.specs.Standing.{Lies, LiesAs}
+use Rattle.afs_host.specs.Views.{count_mark, shown_store, StoreView}
 
 -- What became of a server that was given a message: it is up, and gave this out; or it went down, as this line tells. Or memory
 -- ran out, and then nothing was done.
 pub data Served (D : Type 0) : Type 0 where
-  is_up : Running D → Outs → Served D
+  is_up : ServerRunning D → Outs → Served D
   is_down : Resting D → Line → Served D
-  unchanged : Running D → Served D
+  unchanged : ServerRunning D → Served D
 
 -- the disk, whatever became of the server
 abbrev pub disk_served : {D : Type 0} → Served D → D
@@ -34,31 +35,31 @@ disk_served {D} (is_up r outs) = disk_of r
 disk_served {D} (is_down s line) = s.disk
 disk_served {D} (unchanged r) = disk_of r
 
--- With some luck of the disk the step of the host is this. Where the disk fails by itself, its count rose.
-pub record HasServed (me : Node) (h : Host) (clock place : ℕ) (m : Message) (Is : HostStep → Type 0) (rose : Type 0) : Type 0 where
+-- With some luck of the disk the step of the host, of a node of this kind, is this. Where the disk fails by itself, its count rose.
+pub record HasServed {S : Type 0} (kind : Kind S) (h : Host S) (clock place : ℕ) (m : Message) (Is : HostStep S → Type 0) (rose : Type 0) : Type 0 where
   pub luck : Luck
   pub is_luck : IsLuck luck
-  pub is : Is (served me h clock place luck m)
+  pub is : Is (served kind h clock place luck m)
   pub blame : GivesOut luck → rose
 
 -- So it is of each host that the server stands for, and of the message that was found, at any place: the server is up, and gave
 -- this out after the line of the place; or it went down, and that line and this are all. Or memory ran out, and it is as it was.
 abbrev pub IsServed : {D : Type 0} → (D → Option (List ℕ)) → (D → ℕ → Option (List ℕ)) → (D → ℕ) → (D → List ℕ → Type 0) → (D → ℕ) → (D → ℕ → List ℕ → Type 0) → (D → ℕ) → (D → ℕ) →
-    Running D → ℕ → Received → Served D → Type 0
+    ServerRunning D → ℕ → Received → Served D → Type 0
 IsServed {D} seen left_by size may_leave moment left_since faults limit old clock found (is_up r outs) =
-    (h : Host) → IsUp old h → (m : Message) → found ≡ Whole m → (place : ℕ) →
-    HasServed old.store.node h clock place m (IsStepUp r (lines.Given place ∷ []) outs) (Rose (faults (disk_of old)) (faults (disk_of r)))
+    (h : ServerHost) → IsUp old h → (m : Message) → found ≡ Whole m → (place : ℕ) →
+    HasServed (server_kind old.store.node) h clock place m (IsStepUp r (lines.Given place ∷ []) outs) (Rose (faults (disk_of old)) (faults (disk_of r)))
 IsServed {D} seen left_by size may_leave moment left_since faults limit old clock found (is_down s line) =
-    (h : Host) → IsUp old h → (m : Message) → found ≡ Whole m → (place : ℕ) →
-    HasServed old.store.node h clock place m (IsStepDown seen may_leave limit old.store.node s (lines.Given place ∷ line ∷ [])) (Rose (faults (disk_of old)) (faults s.disk))
+    (h : ServerHost) → IsUp old h → (m : Message) → found ≡ Whole m → (place : ℕ) →
+    HasServed (server_kind old.store.node) h clock place m (IsStepDown seen may_leave limit old.store.node s (lines.Given place ∷ line ∷ [])) (Rose (faults (disk_of old)) (faults s.disk))
 IsServed {D} seen left_by size may_leave moment left_since faults limit old clock found (unchanged r) =
     IsSame seen left_by size may_leave moment left_since old r
 
 -- Whatever the bytes are, the server makes the step of its row on what it finds in them; or it went down, and they are those of a
 -- message.
-abbrev pub MakesRow : {D : Type 0} → Running D → ℕ → List ℕ → Served D → Type 0
+abbrev pub MakesRow : {D : Type 0} → ServerRunning D → ℕ → List ℕ → Served D → Type 0
 MakesRow {D} old clock bytes (is_up r outs) =
-    (h : Host) → IsUp old h → (place : ℕ) → IsStepUp r (lines.Given place ∷ []) outs (given old.store.node h clock place (received_by calls_served bytes))
+    (h : ServerHost) → IsUp old h → (place : ℕ) → IsStepUp r (lines.Given place ∷ []) outs (given (server_kind old.store.node) h clock place (received_by calls_served bytes))
 MakesRow {D} old clock bytes (is_down s line) = (m : Message) × (received bytes ≡ Whole m)
 MakesRow {D} old clock bytes (unchanged r) = Unit {0}
 
@@ -67,7 +68,7 @@ MakesRow {D} old clock bytes (unchanged r) = Unit {0}
 -- The store's device call failed, and with it the step: a record was begun. Whatever a crash may leave of the disk now stands for the
 -- state before the step or after it. At most four device calls came, and the last was set to trip, or the disk failed by itself. Where
 -- it was set, what a crash with each pick leaves is told by that call.
-pub record IsBroken {D : Type 0} (seen : D → Option (List ℕ)) (left_by : D → ℕ → Option (List ℕ)) (may_leave : D → List ℕ → Type 0) (faults limit : D → ℕ) (old : Running D) (clock : ℕ) (found : Received) (new : Running D) : Type 0 where
+pub record IsBroken {D : Type 0} (seen : D → Option (List ℕ)) (left_by : D → ℕ → Option (List ℕ)) (may_leave : D → List ℕ → Type 0) (faults limit : D → ℕ) (old : ServerRunning D) (clock : ℕ) (found : Received) (new : ServerRunning D) : Type 0 where
   pub armed : new.armed ≡ old.armed
   pub closed : IsClosed old.store new.store
   pub lies : (m : Message) (b : Blow) → found ≡ Whole m → IsSome (seen (disk_of new)) → (c : List ℕ) → may_leave (disk_of new) c → Lies old.store.node (server_seen old.memory old.store) (in_step m clock b) (count_mark old.store.count) c
@@ -83,45 +84,49 @@ pub record IsBroken {D : Type 0} (seen : D → Option (List ℕ)) (left_by : D �
 
 -- of a server that was given a message, as long as it is one
 abbrev pub IsHandled : {D : Type 0} → (D → Option (List ℕ)) → (D → ℕ → Option (List ℕ)) → (D → ℕ) → (D → List ℕ → Type 0) → (D → ℕ) → (D → ℕ → List ℕ → Type 0) → (D → ℕ) → (D → ℕ) →
-    Running D → ℕ → Received → Running D → Result Outs NodeFault → Type 0
+    ServerRunning D → ℕ → Received → ServerRunning D → Result Outs NodeFault → Type 0
 IsHandled {D} seen left_by size may_leave moment left_since faults limit old clock found new (Ok outs) =
-    ((h : Host) → IsUp old h → (m : Message) → found ≡ Whole m → (place : ℕ) → IsStepUp new (lines.Given place ∷ []) outs (served old.store.node h clock place steady m)) × GoesOn 4 50 old new
+    ((h : ServerHost) → IsUp old h → (m : Message) → found ≡ Whole m → (place : ℕ) → IsStepUp new (lines.Given place ∷ []) outs (served (server_kind old.store.node) h clock place steady m)) × GoesOn 4 50 old new
 IsHandled {D} seen left_by size may_leave moment left_since faults limit old clock found new (Err nodes.OutOfMemory) =
     IsSame seen left_by size may_leave moment left_since old new × GoesOn 4 50 old new
 IsHandled {D} seen left_by size may_leave moment left_since faults limit old clock found new (Err nodes.Down) = IsBroken seen left_by may_leave faults limit old clock found new
 
 -- the row's step was made, whatever the bytes were; or their message's was ended
-abbrev pub RunsRow : {D : Type 0} → Running D → ℕ → List ℕ → Running D → Result Outs NodeFault → Type 0
+abbrev pub RunsRow : {D : Type 0} → ServerRunning D → ℕ → List ℕ → ServerRunning D → Result Outs NodeFault → Type 0
 RunsRow {D} old clock bytes new (Ok outs) =
-    (h : Host) → IsUp old h → (place : ℕ) → IsStepUp new (lines.Given place ∷ []) outs (given old.store.node h clock place (received_by calls_served bytes))
+    (h : ServerHost) → IsUp old h → (place : ℕ) → IsStepUp new (lines.Given place ∷ []) outs (given (server_kind old.store.node) h clock place (received_by calls_served bytes))
 RunsRow {D} old clock bytes new (Err nodes.OutOfMemory) = Unit {0}
 RunsRow {D} old clock bytes new (Err nodes.Down) = (m : Message) × (received bytes ≡ Whole m)
 
--- A server whose step was broken went down as its disk was stopped, or failed, and this line tells which. Where it was stopped, its
+-- A node whose step was broken went down as its disk was stopped, or failed, and this line tells which. Where it was stopped, its
 -- disk is what a crash with the pick that was set leaves of the disk as it was when the stop came; where the disk failed, it is as
--- it was then.
-pub record HasFallen {D : Type 0} (seen : D → Option (List ℕ)) (left_by : D → ℕ → Option (List ℕ)) (may_leave : D → List ℕ → Type 0) (faults limit : D → ℕ) (r : Running D) (s : Resting D) (line : Line) : Type 0 where
+-- it was then. So it is of every kind of node, by what its host sees of its store.
+pub record HasGoneDown {D : Type 0} (seen : D → Option (List ℕ)) (left_by : D → ℕ → Option (List ℕ)) (may_leave : D → List ℕ → Type 0) (faults limit : D → ℕ) (v : StoreView D) (armed : Armed) (s : Resting D) (line : Line) : Type 0 where
   pub came : Bool
-  pub came_so : IsBeyond r.store.disk.stop r.store.disk.calls → came ≡ true
-  pub came_is : came ≡ true → IsBeyond r.store.disk.stop r.store.disk.calls
-  pub line_is : line ≡ fall_line r.store.node (stops_now came r.armed)
-  pub mark : s.mark ≡ count_mark r.store.count
-  pub told : IsSome (seen s.disk) ↔ IsSome (seen (disk_of r))
-  pub image : IsSome (seen s.disk) → (c : List ℕ) → may_leave s.disk c → may_leave (disk_of r) c
-  pub picked : line ≡ lines.Crash r.store.node → seen s.disk ≡ left_by (disk_of r) (pick_of r.armed)
-  pub rests : line ≡ lines.Crash r.store.node → IfSome (seen s.disk) (λ bytes. LeavesJust bytes (may_leave s.disk))
-  pub stays : line ≡ lines.Fault r.store.node → s.disk ≡ disk_of r
-  pub same_faults : faults s.disk ≡ faults (disk_of r)
-  pub same_limit : limit s.disk ≡ limit (disk_of r)
+  pub came_so : IsBeyond v.fuse.stop v.fuse.calls → came ≡ true
+  pub came_is : came ≡ true → IsBeyond v.fuse.stop v.fuse.calls
+  pub line_is : line ≡ fall_line v.node (stops_now came armed)
+  pub mark : s.mark ≡ count_mark v.count
+  pub told : IsSome (seen s.disk) ↔ IsSome (seen v.fuse.disk)
+  pub image : IsSome (seen s.disk) → (c : List ℕ) → may_leave s.disk c → may_leave v.fuse.disk c
+  pub picked : line ≡ lines.Crash v.node → seen s.disk ≡ left_by v.fuse.disk (pick_of armed)
+  pub rests : line ≡ lines.Crash v.node → IfSome (seen s.disk) (λ bytes. LeavesJust bytes (may_leave s.disk))
+  pub stays : line ≡ lines.Fault v.node → s.disk ≡ v.fuse.disk
+  pub same_faults : faults s.disk ≡ faults v.fuse.disk
+  pub same_limit : limit s.disk ≡ limit v.fuse.disk
+
+-- so a file server went down
+abbrev pub HasFallen : {D : Type 0} → (D → Option (List ℕ)) → (D → ℕ → Option (List ℕ)) → (D → List ℕ → Type 0) → (D → ℕ) → (D → ℕ) → ServerRunning D → Resting D → Line → Type 0
+HasFallen {D} seen left_by may_leave faults limit r s line = HasGoneDown seen left_by may_leave faults limit (shown_store r.store) r.armed s line
 
 -- It is so, whatever became of the server: where its disk ended the step, that is what is left of it once it has fallen.
-abbrev pub Becomes : {D : Type 0} → (D → Option (List ℕ)) → (D → ℕ → Option (List ℕ)) → (D → List ℕ → Type 0) → (D → ℕ) → (D → ℕ) → (Served D → Type 0) → Running D → Result Outs NodeFault → Type 0
+abbrev pub Becomes : {D : Type 0} → (D → Option (List ℕ)) → (D → ℕ → Option (List ℕ)) → (D → List ℕ → Type 0) → (D → ℕ) → (D → ℕ) → (Served D → Type 0) → ServerRunning D → Result Outs NodeFault → Type 0
 Becomes {D} seen left_by may_leave faults limit Is new (Ok outs) = Is (is_up new outs)
 Becomes {D} seen left_by may_leave faults limit Is new (Err nodes.OutOfMemory) = Is (unchanged new)
 Becomes {D} seen left_by may_leave faults limit Is new (Err nodes.Down) = (s : Resting D) (line : Line) → HasFallen seen left_by may_leave faults limit new s line → Is (is_down s line)
 
 -- where it went down its mark is that from before the step, whatever its disk tells
-abbrev pub KeepsMark : {D : Type 0} → Running D → Served D → Type 0
+abbrev pub KeepsMark : {D : Type 0} → ServerRunning D → Served D → Type 0
 KeepsMark {D} old (is_up r outs) = Unit {0}
 KeepsMark {D} old (is_down s line) = s.mark ≡ count_mark old.store.count
 KeepsMark {D} old (unchanged r) = Unit {0}
@@ -133,7 +138,7 @@ RestsServed {D} seen may_leave me (is_down s line) = line ≡ lines.Crash me →
 RestsServed {D} seen may_leave me (unchanged r) = Unit {0}
 
 -- ---- while it is up it can be given what comes next
-abbrev pub GoesOnServed : {D : Type 0} → Running D → Served D → Type 0
+abbrev pub GoesOnServed : {D : Type 0} → ServerRunning D → Served D → Type 0
 GoesOnServed {D} old (is_up r outs) = GoesOn 4 50 old r
 GoesOnServed {D} old (is_down s line) = Unit {0}
 GoesOnServed {D} old (unchanged r) = GoesOn 4 50 old r

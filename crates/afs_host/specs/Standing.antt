@@ -46,17 +46,44 @@ pub record LiesAfter (me : Node) (s : ServerState) (fall : Fall) (mark : Mark) (
   pub after : StandsFor records (begun_by_disk me s true fall).state.lasting
   pub told : (ls : List Line) → (begun_by_disk me s true fall).before ls ≡ map in_words (effect_of me last before.before.durable) ++ ls
 
+-- ---- a node of any kind
+
+-- How a kind of node keeps its state on its disk: for how many bytes the disk has room; and when records are those of the state from before
+-- an interrupted step, as many as a mark tells, or those of the state after it, which fell so.
+pub record Keeping (S : Type 0) : Type 1 where
+  pub capacity : S → ℕ
+  pub before : S → Mark → List (List ℕ) → Type 0
+  pub after : S → Fall → Mark → List (List ℕ) → Type 0
+
 -- the one or the other
-abbrev pub LiesAs : Node → ServerState → Fall → Mark → Bool → List (List ℕ) → Type 0
-LiesAs me s fall mark false records = LiesBefore s mark records
-LiesAs me s fall mark true records = LiesAfter me s fall mark records
+abbrev pub IsKeptAs : {S : Type 0} → Keeping S → S → Fall → Mark → Bool → List (List ℕ) → Type 0
+IsKeptAs {S} keeping s fall mark false records = keeping.before s mark records
+IsKeptAs {S} keeping s fall mark true records = keeping.after s fall mark records
 
 -- They are those that a restart may find: where the disk was set to the blow that ended the step, that tells which.
+abbrev pub IsKeptFound : {S : Type 0} → Keeping S → S → Fall → Mark → List (List ℕ) → Type 0
+IsKeptFound {S} keeping s fall mark records = (after : Bool) × (MayFind fall after × IsKeptAs keeping s fall mark after records)
+
+abbrev pub IsKeptIn : {S : Type 0} → Keeping S → S → Fall → Mark → List (List ℕ) → Type 0
+IsKeptIn {S} keeping s fall mark records = keeping.before s mark records ⊎ keeping.after s fall mark records
+
+-- ---- a file server
+
+abbrev pub server_keeping : Node → Keeping ServerState
+server_keeping me = record {
+  capacity = λ s. s.lasting.capacity;
+  before = λ s mark records. LiesBefore s mark records;
+  after = λ s fall mark records. LiesAfter me s fall mark records;
+}
+
+abbrev pub LiesAs : Node → ServerState → Fall → Mark → Bool → List (List ℕ) → Type 0
+LiesAs me s fall mark after records = IsKeptAs (server_keeping me) s fall mark after records
+
 abbrev pub LiesFound : Node → ServerState → Fall → Mark → List (List ℕ) → Type 0
-LiesFound me s fall mark records = (after : Bool) × (MayFind fall after × LiesAs me s fall mark after records)
+LiesFound me s fall mark records = IsKeptFound (server_keeping me) s fall mark records
 
 abbrev pub LiesIn : Node → ServerState → Fall → Mark → List (List ℕ) → Type 0
-LiesIn me s fall mark records = LiesBefore s mark records ⊎ LiesAfter me s fall mark records
+LiesIn me s fall mark records = IsKeptIn (server_keeping me) s fall mark records
 
 -- so it is of the whole records of these bytes
 abbrev pub Lies : Node → ServerState → Fall → Mark → List ℕ → Type 0

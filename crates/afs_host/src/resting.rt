@@ -1,15 +1,15 @@
-//! What is left of a server that is down.
+//! What is left of a node that is down.
 
 ghost use Rattle.std.specs.Prelude.{◌≡◌, false};
-ghost use Rattle.afs_volstore.specs.Stores.{IsCounted, IsKept};
-ghost use Rattle.afs_host.specs.Seats.{count_mark};
+ghost use Rattle.afs_volstore.specs.Stores.{IsCounted};
+ghost use Rattle.afs_host.specs.Views.{count_mark};
 
-use afs_disk::{Disk, Fuse};
+use crate::stores::OnDisk;
+use afs_disk::Disk;
 use afs_num::records::Mark;
-use afs_volstore::VolStore;
 use std::marker::Model;
 
-/// The disk of a server that is down, and the mark of its store after the last step whose lines were told.
+/// The disk of a node that is down, and the mark of its store after the last step whose lines were told.
 #[derive(Drop)]
 pub struct Resting<D: Disk> {
     pub(crate) disk: D,
@@ -24,21 +24,21 @@ impl<D: Disk> Model for Resting<D> {
     ghost view = { λ r. record { disk = r.disk; mark = r.mark } };
 }
 
-impl<D: Disk> Resting<D> {
-    /// What is left of a server with this store.
-    pub(crate) fn of(store: VolStore<Fuse<D>>) -> Resting<D>
-        ensures value { result ≡ record { disk = store.disk.disk; mark = count_mark store.count } }
-        ensures kept { store.closed ≡ false → IsKept store.durable (D.seen store.disk.disk) (D.may_leave store.disk.disk) }
-        ensures counted { store.closed ≡ false → IsCounted store.count (D.seen store.disk.disk) }
-        ensures capacity { store.durable.capacity ≡ D.limit store.disk.disk }
-    {
-        let mark = store.mark();
-        Resting {
-            disk: store.into_disk().into_inner(),
-            mark,
-        }
+/// What is left of a node with this store.
+pub(crate) fn rest_of<T: OnDisk>(store: T) -> Resting<T::D>
+    ensures value { result ≡ record { disk = (T.shown store).fuse.disk; mark = count_mark (T.shown store).count } }
+    ensures kept { (T.shown store).closed ≡ false → T.kept store (T.D.seen (T.shown store).fuse.disk) (T.D.may_leave (T.shown store).fuse.disk) }
+    ensures counted { (T.shown store).closed ≡ false → IsCounted (T.shown store).count (T.D.seen (T.shown store).fuse.disk) }
+    ensures capacity { (T.shown store).capacity ≡ T.D.limit (T.shown store).fuse.disk }
+{
+    let mark = store.mark();
+    Resting {
+        disk: store.release(),
+        mark,
     }
+}
 
+impl<D: Disk> Resting<D> {
     /// The disk.
     pub fn into_disk(self) -> D
         ensures { result ≡ self.disk }

@@ -1,110 +1,45 @@
-//! A server that is up, over the store of its disk.
+//! A node that is up, over the store of its disk.
 
-ghost use Rattle.std.specs.Prelude.{◌≡◌, ◌≤◌, ◌<◌, ◌^◌, ◌↔◌, ◌∷◌, [], None, Some, false, true, IfOk, IfSome, IsSome, OnErr, OnOk};
+ghost use Rattle.std.specs.Prelude.{◌≡◌, ◌↔◌, Some, false, IfSome, IsSome};
 ghost use Rattle.afs_disk.specs.Disk.{LeavesJust};
 ghost use Rattle.afs_disk.specs.Fuses.{armed, failing};
-ghost use Rattle.afs_rows.specs.Runs.{Host};
-ghost use Rattle.afs_rows.specs.States.{BackCall};
-ghost use Rattle.afs_server.specs.Handling.{server_seen};
-ghost use Rattle.afs_server.specs.Seen.{CanDraw, Serves};
-ghost use Rattle.afs_server_parts.specs.Called.{calls_seen};
-ghost use Rattle.afs_volstore.specs.Stores.{IsCounted, IsKept};
-ghost use Rattle.afs_host.specs.Hosts.{crashed, set_to_fail, set_to_stop, timed_out, woken};
-ghost use Rattle.afs_host.specs.Seats.{count_mark, disk_of, waits_for, CanRun, GoesOn, IsDown, IsStepUp, IsUp, OnlyDraws};
+ghost use Rattle.afs_volstore.specs.Stores.{IsCounted};
+ghost use Rattle.afs_host.specs.Serving.{HasGoneDown};
+ghost use Rattle.afs_host.specs.Views.{count_mark};
 
-use crate::resting::Resting;
-use crate::setting::{Armed, Stop, UNARMED};
+use crate::resting::{Resting, rest_of};
+use crate::setting::{Armed, Stop};
+use crate::stores::OnDisk;
 use afs_disk::{Disk, Fuse};
-use afs_history::lines::Outs;
-use afs_num::types::{Mem, Node};
+use afs_history::lines::Line;
 use afs_server::FileServer;
-use afs_server::faults::NodeFault;
 use afs_volstore::VolStore;
-use std::alloc::AllocError;
 use std::marker::Model;
 
-/// A server that is up: what it has in memory, its store, and how its disk is set to stop it or to fail.
+/// A node that is up: what it has in memory, its store, and how its disk is set to stop it or to fail.
 #[derive(Drop)]
-pub struct Running<D: Disk> {
-    pub(crate) server: FileServer,
-    pub(crate) store: VolStore<Fuse<D>>,
+pub struct Running<N, T: OnDisk> {
+    pub(crate) memory: N,
+    pub(crate) store: T,
     pub(crate) armed: Armed,
 }
 
-impl<D: Disk> Model for Running<D> {
+/// A file server that is up, over such a disk.
+pub type ServerRunning<D> = Running<FileServer, VolStore<Fuse<D>>>;
+
+impl<N, T: OnDisk> Model for Running<N, T> {
     ghost use Rattle.afs_host.specs.Setting.{armed_seen};
     ghost use Rattle.afs_host.specs.Seats.{Running};
 
-    ghost Value = { Running D };
+    ghost Value = { Running N T };
 
-    ghost view = { λ r. record { memory = r.server; store = r.store; armed = armed_seen r.armed } };
+    ghost view = { λ r. record { memory = r.memory; store = r.store; armed = armed_seen r.armed } };
 }
 
-impl<D: Disk> Running<D> {
-    /// A server over the store of a disk that isn't set.
-    pub fn new(server: FileServer, store: VolStore<Fuse<D>>) -> Running<D>
-        requires up { store.closed ≡ false }
-        requires serves { Serves store.node server store.durable }
-        requires unset { (store.disk.stop ≡ None) × (store.disk.fail ≡ None) }
-        ensures value { result ≡ record { memory = server; store = store; armed = record { stop = None; fail = None } } }
-        ensures can_run { CanRun result }
-    {
-        Running {
-            server,
-            store,
-            armed: UNARMED,
-        }
-    }
-
-    /// Whether it waits for the reply of this node. It takes no memory.
-    pub fn waits_on(&self, callee: Node) -> bool
-        ensures { result ≡ waits_for self.now callee }
-    {
-        self.server.waits_on(callee).is_some()
-    }
-
-    /// Its unanswered call to this node has waited too long.
-    pub fn time_out(&mut self, callee: Node, now: u32) -> Mem<Outs>
-        requires waits { waits_for self.old callee ≡ true }
-        requires can_run { CanRun self.old }
-        requires draws { CanDraw self.old.memory self.old.store.drawn }
-        requires now { now ≤ 1000000000 }
-        ensures step { (h : Host) → IsUp self.old h → (b : BackCall) → h.state.backs.calls callee ≡ Some b → IfOk result (λ outs. IsStepUp self.new [] outs (timed_out self.old.store.node h now callee b)) }
-        ensures err { OnErr result (self.new ≡ self.old) }
-        ensures rest { OnlyDraws self.old self.new }
-        ensures goes_on { GoesOn 0 0 self.old self.new }
-    {
-        match self.server.timeout(&mut self.store, callee, now) {
-            Ok(outs) => Ok(outs),
-            Err(NodeFault::OutOfMemory) => Err(AllocError),
-            Err(NodeFault::Down) => unreachable!(),
-        }
-    }
-
-    /// Time has passed.
-    pub fn wake(&mut self, now: u32) -> Mem<Outs>
-        requires can_run { CanRun self.old }
-        requires draws { CanDraw self.old.memory self.old.store.drawn }
-        requires now { now ≤ 1000000000 }
-        ensures step { (h : Host) → IsUp self.old h → IfOk result (λ outs. IsStepUp self.new [] outs (woken self.old.store.node h now)) }
-        ensures err { OnErr result (self.new ≡ self.old) }
-        ensures rest { OnlyDraws self.old self.new }
-        ensures goes_on { GoesOn 0 0 self.old self.new }
-    {
-        match self.server.wake(&mut self.store, now) {
-            Ok(outs) => Ok(outs),
-            Err(NodeFault::OutOfMemory) => Err(AllocError),
-            Err(NodeFault::Down) => unreachable!(),
-        }
-    }
-
-    /// The disk is to pass so many device calls more, and then to stop the server. It takes no memory.
-    pub fn stop_after(&mut self, calls: u32, pick: u8)
-        requires can_run { CanRun self.old }
-        requires counted { self.old.store.disk.calls < 2 ^ 63 }
-        ensures step { (h : Host) → IsUp self.old h → IsUp self.new (set_to_stop self.old.store.node h calls pick).host }
-        ensures value { self.new ≡ record self.old { store = record self.old.store { disk = armed calls self.old.store.disk }; armed = record self.old.armed { stop = Some (calls, pick) } } }
-        ensures can_run { CanRun self.new }
+impl<N: Drop, T: OnDisk> Running<N, T> {
+    /// The disk is to pass so many device calls more, and then to stop the node. It takes no memory.
+    pub(crate) fn set_stop(&mut self, calls: u32, pick: u8)
+        ensures { self.new ≡ record self.old { store = T.with_fuse self.old.store (armed calls (T.shown self.old.store).fuse); armed = record self.old.armed { stop = Some (calls, pick) } } }
     {
         self.store.arm(calls as u64);
         self.armed.stop = Some(Stop {
@@ -114,42 +49,24 @@ impl<D: Disk> Running<D> {
     }
 
     /// The disk is to fail at this one of its next device calls. It takes no memory.
-    pub fn fail_at(&mut self, call: u32)
-        requires can_run { CanRun self.old }
-        requires counted { self.old.store.disk.calls < 2 ^ 63 }
-        requires due { 1 ≤ call }
-        ensures step { (h : Host) → IsUp self.old h → IsUp self.new (set_to_fail self.old.store.node h call).host }
-        ensures value { self.new ≡ record self.old { store = record self.old.store { disk = failing call self.old.store.disk }; armed = record self.old.armed { fail = Some call } } }
-        ensures can_run { CanRun self.new }
+    pub(crate) fn set_fail(&mut self, call: u32)
+        ensures { self.new ≡ record self.old { store = T.with_fuse self.old.store (failing call (T.shown self.old.store).fuse); armed = record self.old.armed { fail = Some call } } }
     {
         self.store.fail_at(call as u64);
         self.armed.fail = Some(call as u64);
     }
 
-    /// The server crashes, and its disk with this pick. It takes no memory.
-    pub fn crash(self, pick: u8) -> Resting<D>
-        requires up { self.store.closed ≡ false }
-        ensures step { (h : Host) → IsUp self h → IsDown D.seen D.may_leave D.limit self.store.node result (crashed self.store.node h).host }
-        ensures mark { result.mark ≡ count_mark self.store.count }
-        ensures picked { D.seen result.disk ≡ D.left_by (disk_of self) pick }
-        ensures told { IsSome (D.seen result.disk) ↔ IsSome (D.seen (disk_of self)) }
-        ensures faults { D.faults result.disk ≡ D.faults (disk_of self) }
-        ensures limit { D.limit result.disk ≡ D.limit (disk_of self) }
-    {
-        self.left_by(pick)
-    }
-
     /// What a crash of its disk with this pick leaves of it. It takes no memory.
-    pub(crate) fn left_by(self, pick: u8) -> Resting<D>
-        ensures mark { result.mark ≡ count_mark self.store.count }
-        ensures picked { D.seen result.disk ≡ D.left_by (disk_of self) pick }
-        ensures image { IfSome (D.seen result.disk) (λ bytes. D.may_leave (disk_of self) bytes × LeavesJust bytes (D.may_leave result.disk)) }
-        ensures told { IsSome (D.seen result.disk) ↔ IsSome (D.seen (disk_of self)) }
-        ensures faults { D.faults result.disk ≡ D.faults (disk_of self) }
-        ensures limit { D.limit result.disk ≡ D.limit (disk_of self) }
-        ensures kept { self.store.closed ≡ false → IsKept self.store.durable (D.seen (disk_of self)) (D.may_leave (disk_of self)) }
-        ensures counted { self.store.closed ≡ false → IsCounted self.store.count (D.seen (disk_of self)) }
-        ensures capacity { self.store.durable.capacity ≡ D.limit (disk_of self) }
+    pub(crate) fn left_by(self, pick: u8) -> Resting<T::D>
+        ensures mark { result.mark ≡ count_mark (T.shown self.store).count }
+        ensures picked { T.D.seen result.disk ≡ T.D.left_by (T.shown self.store).fuse.disk pick }
+        ensures image { IfSome (T.D.seen result.disk) (λ bytes. T.D.may_leave (T.shown self.store).fuse.disk bytes × LeavesJust bytes (T.D.may_leave result.disk)) }
+        ensures told { IsSome (T.D.seen result.disk) ↔ IsSome (T.D.seen (T.shown self.store).fuse.disk) }
+        ensures faults { T.D.faults result.disk ≡ T.D.faults (T.shown self.store).fuse.disk }
+        ensures limit { T.D.limit result.disk ≡ T.D.limit (T.shown self.store).fuse.disk }
+        ensures kept { (T.shown self.store).closed ≡ false → T.kept self.store (T.D.seen (T.shown self.store).fuse.disk) (T.D.may_leave (T.shown self.store).fuse.disk) }
+        ensures counted { (T.shown self.store).closed ≡ false → IsCounted (T.shown self.store).count (T.D.seen (T.shown self.store).fuse.disk) }
+        ensures capacity { (T.shown self.store).capacity ≡ T.D.limit (T.shown self.store).fuse.disk }
     {
         let Resting { mut disk, mark } = self.rest();
         disk.crash(pick);
@@ -157,37 +74,45 @@ impl<D: Disk> Running<D> {
     }
 
     /// What is left of it. Nothing becomes of its disk.
-    pub(crate) fn rest(self) -> Resting<D>
-        ensures value { result ≡ record { disk = disk_of self; mark = count_mark self.store.count } }
-        ensures kept { self.store.closed ≡ false → IsKept self.store.durable (D.seen (disk_of self)) (D.may_leave (disk_of self)) }
-        ensures counted { self.store.closed ≡ false → IsCounted self.store.count (D.seen (disk_of self)) }
-        ensures capacity { self.store.durable.capacity ≡ D.limit (disk_of self) }
+    pub(crate) fn rest(self) -> Resting<T::D>
+        ensures value { result ≡ record { disk = (T.shown self.store).fuse.disk; mark = count_mark (T.shown self.store).count } }
+        ensures kept { (T.shown self.store).closed ≡ false → T.kept self.store (T.D.seen (T.shown self.store).fuse.disk) (T.D.may_leave (T.shown self.store).fuse.disk) }
+        ensures counted { (T.shown self.store).closed ≡ false → IsCounted (T.shown self.store).count (T.D.seen (T.shown self.store).fuse.disk) }
+        ensures capacity { (T.shown self.store).capacity ≡ T.D.limit (T.shown self.store).fuse.disk }
     {
-        let Running {
-            server: _,
-            store,
-            armed: _,
-        } = self;
-        Resting::of(store)
+        rest_of(self.into_store())
+    }
+
+    /// The disk ended a step of the node. A stop leaves of the disk what its pick says, a failure leaves it as it is.
+    pub fn fall(self) -> (Resting<T::D>, Line)
+        ensures { HasGoneDown T.D.seen T.D.left_by T.D.may_leave T.D.faults T.D.limit (T.shown self.store) self.armed result.0 result.1 }
+    {
+        let node = self.store.node();
+        if self.armed.stops_now(self.store.stopped()) {
+            let pick = self.armed.pick();
+            (self.left_by(pick), Line::Crash { node })
+        } else {
+            (self.rest(), Line::Fault { node })
+        }
     }
 
     /// The store.
-    pub fn into_store(self) -> VolStore<Fuse<D>>
+    pub fn into_store(self) -> T
         ensures { result ≡ self.store }
     {
         let Running {
-            server: _,
+            memory: _,
             store,
             armed: _,
         } = self;
         store
     }
 
-    /// The disk. While the server is up it stands for what the store keeps, and no crash leaves another.
-    pub fn into_disk(self) -> D
-        ensures value { result ≡ disk_of self }
-        ensures kept { self.store.closed ≡ false → IsKept self.store.durable (D.seen result) (D.may_leave result) }
-        ensures capacity { self.store.durable.capacity ≡ D.limit result }
+    /// The disk. While the node is up it stands for what the store keeps, and no crash leaves another.
+    pub fn into_disk(self) -> T::D
+        ensures value { result ≡ (T.shown self.store).fuse.disk }
+        ensures kept { (T.shown self.store).closed ≡ false → T.kept self.store (T.D.seen result) (T.D.may_leave result) }
+        ensures capacity { (T.shown self.store).capacity ≡ T.D.limit result }
     {
         self.rest().into_disk()
     }

@@ -1,14 +1,14 @@
-//! The place of a cell's server.
+//! The place of a node of the cell that has a disk.
 
 use crate::resting::Resting;
-use crate::running::Running;
+use crate::running::ServerRunning;
 
-/// A server that is up, or what is left of one that is down.
+/// A node that is up, or what is left of one that is down.
 #[derive(Drop)]
 pub enum Seat<U, R> {
     Up(U),
     Down(R),
 }
 
-/// The place of a server over such a disk.
-pub type ServerSeat<D> = Seat<Running<D>, Resting<D>>;
+/// The place of a file server over such a disk.
+pub type ServerSeat<D> = Seat<ServerRunning<D>, Resting<D>>;

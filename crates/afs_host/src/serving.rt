@@ -4,18 +4,19 @@ ghost use Rattle.std.specs.Prelude.{◌≡◌, ◌≤◌, ◌↔◌, IsSome};
 ghost use Rattle.afs_model.specs.Messages.{received};
 ghost use Rattle.afs_server.specs.Seen.{CanDraw};
 ghost use Rattle.afs_host.specs.Seats.{disk_of, CanRun};
-ghost use Rattle.afs_host.specs.Serving.{disk_served, Becomes, GoesOnServed, HasFallen, IsHandled, IsServed, KeepsMark, MakesRow, RestsServed, RunsRow};
+ghost use Rattle.afs_host.specs.Serving.{disk_served, Becomes, GoesOnServed, IsHandled, IsServed, KeepsMark, MakesRow, RestsServed, RunsRow};
 
-use crate::resting::Resting;
 use crate::running::Running;
-use afs_disk::Disk;
-use afs_history::lines::{Line, Outs};
+use afs_disk::{Disk, Fuse};
+use afs_history::lines::Outs;
+use afs_server::FileServer;
 use afs_server::faults::NodeFault;
+use afs_volstore::VolStore;
 
 /// How many device calls a record takes.
 const CALLS_OF_A_RECORD: u64 = 4;
 
-impl<D: Disk> Running<D> {
+impl<D: Disk> Running<FileServer, VolStore<Fuse<D>>> {
     /// The server is given the bytes of a message, at this time in ticks. Where its disk ended the step, it is to fall.
     pub fn serve(&mut self, bytes: &[u8], now: u32) -> Result<Outs, NodeFault>
         requires can_run { CanRun self.old }
@@ -45,7 +46,7 @@ impl<D: Disk> Running<D> {
         ensures faults { D.faults (disk_of self.old) ≤ D.faults (disk_of self.new) }
     {
         let before = self.store.mark().records;
-        match self.server.handle(&mut self.store, bytes, now) {
+        match self.memory.handle(&mut self.store, bytes, now) {
             Ok(outs) => {
                 let made = self.store.mark().records.saturating_sub(before);
                 self.armed = self.armed.lowered(made as u64 * CALLS_OF_A_RECORD);
@@ -53,19 +54,6 @@ impl<D: Disk> Running<D> {
             }
             Err(NodeFault::OutOfMemory) => Err(NodeFault::OutOfMemory),
             Err(NodeFault::Down) => Err(NodeFault::Down),
-        }
-    }
-
-    /// The disk ended a step of the server. A stop leaves of the disk what its pick says, a failure leaves it as it is.
-    pub fn fall(self) -> (Resting<D>, Line)
-        ensures { HasFallen D.seen D.left_by D.may_leave D.faults D.limit self result.0 result.1 }
-    {
-        let node = self.store.node();
-        if self.armed.stops_now(self.store.stopped()) {
-            let pick = self.armed.pick();
-            (self.left_by(pick), Line::Crash { node })
-        } else {
-            (self.rest(), Line::Fault { node })
         }
     }
 }

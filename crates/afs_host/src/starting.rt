@@ -2,14 +2,15 @@
 
 ghost use Rattle.std.specs.Prelude.{◌≡◌, ◌≤◌, ◌<◌, ◌+◌, ◌↔◌, ◌++◌, ◌∷◌, [], ℕ, List, None, false, vec_capacity, vec_len, IfOk, IsSome};
 ghost use Rattle.afs_num.specs.Nodes.{IsNode};
-ghost use Rattle.afs_num.specs.declared.types.Node.TheVariants.{Server};
 ghost use Rattle.afs_history.specs.declared.lines.Line.TheVariants as lines;
-ghost use Rattle.afs_rows.specs.ServerRow.{Begun};
-ghost use Rattle.afs_volstore.specs.Stores.{IsCounted, IsKept};
+ghost use Rattle.afs_rows.specs.States.{ServerState};
+ghost use Rattle.afs_rows.specs.Steps.{Begun};
+ghost use Rattle.afs_volstore.specs.Stores.{IsCounted};
 ghost use Rattle.afs_host.specs.Starting.{disk_started, BootsFrom, BootsOver, GoesOnBooted, GoesOnStarted, IsFound, IsRefused, IsStarted, Rises, StartsOver, Stays};
 
-use crate::resting::Resting;
-use crate::running::Running;
+use crate::resting::{Resting, rest_of};
+use crate::running::{Running, ServerRunning};
+use crate::stores::OnDisk;
 use afs_disk::{Disk, Fuse};
 use afs_history::lines::{Line, Lines, Outs};
 use afs_num::faults::StoreFault;
@@ -20,7 +21,7 @@ use afs_server::FileServer;
 use afs_volstore::VolStore;
 use std::alloc::{AllocError, Global};
 
-/// How a server began again: it is up, and gives this out; or it stays down, with these lines. Or memory ran out: before anything was
+/// How a node began again: it is up, and gives this out; or it stays down, with these lines. Or memory ran out: before anything was
 /// told or kept; or after the record of its boot, when nothing can be told of that any more.
 #[derive(Drop)]
 pub enum Start<U, R> {
@@ -30,7 +31,7 @@ pub enum Start<U, R> {
     Lost(R),
 }
 
-/// That the server's disk failed, and nothing else.
+/// That the disk of a node failed, and nothing else.
 fn fault_alone(alloc: Global, node: Node) -> Mem<Lines>
     ensures { IfOk result (λ ls. ls ≡ lines.Fault node ∷ []) }
 {
@@ -61,7 +62,7 @@ fn with_line(lines: Vec<Line>, last: Line) -> Lines
     }
 }
 
-/// What a restart gives out: the lines with which it began, that the server is up, and the breaks that it owes now.
+/// What a restart gives out: the lines with which it began, that the node is up, and what its step gives out now.
 fn risen(front: Vec<Line>, node: Node, boot: u32, outs: Outs) -> Mem<Outs>
     requires { vec_len front < vec_capacity front }
     ensures lines { IfOk result (λ o. o.lines ≡ front.items ++ lines.Restart node boot ∷ outs.lines) }
@@ -88,7 +89,7 @@ fn rise<D: Disk>(
     front: Vec<Line>,
     clients: u8,
     now: u32,
-) -> Start<Running<D>, Resting<D>>
+) -> Start<ServerRunning<D>, Resting<D>>
     requires room { vec_len front < vec_capacity front }
     requires node { IsNode store.node }
     requires drawn { store.drawn ≡ 0 }
@@ -102,35 +103,31 @@ fn rise<D: Disk>(
     match FileServer::restart(alloc, &mut store, clients, now) {
         Ok((server, outs)) => match risen(front, node, boot, outs) {
             Ok(outs) => Start::Up(Running::new(server, store), outs),
-            Err(_) => Start::Lost(Resting::of(store)),
+            Err(_) => Start::Lost(rest_of(store)),
         },
-        Err(_) => Start::Lost(Resting::of(store)),
+        Err(_) => Start::Lost(rest_of(store)),
     }
 }
 
-/// The server stays down, and tells this after the lines with which the restart began: what these told is told, so its mark is
+/// A node stays down, and tells this after the lines with which the restart began: what these told is told, so its mark is
 /// that of the store.
-fn stay<D: Disk>(
-    store: VolStore<Fuse<D>>,
-    front: Vec<Line>,
-    last: Line,
-) -> Start<Running<D>, Resting<D>>
+fn stay<U, T: OnDisk>(store: T, front: Vec<Line>, last: Line) -> Start<U, Resting<T::D>>
     requires room { vec_len front < vec_capacity front }
-    ensures stays { Stays store front.items last result }
-    ensures kept { store.closed ≡ false → IsKept store.durable (D.seen store.disk.disk) (D.may_leave store.disk.disk) }
-    ensures counted { store.closed ≡ false → IsCounted store.count (D.seen store.disk.disk) }
-    ensures capacity { store.durable.capacity ≡ D.limit store.disk.disk }
+    ensures stays { Stays (T.shown store) front.items last result }
+    ensures kept { (T.shown store).closed ≡ false → T.kept store (T.D.seen (T.shown store).fuse.disk) (T.D.may_leave (T.shown store).fuse.disk) }
+    ensures counted { (T.shown store).closed ≡ false → IsCounted (T.shown store).count (T.D.seen (T.shown store).fuse.disk) }
+    ensures capacity { (T.shown store).capacity ≡ T.D.limit (T.shown store).fuse.disk }
 {
-    Start::Down(Resting::of(store), with_line(front, last))
+    Start::Down(rest_of(store), with_line(front, last))
 }
 
-/// What is left of a server of which nothing was told: its mark is the one that was told before.
-fn untold<D: Disk>(store: VolStore<Fuse<D>>, told: Mark) -> Resting<D>
-    ensures value { result ≡ record { disk = store.disk.disk; mark = told } }
-    ensures kept { store.closed ≡ false → IsKept store.durable (D.seen store.disk.disk) (D.may_leave store.disk.disk) }
-    ensures counted { store.closed ≡ false → IsCounted store.count (D.seen store.disk.disk) }
+/// What is left of a node of which nothing was told: its mark is the one that was told before.
+fn untold<T: OnDisk>(store: T, told: Mark) -> Resting<T::D>
+    ensures value { result ≡ record { disk = (T.shown store).fuse.disk; mark = told } }
+    ensures kept { (T.shown store).closed ≡ false → T.kept store (T.D.seen (T.shown store).fuse.disk) (T.D.may_leave (T.shown store).fuse.disk) }
+    ensures counted { (T.shown store).closed ≡ false → IsCounted (T.shown store).count (T.D.seen (T.shown store).fuse.disk) }
 {
-    let Resting { disk, mark: _ } = Resting::of(store);
+    let Resting { disk, mark: _ } = rest_of(store);
     Resting { disk, mark: told }
 }
 
@@ -143,14 +140,14 @@ fn boot<D: Disk>(
     front: Lines,
     clients: u8,
     now: u32,
-) -> Start<Running<D>, Resting<D>>
+) -> Start<ServerRunning<D>, Resting<D>>
     requires node { IsNode store.node }
     requires drawn { store.drawn ≡ 0 }
     requires up { store.closed ≡ false }
     requires unset { (store.disk.stop ≡ None) × (store.disk.fail ≡ None) }
     requires clients { clients ≤ 16 }
     requires now { now ≤ 1000000000 }
-    ensures boots { (begun : Begun) (records : List (List ℕ)) → IsFound D.seen begun records front store → BootsFrom D.seen D.may_leave D.faults D.limit begun records store.node now clients store.disk.disk result }
+    ensures boots { (begun : Begun ServerState) (records : List (List ℕ)) → IsFound D.seen begun records front store → BootsFrom D.seen D.may_leave D.faults D.limit begun records store.node now clients store.disk.disk result }
     ensures over { BootsOver D.faults store.durable front store.node now clients (D.faults store.disk.disk) result }
     ensures goes_on { GoesOnBooted store told result }
     ensures told { IsSome (D.seen (disk_started result)) ↔ IsSome (D.seen store.disk.disk) }
@@ -173,8 +170,8 @@ fn boot<D: Disk>(
 }
 
 impl<D: Disk> Resting<D> {
-    /// A server whose disk can't be taken up stays down, and tells just this, unless memory ran out.
-    fn refused(self, refusal: StoreFault, told: Lines) -> Start<Running<D>, Resting<D>>
+    /// A node whose disk can't be taken up stays down, and tells just this, unless memory ran out.
+    fn refused<U>(self, refusal: StoreFault, told: Lines) -> Start<U, Resting<D>>
         ensures { IsRefused refusal self told result }
     {
         if refusal == StoreFault::OutOfMemory {
@@ -183,27 +180,26 @@ impl<D: Disk> Resting<D> {
         Start::Down(self, told)
     }
 
-    /// The server of this number begins again, in a cell of so many clients, at this time in ticks. Its disk isn't set. Memory to tell
+    /// The server that is this node begins again, in a cell of so many clients, at this time in ticks. Its disk isn't set. Memory to tell
     /// that the disk failed is taken before the first device call.
     pub fn start(
         self,
         alloc: Global,
-        server: u8,
+        node: Node,
         clients: u8,
         now: u32,
-    ) -> Start<Running<D>, Resting<D>>
-        requires node { IsNode (Server server) }
+    ) -> Start<ServerRunning<D>, Resting<D>>
+        requires node { IsNode node }
         requires limit { D.limit self.disk ≤ 268435456 }
         requires clients { clients ≤ 16 }
         requires now { now ≤ 1000000000 }
-        ensures started { IsSome (D.seen self.disk) → IsStarted D.seen D.may_leave D.faults D.limit (Server server) now clients self result }
-        ensures over { StartsOver D.seen D.faults D.limit (Server server) now clients self result }
-        ensures goes_on { GoesOnStarted (Server server) self result }
+        ensures started { IsSome (D.seen self.disk) → IsStarted D.seen D.may_leave D.faults D.limit node now clients self result }
+        ensures over { StartsOver D.seen D.faults D.limit node now clients self result }
+        ensures goes_on { GoesOnStarted node self result }
         ensures told { IsSome (D.seen (disk_started result)) ↔ IsSome (D.seen self.disk) }
         ensures limit { D.limit (disk_started result) ≡ D.limit self.disk }
         ensures faults { D.faults self.disk ≤ D.faults (disk_started result) }
     {
-        let node = Node::Server(server);
         let Ok(fault) = fault_alone(alloc, node) else {
             return Start::Unchanged(self);
         };

@@ -231,3 +231,14 @@ all_found bytes bodies rest gate is at more fit none =
       fit = fit;
       nothing = ap (λ (l : List ℕ). record_at (suc (length bodies)) l) (ap (drop gate) is ∙ drop_at (blocks 1 bodies) rest gate size) ∙ none;
     }
+
+-- where the record lies with which the rest of some bytes begins
+pub piece_found : (bytes : List ℕ) (bodies : List (List ℕ)) (number : ℕ) (body later rest : List ℕ) → bytes ≡ blocks 1 bodies ++ rest → StartsWith number body later rest
+    → take (length body) (drop (length bytes - length later - length body) bytes) ≡ body
+piece_found bytes bodies number body later rest split starts =
+    let front = blocks 1 bodies in
+    let start : length bytes - length later - length body ≡ length front + 9 = omega (arith, ap length split, length-append front rest, ap length starts.is, length-one_more number body later) in
+    let there : drop (length front + 9) bytes ≡ body ++ later =
+    sym (drop-drop 9 (length front) bytes)
+    ∙ (ap (λ (l : List ℕ). drop 9 (drop (length front) l)) split ∙ (ap (drop 9) (drop_at front rest (length front) refl ∙ starts.is) ∙ behind number body later)) in
+    ap (λ (n : ℕ). take (length body) (drop n bytes)) start ∙ (ap (take (length body)) there ∙ take_at body later (length body) refl)

@@ -1,3 +1,4 @@
 pub mod Left
 pub mod Log
 pub mod Records
+pub mod Found

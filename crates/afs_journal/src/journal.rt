@@ -4,13 +4,13 @@ ghost use Rattle.afs_journal.specs.Left.{LeavesByPick, ReachesCall};
 ghost use Rattle.afs_journal.specs.Records.{whole_records, IsBeforeOrAfter};
 ghost use Rattle.afs_journal.specs.Log.{AlwaysStandsFor, Appended, HasRoom, IsCaused, IsJournal, KeepsRoom, LeavesUnchanged, Rests, SameCounts, Served, StandsAsBefore, Taken, Unchanged};
 
+use crate::found::Found;
 use crate::mend::settle;
 use crate::opening::open;
 use crate::put::put;
 use crate::spelling::{SPELLED, TAKEN, make_room, spell};
 use afs_disk::Disk;
 use afs_num::faults::JournalFault;
-use afs_num::sequences::Records;
 use afs_num::types::Mem;
 use std::alloc::Global;
 use std::marker::Model;
@@ -19,7 +19,7 @@ use std::marker::Model;
 #[derive(Drop)]
 pub struct Journal<D: Disk> {
     pub(crate) disk: D,
-    found: Records,
+    found: Found,
     count: u64,
     gate: u64,
     closed: bool,
@@ -46,7 +46,7 @@ fn fits(used: u64, len: u64, capacity: u64) -> bool
 }
 
 // Finds the whole records of a disk, and makes a journal at rest of it.
-fn take_up<D: Disk>(alloc: Global, disk: &mut D) -> Result<(Records, u64), JournalFault>
+fn take_up<D: Disk>(alloc: Global, disk: &mut D) -> Result<(Found, u64), JournalFault>
     ensures size { IfOk result (λ r. D.size disk.new ≡ r.1 + 1) }
     ensures counts { IfOk result (λ r. (9 * length r.0 ≤ r.1) × (r.1 < 2 ^ 63)) }
     ensures few { IfOk result (λ r. length r.0 < 2 ^ 32) }
@@ -65,7 +65,7 @@ fn take_up<D: Disk>(alloc: Global, disk: &mut D) -> Result<(Records, u64), Journ
 {
     let bytes = open(alloc, disk)?;
     let (found, gate) = settle(alloc, disk, &bytes)?;
-    Ok((found, gate))
+    Ok((Found::of(bytes, found), gate))
 }
 
 impl<D: Disk> Journal<D> {
@@ -118,10 +118,18 @@ impl<D: Disk> Journal<D> {
     }
 
     /// The records that `attach` found, in order. It takes no memory.
-    pub fn records(&self) -> &Records
+    pub fn records(&self) -> &Found
         ensures { result.now ≡ self.now.found }
     {
         &self.found
+    }
+
+    /// Lets the records go that `attach` found: whoever has taken them has no need of them here. It takes no memory.
+    pub fn forget(&mut self)
+        ensures { self.new ≡ record self.old { found = [] } }
+    {
+        let alloc = *self.place.allocator();
+        self.found = Found::new(alloc);
     }
 
     /// How many bytes the journal has, the closed gate at its end among them. It takes no memory.

@@ -1,14 +1,15 @@
 // What `attach` does to a disk whose bytes are no journal at rest.
-ghost use Rattle.std.specs.Prelude.{◌≡◌, ◌≤◌, ◌<◌, ◌+◌, ◌*◌, ◌^◌, List, ℕ, [], length, max, Some, IsSome, IfOk, OnOk, IsTrue, slice_index_or, ◌↔◌};
+ghost use Rattle.std.specs.Prelude.{◌≡◌, ◌≤◌, ◌<◌, ◌+◌, ◌*◌, ◌^◌, List, ℕ, [], length, map, max, Some, IsSome, IfOk, OnOk, IsTrue, slice_index_or, ◌↔◌};
 ghost use Rattle.afs_disk.specs.Disk.{Ran, Holds, LeavesJust, LeavesOnly};
+ghost use Rattle.afs_journal.specs.Found.{piece_of};
 ghost use Rattle.afs_journal.specs.Records.{whole_records, EndsAt};
 ghost use Rattle.afs_journal.specs.Log.{IsJournal, Rests, Served};
 
+use crate::found::Piece;
 use crate::scan::scan;
 use afs_disk::Disk;
 use afs_num::devices::Failed;
 use afs_num::faults::JournalFault;
-use afs_num::sequences::Records;
 use std::alloc::Global;
 
 /// The gate byte behind which no record counts.
@@ -69,21 +70,21 @@ fn is_at_rest(bytes: &[u8], gate: usize) -> bool
     bytes.len() == gate + 1 && bytes[gate] == CLOSED
 }
 
-/// Makes a journal at rest of a disk that holds these bytes, all of them durable. Answers its records, and the place of
+/// Makes a journal at rest of a disk that holds these bytes, all of them durable. Answers where its records lie, and the place of
 /// the gate behind the last of them.
 pub(crate) fn settle<D: Disk>(
     alloc: Global,
     disk: &mut D,
     bytes: &[u8],
-) -> Result<(Records, u64), JournalFault>
+) -> Result<(Vec<Piece>, u64), JournalFault>
     requires len { length bytes.now ≡ D.size disk.old }
     requires room { Holds 4 1 (max (D.size disk.old) 1) (D.space disk.old) }
 
     ensures size { IfOk result (λ r. D.size disk.new ≡ r.1 + 1) }
-    ensures counts { IfOk result (λ r. (9 * length r.0 ≤ r.1) × (r.1 < 2 ^ 63)) }
-    ensures few { IfOk result (λ r. length r.0 < 2 ^ 32) }
-    ensures found { IfOk result (λ r. r.0 ≡ whole_records bytes.now) }
-    ensures empty { IfOk result (λ r. length bytes.now ≡ 0 → (r.0 ≡ []) × (r.1 ≡ 0)) }
+    ensures counts { IfOk result (λ r. (9 * length r.0.items ≤ r.1) × (r.1 < 2 ^ 63)) }
+    ensures few { IfOk result (λ r. length r.0.items < 2 ^ 32) }
+    ensures found { IfOk result (λ r. map (piece_of bytes.now) r.0.items ≡ whole_records bytes.now) }
+    ensures empty { IfOk result (λ r. length bytes.now ≡ 0 → (r.0.items ≡ []) × (r.1 ≡ 0)) }
     ensures told { IsSome (D.seen disk.new) ↔ IsSome (D.seen disk.old) }
     ensures done { OnOk result (D.seen disk.old ≡ Some bytes.now → LeavesJust bytes.now (D.may_leave disk.old)
         → IsJournal (whole_records bytes.now) (D.seen disk.new) (D.may_leave disk.new)) }
@@ -97,7 +98,7 @@ pub(crate) fn settle<D: Disk>(
 {
     if bytes.is_empty() {
         begin(disk)?;
-        return Ok((Records::new(alloc), 0));
+        return Ok((Vec::new(alloc), 0));
     }
     let (found, gate) = scan(alloc, bytes)?;
     if is_at_rest(bytes, gate as usize) {

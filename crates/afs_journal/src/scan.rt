@@ -1,8 +1,9 @@
 // The whole records of bytes that a crash may have left.
-ghost use Rattle.std.specs.Prelude.{◌≡◌, ◌≤◌, ◌<◌, ◌+◌, ◌*◌, ◌^◌, IfOk, IfSome, IfNone, IsTrue, length, None};
+ghost use Rattle.std.specs.Prelude.{◌≡◌, ◌≤◌, ◌<◌, ◌+◌, ◌-◌, ◌*◌, ◌^◌, IfOk, IfSome, IfNone, IsTrue, drop, length, map, take, None};
+ghost use Rattle.afs_journal.specs.Found.{piece_of};
 ghost use Rattle.afs_journal.specs.Records.{number_at, is_whole, record_at, whole_records, StartsWith, EndsAt};
 
-use afs_num::sequences::{Octets, Records};
+use crate::found::Piece;
 use std::alloc::{AllocError, Global};
 
 // The gate byte of a whole record.
@@ -45,19 +46,30 @@ fn first(number: u64, bytes: &[u8]) -> Option<(&[u8], &[u8])>
     Some(behind.split_at(size))
 }
 
-/// The whole records of these bytes, and the place of the gate behind the last of them.
-pub(crate) fn scan(alloc: Global, bytes: &[u8]) -> Result<(Records, u64), AllocError>
-    requires { 0 < length bytes.now }
-    ensures ends { IfOk result (λ r. EndsAt r.1 r.0 bytes.now) }
-    ensures whole { IfOk result (λ r. r.0 ≡ whole_records bytes.now) }
-    ensures counts { IfOk result (λ r. (9 * length r.0 ≤ r.1) × (r.1 < length bytes.now)) }
-    ensures few { IfOk result (λ r. length r.0 < 2 ^ 32) }
+/// Where a record lies among bytes that end with these behind it.
+fn piece(bytes: &[u8], body: &[u8], behind: &[u8]) -> Piece
+    ensures { piece_of bytes.now result ≡ take (length body.now) (drop (length bytes.now - length behind.now - length body.now) bytes.now) }
 {
-    let mut found = Records::new(alloc);
+    let end = bytes.len().saturating_sub(behind.len());
+    Piece {
+        start: end.saturating_sub(body.len()),
+        len: body.len(),
+    }
+}
+
+/// Where the whole records of these bytes lie, and the place of the gate behind the last of them.
+pub(crate) fn scan(alloc: Global, bytes: &[u8]) -> Result<(Vec<Piece>, u64), AllocError>
+    requires { 0 < length bytes.now }
+    ensures ends { IfOk result (λ r. EndsAt r.1 (map (piece_of bytes.now) r.0.items) bytes.now) }
+    ensures whole { IfOk result (λ r. map (piece_of bytes.now) r.0.items ≡ whole_records bytes.now) }
+    ensures counts { IfOk result (λ r. (9 * length r.0.items ≤ r.1) × (r.1 < length bytes.now)) }
+    ensures few { IfOk result (λ r. length r.0.items < 2 ^ 32) }
+{
+    let mut found = Vec::new(alloc);
     let mut number = 1;
     let mut rest = bytes;
     while let Some((body, behind)) = first(number, rest) {
-        found.push(Octets::from_slice(alloc, body)?)?;
+        found.push(piece(bytes, body, behind))?;
         number += 1;
         rest = behind;
     }

@@ -243,7 +243,7 @@ waits_over me seats now t u e past h le change new seat w = record {
 
 -- an unanswered call was there before, or is a new one
 abbrev pub CallsPass : (Node → Option BackCall) → ℕ → (Node → Option BackCall) → Type 0
-CallsPass old last new = (j : Node) (c : BackCall) → new j ≡ Some c → (last < c.number) ⊎ ((x : BackCall) × ((old j ≡ Some x) × ((x.number ≡ c.number) × (x.breaks ≡ c.breaks))))
+CallsPass old last new = (j : Node) (c : BackCall) → new j ≡ Some c → (last < c.number) ⊎ ((x : BackCall) × ((old j ≡ Some x) × ((x.number ≡ c.number) × (x.content ≡ c.content))))
 
 pub calls_same : (calls : Node → Option BackCall) (last : ℕ) → CallsPass calls last calls
 calls_same calls last j c e = inr (c, (e, (refl, refl)))
@@ -302,7 +302,7 @@ pub call_over : (me : Node) (j : Node) (c : BackCall) (last more boot : ℕ) (e 
 call_over me j c last more boot e past le up h = record {
   number = le_trans h.number le;
   client = h.client;
-  sent = first_over j (record { node = me; epoch = boot; number = c.number }) [] (breaks_call c.breaks) e past h.sent;
+  sent = first_over j (record { node = me; epoch = boot; number = c.number }) [] (breaks_call c.content) e past h.sent;
   up = λ x. h.up (stopped_back me e.lines (lines_on [] h.sent.newer) up x);
   tries = λ t a b. timeout_onto me j boot c.number t e.lines (lines_of past) (h.tries t a b);
   owes = h.owes;
@@ -331,7 +331,7 @@ done_pass me d e old new last more boot past newer j epoch number up le pass ove
   below = λ x y. le_trans (h.below (up x) y) le;
   dropped = λ c x y at q. elim (pass j c at) [
     | inl l ↦ absurd (below_not number last c l (h.below (up x) y) q)
-    | inr z ↦ all_map (DroppedOwe me j epoch number past) (DroppedOwe me j epoch number newer) (over x) c.breaks (subst (λ (os : List Owed). AllOf (DroppedOwe me j epoch number past) os) z.1.1.1 (h.dropped z.0 (up x) y z.1.0 (q ∙ sym z.1.1.0)))
+    | inr z ↦ all_map (DroppedOwe me j epoch number past) (DroppedOwe me j epoch number newer) (over x) c.content (subst (λ (os : List Owed). AllOf (DroppedOwe me j epoch number past) os) z.1.1.1 (h.dropped z.0 (up x) y z.1.0 (q ∙ sym z.1.1.0)))
   ];
 }
 

@@ -392,7 +392,7 @@ renews_loads true me serving boot b seats cs clock place sent ms past n known k 
     let old : BackedIn me None b boot seats cs clock sent (e ∷ past) = still_backed me b boot seats cs clock sent e past (given_plain me place) B in
     record {
       backed = none_loaded me None (record b { known = put_at n known b.known }) boot seats cs clock sent (e ∷ past) (known_backed me b (put_at n known b.known) boot seats cs clock sent (e ∷ past) old);
-      sends = record { good = break_good me (e ∷ past) boot n known k serving refl; calls = resent me b boot seats cs clock sent (e ∷ past) (e ∷ past) n known k b.calls old at (λ y w. ap (λ (u : BackCall). u.breaks) (some_of y k (sym w ∙ at))); dones = (tt, tt) };
+      sends = record { good = break_good me (e ∷ past) boot n known k serving refl; calls = resent me b boot seats cs clock sent (e ∷ past) (e ∷ past) n known k b.calls old at (λ y w. ap (λ (u : BackCall). u.content) (some_of y k (sym w ∙ at))); dones = (tt, tt) };
       own = (break_is me boot n known k (B.outs refl n k at).client, tt);
     }
 renews_loads false me serving boot b seats cs clock place sent ms past n known k B at = none_loads me b boot seats cs clock sent _ past B (given_plain me place)
@@ -427,7 +427,7 @@ timed_loads true me serving boot b seats cs clock sent ms past n k B at =
       backed = retries_backed me b boot seats cs clock sent e past n k at refl B;
       sends = record {
         good = break_good me (e ∷ past) boot n (b.known n) k serving refl;
-        calls = resent me b boot seats cs clock sent past (e ∷ past) n (b.known n) k (put_at n (Some more) b.calls) B at (λ y w. put_call n n more y b.calls _ w (λ u v. ap (λ (z : BackCall). z.breaks) (sym v)) (λ u. ap (λ (z : BackCall). z.breaks) (some_of y k (sym u ∙ at))));
+        calls = resent me b boot seats cs clock sent past (e ∷ past) n (b.known n) k (put_at n (Some more) b.calls) B at (λ y w. put_call n n more y b.calls _ w (λ u v. ap (λ (z : BackCall). z.content) (sym v)) (λ u. ap (λ (z : BackCall). z.content) (some_of y k (sym u ∙ at))));
         dones = (tt, tt);
       };
       own = (break_is me boot n (b.known n) k (B.outs refl n k at).client, tt);

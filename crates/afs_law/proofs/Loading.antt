@@ -71,10 +71,10 @@ pub known_backed : (me : Node) (b : Backs) (known : Node → ℕ) (boot : ℕ) (
 known_backed me b known boot seats cs clock sent past h = record { granted = h.granted; promised = h.promised; numbered = h.numbered; rising = h.rising; clients = h.clients; accounted = h.accounted; owing = h.owing; waiting = h.waiting; outs = h.outs; calls = h.calls; dones = h.dones; seated = h.seated }
 
 -- the unanswered call is sent again
-pub resent : (me : Node) (b : Backs) (boot : ℕ) (seats : List Seat) (cs : ℕ → Option Seat) (clock : ℕ) (sent : List Message) (past newer : List Entry) (n : Node) (known : ℕ) (c : BackCall) (calls : Node → Option BackCall) → BackedIn me None b boot seats cs clock sent past → b.calls n ≡ Some c → ((x : BackCall) → calls n ≡ Some x → x.breaks ≡ c.breaks)
+pub resent : (me : Node) (b : Backs) (boot : ℕ) (seats : List Seat) (cs : ℕ → Option Seat) (clock : ℕ) (sent : List Message) (past newer : List Entry) (n : Node) (known : ℕ) (c : BackCall) (calls : Node → Option BackCall) → BackedIn me None b boot seats cs clock sent past → b.calls n ≡ Some c → ((x : BackCall) → calls n ≡ Some x → x.content ≡ c.content)
     → Each (IfBack (BackIn me None calls b.last_call boot)) (break_message me boot n known c ∷ [])
 resent me b boot seats cs clock sent past newer n known c calls h at same = (
-  server_any me (BackIn me None calls b.last_call boot (break_message me boot n known c).head [] (breaks_call c.breaks)) (record {
+  server_any me (BackIn me None calls b.last_call boot (break_message me boot n known c).head [] (breaks_call c.content)) (record {
     client = n;
     to = refl;
     booted = λ own. le_refl _;
@@ -238,9 +238,9 @@ ends_backed me b boot seats cs clock sent e past n c p h at gone =
       or_stopped = λ x. inl x;
       later = le_refl _;
       new = λ before after d what k line. absurd (no_owe e.lines before after me d what k p.oweless line);
-      gone = λ o x. elim (ends_or_stays o c.breaks b.lists.owed x) [
+      gone = λ o x. elim (ends_or_stays o c.content b.lists.owed x) [
         | inl y ↦ inl y
-        | inr y ↦ inr (λ l. let z = ending me n o.number (lines_of past) c.breaks b.lists.owed (all_map (IsOwed me n (lines_of (out.sent.at ∷ out.sent.older))) (IsOwed me n (lines_of past)) (λ w v. owe_since me n w.what w.number past out.sent.newer out.sent.at out.sent.older out.sent.split out.up v) c.breaks out.owes) y (has_number o b.lists.owed x) in
+        | inr y ↦ inr (λ l. let z = ending me n o.number (lines_of past) c.content b.lists.owed (all_map (IsOwed me n (lines_of (out.sent.at ∷ out.sent.older))) (IsOwed me n (lines_of past)) (λ w v. owe_since me n w.what w.number past out.sent.newer out.sent.at out.sent.older out.sent.split out.up v) c.content out.owes) y (has_number o b.lists.owed x) in
             subst (λ (m : Node). HasSettled me m o.number (onto l e.lines)) (owed_once me n o.client z.0 o.what o.number (lines_of past) z.1.0 (in_all (λ (u : Owed). IsOwed me u.client (lines_of past) u) o b.lists.owed x (h.owing refl)) h.rising) (gone o.number l z.1.1))
       ];
       held = λ k x. more_held k b.held [] x;
@@ -249,8 +249,8 @@ ends_backed me b boot seats cs clock sent e past n c p h at gone =
     } in
     subst (λ (ms : List Message). BackedIn me None now boot seats cs clock ms (e ∷ past)) (append-nil sent)
     (backed_step me None None b now boot seats seats cs cs clock clock sent [] e past s h (λ x. granted_over me e past b.lists.promises p.still p.up p.oweless (h.granted x)) (promised_over me None b.lists.promises clock clock e past p.still (le_refl _) h.promised) (numbered_over me None b.lists.last_owed e past p.up p.oweless h.numbered) (rising_over me e past p.oweless h.rising)
-    (λ x. record { promised = (h.clients x).promised; owed = all_without (λ (o : Owed). IsClient o.client) c.breaks b.lists.owed (h.clients x).owed })
-    (λ x. all_without (λ (o : Owed). IsOwed me o.client (lines_of (e ∷ past)) o) c.breaks b.lists.owed (owed_over me e past b.lists.owed p.up (h.owing x)))
+    (λ x. record { promised = (h.clients x).promised; owed = all_without (λ (o : Owed). IsClient o.client) c.content b.lists.owed (h.clients x).owed })
+    (λ x. all_without (λ (o : Owed). IsOwed me o.client (lines_of (e ∷ past)) o) c.content b.lists.owed (owed_over me e past b.lists.owed p.up (h.owing x)))
     (λ x. all_both (HeldWaits me seats clock (e ∷ past)) b.held [] (all_map (HeldWaits me seats clock past) (HeldWaits me seats clock (e ∷ past)) (λ q y. plain_waits me seats seats clock clock e past q p (le_refl _) (λ m a d z. z) y) b.held (h.waiting x)) tt)
     (λ x j k y. call_over me j k b.last_call b.last_call boot e past (le_refl _) p.up (h.outs x j k (none_by (same_node n j) (b.calls j) k y))) tt tt
     (λ j seat m x y. seated_over me None None b now boot clock clock e past s j m (h.seated j seat m x y)))
@@ -289,18 +289,18 @@ settles_all : (me : Node) (serving : IsServing me) (s : Script) (n : Node) (epoc
 settles_all me serving s n epoch number past [] owed own h r up = tt
 settles_all me serving s n epoch number past (o ∷ os) owed own h r up = settles_by_good me serving (has_break o.number owed) s n epoch number o past own (filter (λ (x : Owed). has_break x.number owed) os) h.0 r up (λ x z still. settles_all me serving s n epoch number past os owed x h.1 z still)
 
-pub settles_good : (me : Node) → IsServing me → (s : Script) (n : Node) (epoch number : ℕ) (c : BackCall) (b : Backs) (past : List Entry) (own : List Line) → AllOf (DroppedOwe me n epoch number past) c.breaks → IsReplied me n epoch number past own → (HasStopped me own → ⊥) → AreGood s (actors.Node me) past own (map (settle_line me n) (still_owed c b))
-settles_good me serving s n epoch number c b past own h r up = settles_all me serving s n epoch number past c.breaks b.lists.owed own h r up
+pub settles_good : (me : Node) → IsServing me → (s : Script) (n : Node) (epoch number : ℕ) (c : BackCall) (b : Backs) (past : List Entry) (own : List Line) → AllOf (DroppedOwe me n epoch number past) c.content → IsReplied me n epoch number past own → (HasStopped me own → ⊥) → AreGood s (actors.Node me) past own (map (settle_line me n) (still_owed c b))
+settles_good me serving s n epoch number c b past own h r up = settles_all me serving s n epoch number past c.content b.lists.owed own h r up
 
 pub two_all : {A : Type 0} → (P Q R : A → Type 0) → ((x : A) → P x → Q x → R x) → (xs : List A) → AllOf P xs → AllOf Q xs → AllOf R xs
 two_all P Q R w [] h k = tt
 two_all P Q R w (x ∷ xs) h k = (w x h.0 k.0, two_all P Q R w xs h.1 k.1)
 
 -- what the call carries
-pub carried_by : (me n : Node) (boot : ℕ) (c : BackCall) (past : List Entry) (last : ℕ) → CallOut me n c last boot past → AllOf (λ (o : Owed). IsCarried me n boot c.number o.what o.number past) c.breaks
+pub carried_by : (me n : Node) (boot : ℕ) (c : BackCall) (past : List Entry) (last : ℕ) → CallOut me n c last boot past → AllOf (λ (o : Owed). IsCarried me n boot c.number o.what o.number past) c.content
 carried_by me n boot c past last out =
-    two_all (IsOwed me n (lines_of (out.sent.at ∷ out.sent.older))) (λ (o : Owed). CarriesBreak (breaks_call c.breaks) o.what) (λ (o : Owed). IsCarried me n boot c.number o.what o.number past)
-    (λ o x y. record { user = []; call = breaks_call c.breaks; sent = out.sent; carries = y; owe = x; up = out.up }) c.breaks out.owes out.carries
+    two_all (IsOwed me n (lines_of (out.sent.at ∷ out.sent.older))) (λ (o : Owed). CarriesBreak (breaks_call c.content) o.what) (λ (o : Owed). IsCarried me n boot c.number o.what o.number past)
+    (λ o x y. record { user = []; call = breaks_call c.content; sent = out.sent; carries = y; owe = x; up = out.up }) c.content out.owes out.carries
 
 quits_by_good : (me : Node) (serving : IsServing me) (t : Bool) (s : Script) (n : Node) (boot number : ℕ) (o : Owed) (past : List Entry) (own : List Line) (xs : List Owed) → IsCarried me n boot number o.what o.number past → HasTimeout me n boot number 3 own → (HasStopped me own → ⊥)
     → ((own : List Line) → HasTimeout me n boot number 3 own → (HasStopped me own → ⊥) → AreGood s (actors.Node me) past own (map (quit_line me n) xs)) → AreGood s (actors.Node me) past own (map (quit_line me n) (cond t (o ∷ xs) xs))
@@ -312,7 +312,7 @@ quits_all me serving s n boot number past [] owed own h third up = tt
 quits_all me serving s n boot number past (o ∷ os) owed own h third up = quits_by_good me serving (has_break o.number owed) s n boot number o past own (filter (λ (x : Owed). has_break x.number owed) os) h.0 third up (λ x y still. quits_all me serving s n boot number past os owed x h.1 y still)
 
 pub quits_good : (me : Node) → IsServing me → (s : Script) (n : Node) (boot last : ℕ) (c : BackCall) (b : Backs) (past : List Entry) → CallOut me n c last boot past → AreGood s (actors.Node me) past (lines.Timeout me n boot c.number 3 ∷ []) (map (quit_line me n) (still_owed c b))
-quits_good me serving s n boot last c b past out = quits_all me serving s n boot c.number past c.breaks b.lists.owed _ (carried_by me n boot c past last out) (inl (refl, (refl, (refl, (refl, refl))))) (λ z. z)
+quits_good me serving s n boot last c b past out = quits_all me serving s n boot c.number past c.content b.lists.owed _ (carried_by me n boot c past last out) (inl (refl, (refl, (refl, (refl, refl))))) (λ z. z)
 
 pub settles_backed : (me : Node) (b : Backs) (boot : ℕ) (seats : List Seat) (cs : ℕ → Option Seat) (clock : ℕ) (sent : List Message) (e : Entry) (past : List Entry) (n : Node) (p : ℕ) (c : BackCall) → b.calls n ≡ Some c → e.lines ≡ lines.Given p ∷ map (settle_line me n) (still_owed c b) → BackedIn me None b boot seats cs clock sent past → BackedIn me None (loaded (settles me n c b)) boot seats cs clock sent (e ∷ past)
 settles_backed me b boot seats cs clock sent e past n p c at is h =
@@ -364,7 +364,7 @@ retries_backed me b boot seats cs clock sent e past n c at is h =
       gone = λ o x. inl x;
       held = λ k x. more_held k b.held [] x;
       last = le_refl _;
-      calls = λ j k y. put_call n j more k b.calls _ y (λ q z. inr (c, (ap b.calls (sym q) ∙ at, (ap (λ (u : BackCall). u.number) z, ap (λ (u : BackCall). u.breaks) z)))) (λ z. inr (k, (z, (refl, refl))));
+      calls = λ j k y. put_call n j more k b.calls _ y (λ q z. inr (c, (ap b.calls (sym q) ∙ at, (ap (λ (u : BackCall). u.number) z, ap (λ (u : BackCall). u.content) z)))) (λ z. inr (k, (z, (refl, refl))));
     } in
     subst (λ (ms : List Message). BackedIn me None now boot seats cs clock ms (e ∷ past)) (append-nil sent)
     (backed_step me None None b now boot seats seats cs cs clock clock sent [] e past s h (λ x. granted_over me e past b.lists.promises p.still p.up p.oweless (h.granted x)) (promised_over me None b.lists.promises clock clock e past p.still (le_refl _) h.promised) (numbered_over me None b.lists.last_owed e past p.up p.oweless h.numbered) (rising_over me e past p.oweless h.rising) h.clients (λ x. owed_over me e past b.lists.owed p.up (h.owing x))

@@ -101,11 +101,11 @@ IsClient n = ⊥
 pub record CallOut (me : Node) (j : Node) (c : BackCall) (last boot : ℕ) (past : List Entry) : Type 0 where
   pub number : c.number ≤ last
   pub client : IsClient j
-  pub sent : FirstSent j (record { node = me; epoch = boot; number = c.number }) [] (breaks_call c.breaks) past
+  pub sent : FirstSent j (record { node = me; epoch = boot; number = c.number }) [] (breaks_call c.content) past
   pub up : HasStopped me (lines_on [] sent.newer) → ⊥
   pub tries : (t : ℕ) → 1 ≤ t → t ≤ c.tries → HasTimeout me j boot c.number t (lines_of past)
-  pub owes : AllOf (IsOwed me j (lines_of (sent.at ∷ sent.older))) c.breaks
-  pub carries : AllOf (λ (o : Owed). CarriesBreak (breaks_call c.breaks) o.what) c.breaks
+  pub owes : AllOf (IsOwed me j (lines_of (sent.at ∷ sent.older))) c.content
+  pub carries : AllOf (λ (o : Owed). CarriesBreak (breaks_call c.content) o.what) c.content
 
 -- a server's call under way: if it is this server's, and the unanswered one, it carries its breaks
 pub record BackIn (me : Node) (d : Option Fall) (calls : Node → Option BackCall) (last boot : ℕ) (head : Head) (user : List ℕ) (call : FsCall) : Type 0 where
@@ -113,7 +113,7 @@ pub record BackIn (me : Node) (d : Option Fall) (calls : Node → Option BackCal
   pub to : head.to ≡ client
   pub booted : head.from ≡ me → head.epoch ≤ boot
   pub below : head.from ≡ me → d ≡ None → head.epoch ≡ boot → head.number ≤ last
-  pub is : (c : BackCall) → head.from ≡ me → d ≡ None → head.epoch ≡ boot → calls client ≡ Some c → head.number ≡ c.number → call ≡ breaks_call c.breaks
+  pub is : (c : BackCall) → head.from ≡ me → d ≡ None → head.epoch ≡ boot → calls client ≡ Some c → head.number ≡ c.number → call ≡ breaks_call c.content
 
 -- the client dropped what this break is on, which the call of this number carries
 abbrev pub DroppedOwe : Node → Node → ℕ → ℕ → List Entry → Owed → Type 0
@@ -123,7 +123,7 @@ DroppedOwe me j boot number past o = IsGivenUp me j boot number o.what o.number 
 pub record IsDone (me : Node) (d : Option Fall) (calls : Node → Option BackCall) (last boot : ℕ) (past : List Entry) (j : Node) (epoch number : ℕ) : Type 0 where
   pub booted : epoch ≤ boot
   pub below : d ≡ None → epoch ≡ boot → number ≤ last
-  pub dropped : (c : BackCall) → d ≡ None → epoch ≡ boot → calls j ≡ Some c → number ≡ c.number → AllOf (DroppedOwe me j epoch number past) c.breaks
+  pub dropped : (c : BackCall) → d ≡ None → epoch ≡ boot → calls j ≡ Some c → number ≡ c.number → AllOf (DroppedOwe me j epoch number past) c.content
 
 pub record DoneIn (me : Node) (d : Option Fall) (calls : Node → Option BackCall) (last boot : ℕ) (past : List Entry) (m : Message) : Type 0 where
   pub client : Node

@@ -66,4 +66,4 @@ run_handled s h end r i j place m b at code to from up boot call number =
     let P : Message → Type 0 = DoneIn (Server i) (end.hosts i).down (end.hosts i).state.backs.calls (end.hosts i).state.backs.last_call (end.hosts i).state.lasting.boot past in
     let d : P m = done_in i m.carried m.head.to (P m) code to (each_at (IfDone P) end.sent place m at x.dones) in
     let same : d.client ≡ Client j = sym d.from ∙ from in
-    handled_all i j m.head past b.breaks (subst (λ (q : Node). AllOf (DroppedOwe (Server i) q m.head.epoch m.head.number past) b.breaks) same ((d.done to).dropped b up boot (ap (end.hosts i).state.backs.calls same ∙ call) number))
+    handled_all i j m.head past b.content (subst (λ (q : Node). AllOf (DroppedOwe (Server i) q m.head.epoch m.head.number past) b.content) same ((d.done to).dropped b up boot (ap (end.hosts i).state.backs.calls same ∙ call) number))

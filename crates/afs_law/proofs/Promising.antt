@@ -126,10 +126,10 @@ ends_all_is [] l = refl
 ends_all_is (o ∷ os) l = ends_all_is os (lists.ends o.number l)
 
 abbrev pub ended_call : Node → BackCall → Backs → Backs
-ended_call n c b = record b { calls = put_at n None b.calls; lists = record b.lists { owed = without_all c.breaks b.lists.owed } }
+ended_call n c b = record b { calls = put_at n None b.calls; lists = record b.lists { owed = without_all c.content b.lists.owed } }
 
 pub ended_is : (n : Node) (c : BackCall) (b : Backs) → ends_call n c b ≡ ended_call n c b
-ended_is n c b = ap (λ (l : Lists). record b { calls = put_at n None b.calls; lists = l }) (ends_all_is c.breaks b.lists)
+ended_is n c b = ap (λ (l : Lists). record b { calls = put_at n None b.calls; lists = l }) (ends_all_is c.content b.lists)
 
 -- ---- a restart
 

@@ -102,7 +102,7 @@ breaks_gift head [] ls = tt
 breaks_gift head (o ∷ os) ls = break_gift head o.what (o ∷ os) ls
 
 break_sent : (me : Node) (boot : ℕ) (n : Node) (known : ℕ) (c : BackCall) → IsSentBy me (break_message me boot n known c)
-break_sent me boot n known c = record { from = refl; half = λ z. refl; firm = tt; gift = λ z ls. breaks_gift (break_message me boot n known c).head c.breaks ls }
+break_sent me boot n known c = record { from = refl; half = λ z. refl; firm = tt; gift = λ z ls. breaks_gift (break_message me boot n known c).head c.content ls }
 
 change_sent : (me : Node) (x : ServerState) (clock : ℕ) (head : Head) (c : Change) → head.to ≡ me → IsSentBy me (change_reply_to x.lasting.boot head clock c)
 change_sent me x clock head c to = record { from = to; half = code_half (change_reply_to x.lasting.boot head clock c) (change_code (clock + promise_ticks) _); firm = change_firm x.lasting.boot head (clock + promise_ticks) _; gift = λ z ls. code_gift (reply_head x.lasting.boot head) _ ls (change_code (clock + promise_ticks) _) }

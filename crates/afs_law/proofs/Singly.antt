@@ -243,7 +243,7 @@ record Listed (me : Node) (b : Backs) (ls : List Line) : Type 0 where
   low : AllOf (λ (o : Owed). o.number ≤ b.lists.last_owed) b.lists.owed
   open' : AllOf (λ (o : Owed). HasEnded me o.number ls → ⊥) b.lists.owed
   ended : (n : ℕ) → HasEnded me n ls → n ≤ b.lists.last_owed
-  calls : (j : Node) (c : BackCall) → b.calls j ≡ Some c → AreDistinct c.breaks
+  calls : (j : Node) (c : BackCall) → b.calls j ≡ Some c → AreDistinct c.content
 
 -- behind lines that end no break
 over_listed : (me : Node) (b : Backs) (ls more : List Line) → ((n : ℕ) → HasEnded me n more → HasEnded me n ls) → Listed me b ls → Listed me b more
@@ -281,8 +281,8 @@ starts_by_listed me boot t o None ls h = record {
   low = h.low;
   open' = h.open';
   ended = h.ended;
-  calls = λ j c e. put_case (same_node o.client j) (Some (started_call t.backs o)) (t.backs.calls j) c (AreDistinct c.breaks) e
-      (λ y. subst (λ (k : BackCall). AreDistinct k.breaks) (one_call (started_call t.backs o) c y) (distinct_carried o.what o t.backs.lists.owed h.distinct)) (h.calls j c);
+  calls = λ j c e. put_case (same_node o.client j) (Some (started_call t.backs o)) (t.backs.calls j) c (AreDistinct c.content) e
+      (λ y. subst (λ (k : BackCall). AreDistinct k.content) (one_call (started_call t.backs o) c y) (distinct_carried o.what o t.backs.lists.owed h.distinct)) (h.calls j c);
 }
 starts_by_listed me boot t o (Some c) ls h = h
 
@@ -402,8 +402,8 @@ shown_ends me x clock b head r past h own calm = record {
 
 -- ---- a call's end
 
-all_still : (P : Owed → Type 0) (c : BackCall) (b : Backs) → AllOf P c.breaks → AllOf P (still_owed c b)
-all_still P c b h = all_filter P (λ (o : Owed). has_break o.number b.lists.owed) c.breaks h
+all_still : (P : Owed → Type 0) (c : BackCall) (b : Backs) → AllOf P c.content → AllOf P (still_owed c b)
+all_still P c b h = all_filter P (λ (o : Owed). has_break o.number b.lists.owed) c.content h
 
 -- what is still owed was never ended, and has no number above the last
 owed_of : (t : Bool) (n k : ℕ) (P : ℕ → Type 0) (rest : Bool) → nat_eq k n ≡ t → cond t true rest ≡ true → P k → (rest ≡ true → P n) → P n
@@ -423,7 +423,7 @@ still_holds q [] = tt
 still_holds q (o ∷ os) = still_by (q o) q o (filter q os) refl (still_holds q os)
 
 still_have : (P : ℕ → Type 0) (c : BackCall) (b : Backs) → AllOf (λ (o : Owed). P o.number) b.lists.owed → AllOf (λ (o : Owed). P o.number) (still_owed c b)
-still_have P c b h = all_map (λ (o : Owed). has_break o.number b.lists.owed ≡ true) (λ (o : Owed). P o.number) (λ o e. has_of P o.number b.lists.owed e h) (still_owed c b) (still_holds (λ (o : Owed). has_break o.number b.lists.owed) c.breaks)
+still_have P c b h = all_map (λ (o : Owed). has_break o.number b.lists.owed ≡ true) (λ (o : Owed). P o.number) (λ o e. has_of P o.number b.lists.owed e h) (still_owed c b) (still_holds (λ (o : Owed). has_break o.number b.lists.owed) c.content)
 
 -- what stays has none of the call's numbers
 kept_apart : (n : ℕ) (os : List Owed) → AllOf (IsNot n) (without_break n os)
@@ -491,11 +491,11 @@ quit_ended me n k (y ∷ os) o x = elim (quit_ended me n k os (quit_line me n y 
 call_listed : (me n : Node) (c : BackCall) (b : Backs) (past : List Entry) (o : List Line) → Listed me b (lines_of past) → ((k : ℕ) → HasEnded me k o → HasEnded me k (lines_of past) ⊎ IsNumber k (still_owed c b)) → Listed me (ended_call n c b) o
 call_listed me n c b past o h w = record {
   single = h.single;
-  distinct = distinct_without c.breaks b.lists.owed h.distinct;
-  low = all_without (λ (y : Owed). y.number ≤ b.lists.last_owed) c.breaks b.lists.owed h.low;
-  open' = opened (without_all c.breaks b.lists.owed) (all_without (λ (y : Owed). HasEnded me y.number (lines_of past) → ⊥) c.breaks b.lists.owed h.open') (none_without c.breaks b.lists.owed);
+  distinct = distinct_without c.content b.lists.owed h.distinct;
+  low = all_without (λ (y : Owed). y.number ≤ b.lists.last_owed) c.content b.lists.owed h.low;
+  open' = opened (without_all c.content b.lists.owed) (all_without (λ (y : Owed). HasEnded me y.number (lines_of past) → ⊥) c.content b.lists.owed h.open') (none_without c.content b.lists.owed);
   ended = λ k x. elim (w k x) [ inl y ↦ h.ended k y | inr y ↦ number_low k (still_owed c b) y (still_have (λ i. i ≤ b.lists.last_owed) c b h.low) ];
-  calls = λ j k e. put_case (same_node n j) None (b.calls j) k (AreDistinct k.breaks) e (λ y. absurd cc) (h.calls j k);
+  calls = λ j k e. put_case (same_node n j) None (b.calls j) k (AreDistinct k.content) e (λ y. absurd cc) (h.calls j k);
 }
   where
     number_low : (k : ℕ) (os : List Owed) → IsNumber k os → AllOf (λ (y : Owed). y.number ≤ b.lists.last_owed) os → k ≤ b.lists.last_owed
@@ -508,23 +508,23 @@ call_listed me n c b past o h w = record {
     number_not k (y ∷ os) (inl e) a = a.0 (sym e)
     number_not k (y ∷ os) (inr x) a = number_not k os x a.1
 
-    opened : (xs : List Owed) → AllOf (λ (y : Owed). HasEnded me y.number (lines_of past) → ⊥) xs → AllOf (IsNone c.breaks) xs → AllOf (λ (y : Owed). HasEnded me y.number o → ⊥) xs
+    opened : (xs : List Owed) → AllOf (λ (y : Owed). HasEnded me y.number (lines_of past) → ⊥) xs → AllOf (IsNone c.content) xs → AllOf (λ (y : Owed). HasEnded me y.number o → ⊥) xs
     opened [] a z = tt
     opened (x ∷ xs) a z = ((λ u. elim (w x.number u) [ inl v ↦ a.0 v | inr v ↦ number_not x.number (still_owed c b) v (all_still (λ (y : Owed). x.number ≡ y.number → ⊥) c b z.0) ]), opened xs a.1 z.1)
 
-settled_ends : (me n : Node) (c : BackCall) (b : Backs) (past : List Entry) → AreDistinct c.breaks → Listed me b (lines_of past) → EndsBehind me past (ended_call n c b) (map (settle_line me n) (still_owed c b))
+settled_ends : (me n : Node) (c : BackCall) (b : Backs) (past : List Entry) → AreDistinct c.content → Listed me b (lines_of past) → EndsBehind me past (ended_call n c b) (map (settle_line me n) (still_owed c b))
 settled_ends me n c b past d h own calm =
     let o : List Line = own ++ lines_of past in
     record {
-      once = settle_once me n past (still_owed c b) own (still_have (λ i. HasEnded me i o → ⊥) c b (all_map (λ (y : Owed). HasEnded me y.number (lines_of past) → ⊥) (λ (y : Owed). HasEnded me y.number o → ⊥) (λ y x u. x (calm.ends me y.number u)) b.lists.owed h.open')) (distinct_filter (λ (y : Owed). has_break y.number b.lists.owed) c.breaks d);
+      once = settle_once me n past (still_owed c b) own (still_have (λ i. HasEnded me i o → ⊥) c b (all_map (λ (y : Owed). HasEnded me y.number (lines_of past) → ⊥) (λ (y : Owed). HasEnded me y.number o → ⊥) (λ y x u. x (calm.ends me y.number u)) b.lists.owed h.open')) (distinct_filter (λ (y : Owed). has_break y.number b.lists.owed) c.content d);
       listed = call_listed me n c b past _ h (λ k x. elim (settle_ended me n k (still_owed c b) o x) [ inl y ↦ inl (calm.ends me k y) | inr y ↦ inr y ]);
     }
 
-quitted_ends : (me n : Node) (c : BackCall) (b : Backs) (past : List Entry) → AreDistinct c.breaks → Listed me b (lines_of past) → EndsBehind me past (ended_call n c b) (map (quit_line me n) (still_owed c b))
+quitted_ends : (me n : Node) (c : BackCall) (b : Backs) (past : List Entry) → AreDistinct c.content → Listed me b (lines_of past) → EndsBehind me past (ended_call n c b) (map (quit_line me n) (still_owed c b))
 quitted_ends me n c b past d h own calm =
     let o : List Line = own ++ lines_of past in
     record {
-      once = quit_once me n past (still_owed c b) own (still_have (λ i. HasEnded me i o → ⊥) c b (all_map (λ (y : Owed). HasEnded me y.number (lines_of past) → ⊥) (λ (y : Owed). HasEnded me y.number o → ⊥) (λ y x u. x (calm.ends me y.number u)) b.lists.owed h.open')) (distinct_filter (λ (y : Owed). has_break y.number b.lists.owed) c.breaks d);
+      once = quit_once me n past (still_owed c b) own (still_have (λ i. HasEnded me i o → ⊥) c b (all_map (λ (y : Owed). HasEnded me y.number (lines_of past) → ⊥) (λ (y : Owed). HasEnded me y.number o → ⊥) (λ y x u. x (calm.ends me y.number u)) b.lists.owed h.open')) (distinct_filter (λ (y : Owed). has_break y.number b.lists.owed) c.content d);
       listed = call_listed me n c b past _ h (λ k x. elim (quit_ended me n k (still_owed c b) o x) [ inl y ↦ inl (calm.ends me k y) | inr y ↦ inr y ]);
     }
 
@@ -584,7 +584,7 @@ retried_listed me n c b ls e h = record {
   low = h.low;
   open' = h.open';
   ended = h.ended;
-  calls = λ j k y. put_case (same_node n j) (Some (record c { tries = c.tries + 1 })) (b.calls j) k (AreDistinct k.breaks) y (λ z. subst (λ (q : BackCall). AreDistinct q.breaks) (one_call (record c { tries = c.tries + 1 }) k z) (h.calls n c e)) (h.calls j k);
+  calls = λ j k y. put_case (same_node n j) (Some (record c { tries = c.tries + 1 })) (b.calls j) k (AreDistinct k.content) y (λ z. subst (λ (q : BackCall). AreDistinct q.content) (one_call (record c { tries = c.tries + 1 }) k z) (h.calls n c e)) (h.calls j k);
 }
 
 timed_ends : (me : Node) (x : ServerState) (clock : ℕ) (n : Node) (c : BackCall) (past : List Entry) → x.backs.calls n ≡ Some c → Listed me x.backs (lines_of past) → Ends me past (back_timeout_row me x clock n c).state.backs [] (back_timeout_row me x clock n c).lines

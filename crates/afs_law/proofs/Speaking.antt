@@ -222,12 +222,12 @@ handled me d b boot seats cs clock sent e past n head user call B k to own up dr
       booted = k.booted own;
       below = k.below own;
       dropped = λ c x y at q.
-          let is : call ≡ breaks_call c.breaks = k.is c own x y (ap b.calls one ∙ at) q in
+          let is : call ≡ breaks_call c.content = k.is c own x y (ap b.calls one ∙ at) q in
           let out : CallOut me (Client n) c b.last_call boot past = B.outs x (Client n) c at in
-          subst (λ (k : ℕ). AllOf (DroppedOwe me (Client n) k head.number (e ∷ past)) c.breaks) (sym y)
-          (subst (λ (k : ℕ). AllOf (DroppedOwe me (Client n) boot k (e ∷ past)) c.breaks) (sym q)
-          (two_all (λ (o : Owed). IsCarried me (Client n) boot c.number o.what o.number past) (λ (o : Owed). CarriesBreak (breaks_call c.breaks) o.what) (DroppedOwe me (Client n) boot c.number (e ∷ past))
-          (λ o z w. record { carried = carried_over me (Client n) boot c.number o.what o.number e past up z; dropped = drop o.what (lines_on [] z.sent.newer) (subst (λ (u : FsCall). CarriesBreak u o.what) (sym is) w) }) c.breaks (carried_by me (Client n) boot c past b.last_call out) out.carries));
+          subst (λ (k : ℕ). AllOf (DroppedOwe me (Client n) k head.number (e ∷ past)) c.content) (sym y)
+          (subst (λ (k : ℕ). AllOf (DroppedOwe me (Client n) boot k (e ∷ past)) c.content) (sym q)
+          (two_all (λ (o : Owed). IsCarried me (Client n) boot c.number o.what o.number past) (λ (o : Owed). CarriesBreak (breaks_call c.content) o.what) (DroppedOwe me (Client n) boot c.number (e ∷ past))
+          (λ o z w. record { carried = carried_over me (Client n) boot c.number o.what o.number e past up z; dropped = drop o.what (lines_on [] z.sent.newer) (subst (λ (u : FsCall). CarriesBreak u o.what) (sym is) w) }) c.content (carried_by me (Client n) boot c past b.last_call out) out.carries));
     }
 
 -- the lines drop each of the fids

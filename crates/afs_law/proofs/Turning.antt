@@ -355,7 +355,7 @@ calls_unsent me boot last calls' [] more is h = refl
 calls_unsent me boot last calls' (m ∷ ms) more is h = rw (call_unsent me boot last calls' m.head m.carried is h.0, calls_unsent me boot last calls' ms more is h.1) refl
 
 started_backed : (me : Node) (boot : ℕ) (seats : List Seat) (cs : ℕ → Option Seat) (clock : ℕ) (sent : List Message) (at : Entry) (older : List Entry) (t : Started) (o : Owed) (x : Option BackCall) → IsServing me → sent_of older ≡ sent → IsBacked me boot seats cs clock sent (at ∷ older) t → IsOwed me o.client (lines_of (at ∷ older)) o → IsClient o.client
-    → ((c : BackCall) → x ≡ None → SendsTo o.client (record { node = me; epoch = boot; number = c.number }) [] (breaks_call c.breaks) (t.sent ++ break_message me boot o.client (t.backs.known o.client) c ∷ []) → c ≡ started_call t.backs o → SendsTo o.client (record { node = me; epoch = boot; number = c.number }) [] (breaks_call c.breaks) at.sent)
+    → ((c : BackCall) → x ≡ None → SendsTo o.client (record { node = me; epoch = boot; number = c.number }) [] (breaks_call c.content) (t.sent ++ break_message me boot o.client (t.backs.known o.client) c ∷ []) → c ≡ started_call t.backs o → SendsTo o.client (record { node = me; epoch = boot; number = c.number }) [] (breaks_call c.content) at.sent)
     → IsBacked me boot seats cs clock sent (at ∷ older) (starts_by me boot t o x)
 started_backed me boot seats cs clock sent at older t o (Some c) serving told h is to was = h
 started_backed me boot seats cs clock sent at older t o None serving told h is to was =
@@ -366,7 +366,7 @@ started_backed me boot seats cs clock sent at older t o None serving told h is t
     let m : Message = break_message me boot o.client (t.backs.known o.client) n in
     let pass : CallsPass t.backs.calls last calls' = started_pass t o in
     let le : last ≤ last + 1 = omega arith in
-    let carried_ : AreCarried me o.client (lines_of past) n.breaks = are_carried me o.what o (lines_of past) t.backs.lists.owed refl is (h.owing refl) in
+    let carried_ : AreCarried me o.client (lines_of past) n.content = are_carried me o.what o (lines_of past) t.backs.lists.owed refl is (h.owing refl) in
     subst (λ (ms : List Message). BackedIn me None (starts_by me boot t o None).backs boot seats cs clock ms past) (append_assoc sent t.sent (m ∷ [])) (record {
       granted = h.granted;
       promised = h.promised;
@@ -396,12 +396,12 @@ started_backed me boot seats cs clock sent at older t o None serving told h is t
           (λ e. call_more me j c last (last + 1) boot past le (h.outs y j c e));
       calls = each_more (IfBack (BackIn me None calls' (last + 1) boot)) (sent ++ t.sent) (m ∷ []) (each_map (IfBack (BackIn me None t.backs.calls last boot)) (IfBack (BackIn me None calls' (last + 1) boot)) (if_back (BackIn me None t.backs.calls last boot) (BackIn me None calls' (last + 1) boot)
           (λ head user call y. back_pass me None None t.backs.calls calls' last (last + 1) boot head user call (λ z. z) le pass y)) (sent ++ t.sent) h.calls) (
-            server_any me (BackIn me None calls' (last + 1) boot m.head [] (breaks_call n.breaks)) (record {
+            server_any me (BackIn me None calls' (last + 1) boot m.head [] (breaks_call n.content)) (record {
               client = o.client;
               to = refl;
               booted = λ own. le_refl _;
               below = λ own y z. le_refl _;
-              is = λ c own y z at q. put_call o.client o.client n c t.backs.calls _ at (λ e w. ap (λ (u : BackCall). breaks_call u.breaks) w) (λ e. let low : c.number ≤ last = (h.outs refl o.client c e).number in let q' : last + 1 ≡ c.number = q in absurd (omega arith));
+              is = λ c own y z at q. put_call o.client o.client n c t.backs.calls _ at (λ e w. ap (λ (u : BackCall). breaks_call u.content) w) (λ e. let low : c.number ≤ last = (h.outs refl o.client c e).number in let q' : last + 1 ≡ c.number = q in absurd (omega arith));
             }),
             tt,
           );
@@ -496,7 +496,7 @@ serving_key (Admin j) k past is = tt
 serving_key Loc k past is = tt
 
 good_by_call : (me : Node) (boot : ℕ) (past : List Entry) (t : Started) (o : Owed) (x : Option BackCall) → IsServing me → IsBy me past → AreGoodSent past t.sent → AreGoodSent past (starts_by me boot t o x).sent
-good_by_call me boot past t o None is by h = let m : Message = break_message me boot o.client (t.backs.known o.client) (started_call t.backs o) in good_more past t.sent (m ∷ []) h (record { sender = by; half = λ z. refl; reply = call_good past m.head [] (breaks_call (started_call t.backs o).breaks); gift = break_gift (started_call t.backs o).breaks m.head (lines_of past); key = serving_key me (called_key m.head) past is }, tt)
+good_by_call me boot past t o None is by h = let m : Message = break_message me boot o.client (t.backs.known o.client) (started_call t.backs o) in good_more past t.sent (m ∷ []) h (record { sender = by; half = λ z. refl; reply = call_good past m.head [] (breaks_call (started_call t.backs o).content); gift = break_gift (started_call t.backs o).content m.head (lines_of past); key = serving_key me (called_key m.head) past is }, tt)
 good_by_call me boot past t o (Some c) is by h = h
 
 calls_good : (me : Node) (boot : ℕ) (past : List Entry) (os : List Owed) (t : Started) → IsServing me → IsBy me past → AreGoodSent past t.sent → AreGoodSent past (starts me boot os t).sent
@@ -519,4 +519,4 @@ pumps me boot seats cs clock sent e past t serving told by is time h s up =
     }
 
 pub break_good : (me : Node) (past : List Entry) (boot : ℕ) (n : Node) (known : ℕ) (c : BackCall) → IsServing me → IsBy me past → AreGoodSent past (break_message me boot n known c ∷ [])
-break_good me past boot n known c is by = let m : Message = break_message me boot n known c in (record { sender = by; half = λ z. refl; reply = call_good past m.head [] (breaks_call c.breaks); gift = break_gift c.breaks m.head (lines_of past); key = serving_key me (called_key m.head) past is }, tt)
+break_good me past boot n known c is by = let m : Message = break_message me boot n known c in (record { sender = by; half = λ z. refl; reply = call_good past m.head [] (breaks_call c.content); gift = break_gift c.content m.head (lines_of past); key = serving_key me (called_key m.head) past is }, tt)

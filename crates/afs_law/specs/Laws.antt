@@ -361,7 +361,7 @@ IsHandled i j head past o = IsGivenUp (Server i) (Client j) head.epoch head.numb
 abbrev pub RepliesFollowDrops : Type 0
 RepliesFollowDrops =
     (s : Script) (history : List Entry) (end : Cell) → RunsTo history s end → (i j place : ℕ) (m : Message) (b : BackCall) → message_at end.sent place ≡ Some m → HasCode m.carried → m.head.to ≡ Server i → m.head.from ≡ Client j
-    → (end.hosts i).down ≡ None → m.head.epoch ≡ (end.hosts i).state.lasting.boot → (end.hosts i).state.backs.calls (Client j) ≡ Some b → m.head.number ≡ b.number → AllByRecursion (IsHandled i j m.head (past_of (set_up s ∷ []) history)) b.breaks
+    → (end.hosts i).down ≡ None → m.head.epoch ≡ (end.hosts i).state.lasting.boot → (end.hosts i).state.backs.calls (Client j) ≡ Some b → m.head.number ≡ b.number → AllByRecursion (IsHandled i j m.head (past_of (set_up s ∷ []) history)) b.content
 
 -- the client waits for the reply to this call
 pub record IsAwaited (c : ClientState) (head : Head) : Type 0 where

@@ -55,17 +55,16 @@ lent_twice None xs ys = refl
 lent_twice (Some ls) xs ys = ap Some (append_assoc ls xs ys)
 
 -- one more was lent behind the first ones
-pub lent_next : (place : Place) (capacity n : ℕ) (old mid new : Option (List Lend)) (node : ℕ) → mid ≡ option_map (λ ls. ls ++ lends place capacity 1 n) old → new ≡ option_map (λ ls. ls ++ one place capacity node ∷ []) mid → node ≡ n + 1
-    → new ≡ option_map (λ ls. ls ++ lends place capacity 1 (n + 1)) old
-lent_next place capacity n old mid new node m e q =
-    let at : node ≡ 1 + n = omega (arith, q) in
+pub lent_next : (place : Place) (capacity i n : ℕ) (old mid new : Option (List Lend)) (node : ℕ) → mid ≡ option_map (λ ls. ls ++ lends place capacity i n) old → new ≡ option_map (λ ls. ls ++ one place capacity node ∷ []) mid → node ≡ i + n
+    → new ≡ option_map (λ ls. ls ++ lends place capacity i (n + 1)) old
+lent_next place capacity i n old mid new node m e at =
     let behind : suc n ≡ n + 1 = omega (arith) in
     e ∙ (ap (option_map (λ (ls : List Lend). ls ++ one place capacity node ∷ [])) m
-    ∙ (lent_twice old (lends place capacity 1 n) (one place capacity node ∷ [])
-    ∙ (ap (λ (k : ℕ). option_map (λ (ls : List Lend). ls ++ (lends place capacity 1 n ++ one place capacity k ∷ [])) old) at
-    ∙ (ap (λ (xs : List Lend). option_map (λ (ls : List Lend). ls ++ xs) old) (sym (lends_more place capacity 1 n))
-    ∙ ap (λ (k : ℕ). option_map (λ (ls : List Lend). ls ++ lends place capacity 1 k) old) behind))))
+    ∙ (lent_twice old (lends place capacity i n) (one place capacity node ∷ [])
+    ∙ (ap (λ (k : ℕ). option_map (λ (ls : List Lend). ls ++ (lends place capacity i n ++ one place capacity k ∷ [])) old) at
+    ∙ (ap (λ (xs : List Lend). option_map (λ (ls : List Lend). ls ++ xs) old) (sym (lends_more place capacity i n))
+    ∙ ap (λ (k : ℕ). option_map (λ (ls : List Lend). ls ++ lends place capacity i k) old) behind))))
 
 -- the first of them were lent
-pub lends_front : (place : Place) (capacity n m : ℕ) (old new : Option (List Lend)) → new ≡ option_map (λ ls. ls ++ lends place capacity 1 n) old → n ≤ m → (k : ℕ) × (new ≡ option_map (λ ls. ls ++ take k (lends place capacity 1 m)) old)
-lends_front place capacity n m old new e le = (n, e ∙ ap (λ (xs : List Lend). option_map (λ (ls : List Lend). ls ++ xs) old) (sym (take_lends place capacity 1 n m le)))
+pub lends_front : (place : Place) (capacity i n m : ℕ) (old new : Option (List Lend)) → new ≡ option_map (λ ls. ls ++ lends place capacity i n) old → n ≤ m → (k : ℕ) × (new ≡ option_map (λ ls. ls ++ take k (lends place capacity i m)) old)
+lends_front place capacity i n m old new e le = (n, e ∙ ap (λ (xs : List Lend). option_map (λ (ls : List Lend). ls ++ xs) old) (sym (take_lends place capacity i n m le)))

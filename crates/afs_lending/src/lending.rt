@@ -1,6 +1,6 @@
 //! The bank lends the disks of a cell's servers, and takes them back.
 
-ghost use Rattle.std.specs.Prelude.{◌≡◌, ◌≤◌, ◌<◌, ◌^◌, ◌++◌, ◌∷◌, ◌⊎◌, [], ℕ, length, option_map, vec_capacity, vec_len, IfErr, IfOk, OnErr, OnOk};
+ghost use Rattle.std.specs.Prelude.{◌≡◌, ◌≤◌, ◌<◌, ◌+◌, ◌^◌, ◌++◌, ◌∷◌, ◌⊎◌, [], ℕ, length, option_map, vec_capacity, vec_len, IfErr, IfOk, OnErr, OnOk};
 ghost use Rattle.afs_disk.specs.Banks.{counted};
 ghost use Rattle.afs_disk.specs.Disk.{Rose};
 ghost use Rattle.afs_lending.specs.Lending.{kept_disks, lends, with_faults, AreLent, AreUnused, GivesBackBut, GoBack, LendsSome, LentTell, OneGoesBack};
@@ -23,26 +23,28 @@ fn put_last<T>(all: &mut Vec<T>, one: T)
     }
 }
 
-/// One disk for each server, in order of number, of this capacity. At the first lend that fails no more are asked for, and the
-/// disks of those before it come back as they were lent.
+/// One disk for each of so many nodes, by their numbers from the first one on, each of this capacity. Servers are numbered from 1. At
+/// the first lend that fails no more are asked for, and the disks of those before it come back as they were lent.
 pub fn lend_all<B: Bank<D: Drop>>(
     alloc: Global,
     bank: &mut B,
     place: &Place,
-    servers: u8,
+    first: u8,
+    count: u8,
     capacity: u32,
 ) -> Result<Disks<B::D>, (LendFault, Disks<B::D>)>
-    ensures lent { IfOk result (AreLent B.D.limit capacity 1) }
-    ensures all { IfOk result (λ ds. length ds ≡ servers) }
-    ensures lends { OnOk result (B.lends bank.new ≡ option_map (λ ls. ls ++ lends place.now capacity 1 servers) (B.lends bank.old)) }
-    ensures some { LendsSome (lends place.now capacity 1 servers) (B.lends bank.old) (B.lends bank.new) }
+    requires { first + count ≤ 2 ^ 8 }
+    ensures lent { IfOk result (AreLent B.D.limit capacity first) }
+    ensures all { IfOk result (λ ds. length ds ≡ count) }
+    ensures lends { OnOk result (B.lends bank.new ≡ option_map (λ ls. ls ++ lends place.now capacity first count) (B.lends bank.old)) }
+    ensures some { LendsSome (lends place.now capacity first count) (B.lends bank.old) (B.lends bank.new) }
     ensures tells { B.tells bank.old place.now → IfOk result (LentTell B.D.seen) }
     ensures unused { IfOk result (AreUnused B.D.faults) }
     ensures back { IfErr result (λ e. AreUnused B.D.faults e.1) }
-    ensures back_lent { IfErr result (λ e. AreLent B.D.limit capacity 1 e.1) }
-    ensures fewer { IfErr result (λ e. e.0 ≡ LendFault.Failed → length e.1 < servers) }
-    ensures few { IfErr result (λ e. 0 < servers → length e.1 < servers) }
-    ensures back_lends { IfErr result (λ e. B.lends bank.new ≡ option_map (λ ls. ls ++ lends place.now capacity 1 (length e.1)) (B.lends bank.old)) }
+    ensures back_lent { IfErr result (λ e. AreLent B.D.limit capacity first e.1) }
+    ensures fewer { IfErr result (λ e. e.0 ≡ LendFault.Failed → length e.1 < count) }
+    ensures few { IfErr result (λ e. 0 < count → length e.1 < count) }
+    ensures back_lends { IfErr result (λ e. B.lends bank.new ≡ option_map (λ ls. ls ++ lends place.now capacity first (length e.1)) (B.lends bank.old)) }
     ensures faults { (n : ℕ) → B.lent_faults bank.new n ≡ B.lent_faults bank.old n }
     ensures given { B.given bank.new ≡ B.given bank.old }
     ensures cause { IfErr result (λ e. e.0 ≡ LendFault.Failed → Rose (B.faults bank.old) (B.faults bank.new)) }
@@ -50,11 +52,11 @@ pub fn lend_all<B: Bank<D: Drop>>(
     ensures quiet { OnOk result (B.faults bank.new ≡ B.faults bank.old) }
     ensures never_falls { B.faults bank.old ≤ B.faults bank.new }
 {
-    let Ok(mut disks) = Vec::with_capacity(alloc, servers as usize) else {
+    let Ok(mut disks) = Vec::with_capacity(alloc, count as usize) else {
         return Err((LendFault::OutOfMemory, Disks::new(alloc)));
     };
-    for before in 0..servers {
-        let node = before + 1;
+    for before in 0..count {
+        let node = first + before;
         match bank.lend(place, node, capacity as u64) {
             Ok(disk) => put_last(&mut disks, Lent { node, disk }),
             Err(fault) => return Err((fault, Disks::from_vec(disks))),
@@ -100,25 +102,26 @@ pub fn give_back_all<B: Bank<D: Drop>>(bank: &mut B, disks: Disks<B::D>) -> Resu
     all
 }
 
-/// The disks go back after they were read, those of the servers from number 1 on.
+/// The disks go back after they were read, by their nodes' numbers from the first one on.
 pub fn give_back<B: Bank<D: Drop>>(
     bank: &mut B,
+    first: u8,
     left: Vec<Left<VolStore<B::D>, B::D>>,
 ) -> Result<(), Failed>
-    requires { length left.items < 2 ^ 8 }
-    ensures all { OnOk result (GivesBackBut B.D.seen 0 (kept_disks 1 left.items) (B.given bank.old) (B.given bank.new)) }
-    ensures back { GoBack B.D.seen (kept_disks 1 left.items) (B.given bank.old) (B.given bank.new) (B.faults bank.old) (B.faults bank.new) }
+    requires { (first + length left.items ≤ 2 ^ 8) × (length left.items < 2 ^ 8) }
+    ensures all { OnOk result (GivesBackBut B.D.seen 0 (kept_disks first left.items) (B.given bank.old) (B.given bank.new)) }
+    ensures back { GoBack B.D.seen (kept_disks first left.items) (B.given bank.old) (B.given bank.new) (B.faults bank.old) (B.faults bank.new) }
     ensures quiet { OnOk result (B.faults bank.new ≡ B.faults bank.old) }
     ensures cause { OnErr result (Rose (B.faults bank.old) (B.faults bank.new)) }
-    ensures faults { (n : ℕ) → B.lent_faults bank.new n ≡ with_faults B.D.faults (kept_disks 1 left.items) n (B.lent_faults bank.old n) }
+    ensures faults { (n : ℕ) → B.lent_faults bank.new n ≡ with_faults B.D.faults (kept_disks first left.items) n (B.lent_faults bank.old n) }
     ensures lends { B.lends bank.new ≡ B.lends bank.old }
     ensures never_falls { B.faults bank.old ≤ B.faults bank.new }
 {
     let mut all = Ok(());
-    let mut node = 0;
+    let mut before = 0;
     for found in left {
-        node += 1;
-        all = give_one(bank, node, disk_in(found), all);
+        all = give_one(bank, first + before, disk_in(found), all);
+        before += 1;
     }
     all
 }

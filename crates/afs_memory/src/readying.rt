@@ -15,7 +15,7 @@ ghost use Rattle.afs_memory.specs.Redoing.{FitsRedo};
 ghost use Rattle.afs_memory.specs.Redos.{body_of, record_of, told, IsMadeAgain, IsReady};
 ghost use Rattle.afs_record.specs.declared.faults.Unfit.TheVariants.{Bad};
 
-use crate::copying::{copy_head, copy_numbers, copy_vnodes};
+use crate::copying::{copy_head, copy_numbers};
 use crate::prepared::Prepared;
 use crate::redo::Redo;
 use afs_num::calls::FsReply;
@@ -28,6 +28,7 @@ use afs_num::volumes::Change;
 use afs_record::faults::{RecordFault, Unfit};
 use afs_record::records::{decode_record, encode_record};
 use afs_records::laws::records_are_read_again;
+use afs_vnode::copying::copy_vnodes;
 use afs_vnode::faults::VnodeFault;
 use afs_vnode::store::VnodeStore;
 use afs_volume::faults::AssembleFault;

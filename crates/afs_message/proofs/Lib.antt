@@ -1,2 +1,4 @@
 pub mod Parts
 pub mod Interfaces
+pub mod Read
+pub mod Sending

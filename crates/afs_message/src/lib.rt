@@ -4,3 +4,4 @@
 
 pub mod cell;
 pub mod messages;
+pub mod spelled;

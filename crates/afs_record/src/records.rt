@@ -16,17 +16,26 @@ use afs_xdr::reading::Reader;
 use afs_xdr::writing::Writer;
 use std::alloc::Global;
 
-/// More bytes than a record takes without its reply and its vnodes, and more than a vnode takes without its contents and
-/// its access list.
-const USUAL_ROOM: usize = 160;
+/// How many bytes the record of a change takes without its reply, its vnodes and the numbers of those that are gone, with the
+/// longest pad. Most other records take fewer.
+const FRAME: usize = 52;
 
-/// How many bytes most records take, or more. It is asked for room before they are written.
+/// How many bytes the image of a vnode takes without its access list and its contents, with the longest pads.
+const IMAGE: usize = 74;
+
+/// How many bytes a record takes, or a few more; one of the first volumes takes more. It is asked for room before it is written.
 fn room_for(rec: &StoreRecord) -> usize {
-    let mut room = rec.head.reply.len().saturating_add(USUAL_ROOM);
-    if let RecordBody::Change { vnodes, .. } = &rec.body {
+    let mut room = rec.head.reply.len().saturating_add(FRAME);
+    if let RecordBody::Change {
+        vnodes,
+        removed,
+        ..
+    } = &rec.body
+    {
+        room = room.saturating_add(removed.len().saturating_mul(4));
         for vnode in vnodes.as_slice() {
             let bytes = vnode.contents.len().saturating_add(vnode.acl.len());
-            room = room.saturating_add(bytes).saturating_add(USUAL_ROOM);
+            room = room.saturating_add(bytes).saturating_add(IMAGE);
         }
     }
     room

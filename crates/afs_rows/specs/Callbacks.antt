@@ -23,7 +23,7 @@ use Rattle.afs_ideal.specs.Operations.{Found}
 use Rattle.afs_history.specs.declared.lines.Line.{Line}
 use Rattle.afs_rows.specs.ServerRow.{Decision, drops, tells_boot, repeats, refuses, shows, saves, made, granted_in, change_reply_to, read_reply_to, refusal, boot_told, promise_ticks}
 use Rattle.afs_rows.specs.States.{BackCall, Held, Backs, Seat, ServerState}
-use Rattle.afs_model.specs.Calls.{call_seat}
+use Rattle.afs_model.specs.Calls.{call_seat, is_sent_again, last_timeout}
 use Rattle.afs_history.specs.declared.lines.Line.TheVariants as lines
 use Rattle.afs_num.specs.declared.histories.Version.{Version}
 
@@ -181,8 +181,8 @@ breaks_opcode (o ∷ os) = opcode_for o.what
 -- a server's own call: its epoch is the server's boot number, its boot number that of the node that it calls
 abbrev pub break_message : Node → ℕ → Node → ℕ → BackCall → Message
 break_message me boot n known c = record {
-  head = record { half = halves.Call; from = me; to = n; epoch = boot; number = c.number; boot = known; stamp = 0; opcode = breaks_opcode c.breaks };
-  carried = carried.Call [] (ask.File (breaks_call c.breaks));
+  head = record { half = halves.Call; from = me; to = n; epoch = boot; number = c.number; boot = known; stamp = 0; opcode = breaks_opcode c.content };
+  carried = carried.Call [] (ask.File (breaks_call c.content));
 }
 
 -- so many breaks in one call at most
@@ -204,7 +204,7 @@ carries_for None o owed = o ∷ []
 carries_for (Some f) o owed = first_of most_breaks (filter (is_for o.client) owed)
 
 abbrev pub started_call : Backs → OwedBreak → BackCall
-started_call b o = record { number = b.last_call + 1; tries = 0; breaks = carries_for o.what o b.lists.owed }
+started_call b o = record { number = b.last_call + 1; tries = 0; content = carries_for o.what o b.lists.owed }
 
 pub record Started : Type 0 where
   pub backs : Backs
@@ -226,7 +226,7 @@ starts me boot (o ∷ os) t = starts me boot os (starts_by me boot t o (t.backs.
 
 -- the breaks of a call that are still owed
 abbrev pub still_owed : BackCall → Backs → List OwedBreak
-still_owed c b = filter (λ (o : OwedBreak). has_break o.number b.lists.owed) c.breaks
+still_owed c b = filter (λ (o : OwedBreak). has_break o.number b.lists.owed) c.content
 
 abbrev pub settle_line : Node → Node → OwedBreak → Line
 settle_line me n o = lines.Settle me n o.number
@@ -240,13 +240,13 @@ ends_all (o ∷ os) l = ends_all os (lists.ends o.number l)
 
 -- the call is done with: none of its breaks is owed any more
 abbrev pub ends_call : Node → BackCall → Backs → Backs
-ends_call n c b = record b { calls = put_at n None b.calls; lists = ends_all c.breaks b.lists }
+ends_call n c b = record b { calls = put_at n None b.calls; lists = ends_all c.content b.lists }
 
 abbrev pub settles : Node → Node → BackCall → Backs → Turn
 settles me n c b = record { backs = ends_call n c b; lines = map (settle_line me n) (still_owed c b); sent = []; outs = [] }
 
 abbrev pub is_back_awaited : ℕ → BackCall → Head → Bool
-is_back_awaited boot c head = nat_eq head.epoch boot && (nat_eq head.number c.number && nat_eq head.opcode (breaks_opcode c.breaks))
+is_back_awaited boot c head = nat_eq head.epoch boot && (nat_eq head.number c.number && nat_eq head.opcode (breaks_opcode c.content))
 
 abbrev pub settles_by : Node → ℕ → Head → Backs → Option BackCall → Turn
 settles_by me boot head b None = no_turn b
@@ -278,7 +278,7 @@ turned_in me s clock b d (Unserved head) = turn_for me s clock b d
 turned_in me s clock b d (Unreadable head) = turn_for me s clock b d
 turned_in me s clock b d (Whole m) = turned_by me s clock b d m.head m.carried
 
--- ---- its timeouts: the third gives the breaks up
+-- ---- its timeouts: the last gives the breaks up
 
 abbrev pub timeout_line : Node → ℕ → Node → ℕ → ℕ → Line
 timeout_line me boot n number count = lines.Timeout me n boot number count
@@ -294,13 +294,13 @@ retries me boot n c b = record {
 abbrev pub quits : Node → ℕ → Node → BackCall → Backs → Turn
 quits me boot n c b = record {
   backs = ends_call n c b;
-  lines = timeout_line me boot n c.number 3 ∷ map (quit_line me n) (still_owed c b);
+  lines = timeout_line me boot n c.number last_timeout ∷ map (quit_line me n) (still_owed c b);
   sent = [];
   outs = [];
 }
 
 abbrev pub timed : Node → ℕ → Node → BackCall → Backs → Turn
-timed me boot n c b = if nat_lt c.tries 2 then retries me boot n c b else quits me boot n c b
+timed me boot n c b = if is_sent_again c.tries then retries me boot n c b else quits me boot n c b
 
 -- ---- the end of each step: replies whose breaks have ended go out, and then calls for what is owed
 

@@ -12,7 +12,7 @@ use Rattle.afs_rows.specs.Steps.{Step}
 use Rattle.afs_history.specs.declared.acts.Act.{Act}
 use Rattle.afs_history.specs.declared.lines.Line.{Line}
 use Rattle.afs_history.specs.declared.lines.Line.TheVariants as lines
-use Rattle.afs_model.specs.Calls.{Admitted, admitted, call_seated}
+use Rattle.afs_model.specs.Calls.{Admitted, admitted, call_seated, is_sent_again, last_timeout}
 use Rattle.afs_model.specs.Calls as pairs
 use Rattle.afs_model.specs.CellRows.{client_calls}
 use Rattle.afs_model.specs.FsRows.{call_number}
@@ -666,11 +666,11 @@ tries_again me c act = record {
 
 -- a changing call that was given up may still run: no entry of its volume stays
 abbrev pub gives_up : Node → ClientState → FsCall → Step ClientState
-gives_up me c call = ends_step me c (left_in (volume_changed call) c.cache) (λ ls. timeout_line me c 3 ∷ dropped me (given_up_in (volume_changed call) c.cache) ls) dead_code
+gives_up me c call = ends_step me c (left_in (volume_changed call) c.cache) (λ ls. timeout_line me c last_timeout ∷ dropped me (given_up_in (volume_changed call) c.cache) ls) dead_code
 
--- the first and second timeout of a call send it again
+-- the call is sent again, and at its last timeout given up
 abbrev pub timeout_row : Node → ClientState → Going → Step ClientState
-timeout_row me c act = if nat_lt c.tries 2 then tries_again me c act else gives_up me c (call_of c act)
+timeout_row me c act = if is_sent_again c.tries then tries_again me c act else gives_up me c (call_of c act)
 
 -- ---- a new client, and one that begins again: it keeps nothing, and has the next epoch
 

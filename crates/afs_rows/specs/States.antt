@@ -83,10 +83,14 @@ durable_of l = record {
 -- ---- what it has in memory beside its callers
 
 -- the server's unanswered call to a node, and the breaks that it carries
-pub record BackCall : Type 0 where
+pub record Unanswered (C : Type 0) : Type 0 where
   pub number : ℕ
   pub tries : ℕ
-  pub breaks : List OwedBreak
+  pub content : C
+
+-- one that brings breaks
+abbrev pub BackCall : Type 0
+BackCall = Unanswered (List OwedBreak)
 
 -- a reply that goes out once no break of these numbers is owed; it is the call's own, or a kept one that was asked again
 pub record Held : Type 0 where

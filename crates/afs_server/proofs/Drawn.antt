@@ -15,7 +15,7 @@ use Rattle.afs_rows.specs.ServerSteps.{stepped}
 use Rattle.afs_rows.specs.States.{BackCall, Backs, ServerState}
 use Rattle.afs_server_parts.specs.Turning.{IsBreakToNode}
 use Rattle.afs_volstore.specs.Stores.{Store}
-use Rattle.afs_callbacks.specs.Ending.{lists_timed}
+use Rattle.afs_callbacks.specs.Waiting.{lists_timed}
 use Rattle.afs_server.specs.Handling.{Makes}
 use Rattle.afs_server.specs.Seen.{Memory}
 use Rattle.afs_callbacks.proofs.Drawing.{pumped_draws, pumped_lists}
@@ -66,8 +66,8 @@ timed_by false l k n p q = q
 pub timed_draws : (c : BackCall) (now : ℕ) (l : Lists) → breaks_drawn (lists_timed c (expired now l)) ≤ breaks_drawn l
 timed_draws c now l =
     let less = expired_draws now l in
-    let same = ended_draws c.breaks (expired now l) in
-    timed_by (nat_lt c.tries 2) (expired now l) (ends_all c.breaks (expired now l)) (breaks_drawn l) less (omega (arith, less, same))
+    let same = ended_draws c.content (expired now l) in
+    timed_by (nat_lt c.tries 2) (expired now l) (ends_all c.content (expired now l)) (breaks_drawn l) less (omega (arith, less, same))
 
 -- ---- a timeout
 

@@ -1,11 +1,10 @@
 -- What a disk keeps with the record of a change is what the row leaves on it.
-use Rattle.std.proofs.Common.{◌+◌, ◌≡◌, ℕ, Bool, true, false, List, [], ◌∷◌, map, Option, Some, None, refl, sym, ap, subst, ◌∙◌, if◌then◌else◌}
+use Rattle.std.proofs.Common.{◌+◌, ◌≡◌, ℕ, Bool, true, false, List, [], ◌∷◌, map, Option, Some, refl, sym, ap, subst, ◌∙◌}
 use Rattle.std.specs.Prelude.{nat_eq, nat_lt}
 use Rattle.afs_num.specs.Nodes.{node_number, node_of, same_node, IsNode}
 use Rattle.afs_num.specs.declared.calls.FsReply.{FsReply}
 use Rattle.afs_num.specs.declared.messages.Message.{Message}
 use Rattle.afs_num.specs.declared.records.RecordBody.TheVariants as bodies
-use Rattle.afs_num.specs.declared.records.StoreRecord.{StoreRecord}
 use Rattle.afs_num.specs.declared.types.Head.{Head}
 use Rattle.afs_num.specs.declared.types.Node.{Node}
 use Rattle.afs_num.specs.declared.volumes.Change as made
@@ -13,11 +12,12 @@ use Rattle.afs_ideal.specs.Tables.{get, set, Table}
 use Rattle.afs_records.specs.Changes.{keeping}
 use Rattle.afs_records.specs.Durable as disk
 use Rattle.afs_records.specs.Durable.{changed_stored, folded, place_length, placing, with_journal, Durable, Stored}
-use Rattle.afs_rows.specs.ServerRow.{carried_by, change_reply_to, key_of, lasting_after, promise_ticks, record_of, replied, result, seat_for, seat_placed, stored_by, Change}
-use Rattle.afs_rows.specs.States.{Lasting, Seat}
-use Rattle.afs_server_parts.specs.Kept.{message_in, Spells}
+use Rattle.afs_rows.specs.ServerRow.{carried_by, change_reply_to, key_of, lasting_after, promise_ticks, record_of, replied, seat_for, seat_placed, stored_by, Change}
+use Rattle.afs_rows.specs.States.{Seat}
+use Rattle.afs_message.specs.Spelled.{message_in, Spells}
 use Rattle.afs_decisions.specs.Deciding.{IsMade}
-use Rattle.afs_callbacks.specs.Saving.{change_kept, reply_told}
+use Rattle.afs_callbacks.specs.Answering.{reply_told}
+use Rattle.afs_callbacks.specs.Saving.{change_kept}
 use Rattle.afs_server.specs.Seen.{lasting_of, or_loc, seat_kept, AreToNodes, IsToNode}
 use Rattle.afs_server.proofs.Kept.{caller_number}
 use Rattle.afs_server.proofs.Repeating.{number_by}
@@ -30,7 +30,7 @@ some_is x y e = cc
 
 -- ---- the record and the reply of a change
 
-pub reply_is : (boot clock id : ℕ) (head : Head) (c : Change) (x : made.Change) → IsMade clock id c x → change_reply_to boot head clock c ≡ reply_told boot head (clock + 7200) x
+pub reply_is : (boot clock id : ℕ) (head : Head) (c : Change) (x : made.Change) → IsMade clock id c x → change_reply_to boot head clock c ≡ reply_told boot head (clock + 7200) x.reply
 reply_is boot clock id head c x is = ap (λ (o : Option FsReply). replied boot head (carried_by (clock + promise_ticks) o)) is.reply
 
 pub record_is : (boot clock id : ℕ) (head : Head) (c : Change) (x : made.Change) (bytes : List ℕ) → IsMade clock id c x → Spells (change_reply_to boot head clock c) bytes → record_of boot head clock c ≡ change_kept head id x bytes

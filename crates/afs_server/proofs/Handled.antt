@@ -1,6 +1,5 @@
 -- The numbers that a message makes a server draw.
-use Rattle.std.proofs.Common.{◌≡◌, ◌≤◌, ◌+◌, ℕ, Bool, true, false, cond, not, List, [], ◌∷◌, length, Option, Some, None, refl, sym, ap, subst, ◌∙◌, arith}
-use Rattle.std.specs.Prelude.{nat_le}
+use Rattle.std.proofs.Common.{◌≡◌, ◌≤◌, ◌+◌, ℕ, Bool, true, false, cond, not, List, [], ◌∷◌, length, Option, Some, None, refl, ap, ◌∙◌, arith}
 use Rattle.std.proofs.lemmas.List.{length-append}
 use Rattle.std.proofs.lemmas.List.Filters.{length-filter_both}
 use Rattle.afs_num.specs.Nodes.{same_node}
@@ -17,13 +16,13 @@ use Rattle.afs_num.specs.declared.types.Node.{Node}
 use Rattle.afs_ideal.specs.Operations.{Found}
 use Rattle.afs_ideal.specs.Volumes.{Volume}
 use Rattle.afs_model.specs.Calls.{call_seat}
-use Rattle.afs_breaks.specs.Promises.{expired, gives_up, hits, is_hit, is_promise, left, withdraws, with_promise, with_promises, without_promise, Lists}
+use Rattle.afs_breaks.specs.Promises.{gives_up, is_hit, is_promise, withdraws, with_promise, with_promises, without_promise, Lists}
 use Rattle.afs_breaks.specs.declared.types.Promise.{Promise}
 use Rattle.afs_rows.specs.Callbacks as row
-use Rattle.afs_rows.specs.Callbacks.{fids_found, gives_up_all, grants_found, held_under, if_to, is_back_awaited, is_seat_of, key_answered, no_turn, renews_by, repeats_by, settles_by, turn_for, turned_by, turned_in, withdraws_all}
+use Rattle.afs_rows.specs.Callbacks.{fids_found, gives_up_all, grants_found, held_under, is_back_awaited, is_seat_of, key_answered, no_turn, renews_by, settles_by, turn_for, turned_by, turned_in, withdraws_all}
 use Rattle.afs_rows.specs.ServerRow.{drops, granted_in, granted_new, made, promise_ticks, refuses, repeats, result, saves, shows, tells_boot, Decision}
 use Rattle.afs_rows.specs.States.{BackCall, Backs, ServerState}
-use Rattle.afs_server.proofs.Drawn.{breaks_drawn, ended_draws, expired_draws, filter_shorter}
+use Rattle.afs_server.proofs.Drawn.{breaks_drawn, ended_draws, filter_shorter}
 use Rattle.afs_callbacks.proofs.Turned.{repeated_backs}
 
 -- ---- the lists of promises, with the breaks that they may become
@@ -114,7 +113,7 @@ if_draws false b u few = same_draws b (no_turn b) refl
 settled_draws : (me : Node) (boot : ℕ) (head : Head) (b : Backs) (o : Option BackCall) → DrawsFew b (settles_by me boot head b o)
 settled_draws me boot head b None = same_draws b (no_turn b) refl
 settled_draws me boot head b (Some c) =
-    let same = ended_draws c.breaks b.lists in
+    let same = ended_draws c.content b.lists in
     if_draws (is_back_awaited boot c head) b _ (record { last = refl; breaks = omega (arith, same) })
 
 renewed_draws : (me : Node) (boot : ℕ) (head : Head) (b : Backs) (o : Option BackCall) → DrawsFew b (renews_by me boot head b o)

@@ -1,19 +1,16 @@
 -- Replies and notices to a server's own calls, by the call that they are to.
-use Rattle.std.proofs.Common.{◌≡◌, ℕ, Bool, true, false, cond, ◌&&◌, List, Option, Some, None, refl, sym, ap, subst, ◌∙◌, nat_lt}
-use Rattle.std.specs.List.{All}
-use Rattle.std.specs.Option.{option_map}
+use Rattle.std.proofs.Common.{◌≡◌, ℕ, Bool, true, false, cond, ◌&&◌, Option, Some, None, refl}
 use Rattle.afs_num.specs.Nodes.{same_node}
 use Rattle.afs_num.specs.declared.types.Head.{Head}
 use Rattle.afs_num.specs.declared.types.Node.{Node}
-use Rattle.afs_rows.specs.Callbacks as row
-use Rattle.afs_rows.specs.Callbacks.{if_to, is_back_awaited, no_turn, renews, renews_by, settles, settles_by}
-use Rattle.afs_rows.specs.States.{Backs}
-use Rattle.afs_server_parts.specs.Called.{call_seen, Called, IsGoodOrNone}
+use Rattle.afs_rows.specs.Callbacks.{is_back_awaited, no_turn, renews, settles}
+use Rattle.afs_rows.specs.States.{BackCall, Backs}
+use Rattle.afs_server_parts.specs.Called.{IsGoodOrNone}
 use Rattle.afs_server.specs.Hearing.{answered_turn, noticed_turn, renewed_turn, settled_turn}
 use Rattle.afs_callbacks.specs.Hearing.{heard_by, is_heard}
 
-settled_at : (a b : Bool) (me : Node) (head : Head) (k : Backs) (c : Called) →
-    settled_turn me head k (cond (a && b) (Some c) None) ≡ cond a (cond b (settles me head.from (call_seen c) k) (no_turn k)) (no_turn k)
+settled_at : (a b : Bool) (me : Node) (head : Head) (k : Backs) (c : BackCall) →
+    settled_turn me head k (cond (a && b) (Some c) None) ≡ cond a (cond b (settles me head.from c k) (no_turn k)) (no_turn k)
 settled_at true true me head k c = refl
 settled_at true false me head k c = refl
 settled_at false b me head k c = refl
@@ -22,26 +19,26 @@ to_either : (a : Bool) (k : Backs) → no_turn k ≡ cond a (no_turn k) (no_turn
 to_either true k = refl
 to_either false k = refl
 
-pub settled_heard : (me : Node) (boot : ℕ) (head : Head) (b : Backs) (o : Option Called) → b.calls head.from ≡ option_map call_seen o → settled_turn me head b (heard_by me boot head o) ≡ answered_turn me boot head b
+pub settled_heard : (me : Node) (boot : ℕ) (head : Head) (b : Backs) (o : Option BackCall) → b.calls head.from ≡ o → settled_turn me head b (heard_by me boot head o) ≡ answered_turn me boot head b
 settled_heard me boot head b None e = rw e (to_either (same_node head.to me) b)
-settled_heard me boot head b (Some c) e = rw e (settled_at (same_node head.to me) (is_back_awaited boot (call_seen c) head) me head b c)
+settled_heard me boot head b (Some c) e = rw e (settled_at (same_node head.to me) (is_back_awaited boot c head) me head b c)
 
-renewed_at : (a b : Bool) (me : Node) (boot : ℕ) (head : Head) (k : Backs) (c : Called) →
-    renewed_turn me boot head k (cond (a && b) (Some c) None) ≡ cond a (cond b (renews me boot head.from head.boot (call_seen c) k) (no_turn k)) (no_turn k)
+renewed_at : (a b : Bool) (me : Node) (boot : ℕ) (head : Head) (k : Backs) (c : BackCall) →
+    renewed_turn me boot head k (cond (a && b) (Some c) None) ≡ cond a (cond b (renews me boot head.from head.boot c k) (no_turn k)) (no_turn k)
 renewed_at true true me boot head k c = refl
 renewed_at true false me boot head k c = refl
 renewed_at false b me boot head k c = refl
 
-pub renewed_heard : (me : Node) (boot : ℕ) (head : Head) (b : Backs) (o : Option Called) → b.calls head.from ≡ option_map call_seen o → renewed_turn me boot head b (heard_by me boot head o) ≡ noticed_turn me boot head b
+pub renewed_heard : (me : Node) (boot : ℕ) (head : Head) (b : Backs) (o : Option BackCall) → b.calls head.from ≡ o → renewed_turn me boot head b (heard_by me boot head o) ≡ noticed_turn me boot head b
 renewed_heard me boot head b None e = rw e (to_either (same_node head.to me) b)
-renewed_heard me boot head b (Some c) e = rw e (renewed_at (same_node head.to me) (is_back_awaited boot (call_seen c) head) me boot head b c)
+renewed_heard me boot head b (Some c) e = rw e (renewed_at (same_node head.to me) (is_back_awaited boot c head) me boot head b c)
 
 -- ---- a call that is heard of is a good one
 
-good_by : (t : Bool) (me n : Node) (c : Called) → IsGoodOrNone me n (Some c) → IsGoodOrNone me n (cond t (Some c) None)
-good_by true me n c good = good
-good_by false me n c good = tt
+good_by : (t : Bool) (n : Node) (c : BackCall) → IsGoodOrNone n (Some c) → IsGoodOrNone n (cond t (Some c) None)
+good_by true n c good = good
+good_by false n c good = tt
 
-pub heard_good : (me : Node) (boot : ℕ) (head : Head) (o : Option Called) → IsGoodOrNone me head.from o → IsGoodOrNone me head.from (heard_by me boot head o)
+pub heard_good : (me : Node) (boot : ℕ) (head : Head) (o : Option BackCall) → IsGoodOrNone head.from o → IsGoodOrNone head.from (heard_by me boot head o)
 heard_good me boot head None good = tt
-heard_good me boot head (Some c) good = good_by (is_heard me boot head c) me head.from c good
+heard_good me boot head (Some c) good = good_by (is_heard me boot head c) head.from c good

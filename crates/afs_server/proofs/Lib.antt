@@ -13,5 +13,4 @@ pub mod Roomed
 pub mod Saves
 pub mod Still
 pub mod Taken
-pub mod Turned
 pub mod Wholly

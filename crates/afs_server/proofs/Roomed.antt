@@ -1,5 +1,5 @@
 -- What a change does to the disk, whether there is room for its record or not.
-use Rattle.std.proofs.Common.{◌≡◌, ◌≤◌, ◌+◌, ℕ, Bool, true, false, List, [], Option, Some, None, refl, sym, ap, subst, ◌∙◌}
+use Rattle.std.proofs.Common.{◌≡◌, ℕ, Bool, true, false, List, [], Option, Some, None, refl, sym, ap, subst}
 use Rattle.std.specs.Prelude.{Result, Ok, Err, pos, IsErrOf}
 use Rattle.afs_disk.specs.Disk.{Setting}
 use Rattle.afs_num.specs.declared.records.StoreRecord.{StoreRecord}
@@ -12,7 +12,7 @@ use Rattle.afs_rows.specs.ServerRow.{refusal, roomed, Change}
 use Rattle.afs_volstore.specs.Stores.{Store}
 use Rattle.afs_callbacks.specs.Answering.{answer_turn}
 use Rattle.afs_decisions.specs.Deciding.{IsMade}
-use Rattle.afs_server.specs.Handling.{record_decided, server_seen, Answers}
+use Rattle.afs_server.specs.Handling.{stand_of, record_decided, server_seen, Answers}
 use Rattle.afs_server.specs.Putting.{IsStill, Prepares}
 use Rattle.afs_callbacks.specs.Saving.{IsPlanned}
 use Rattle.afs_server.specs.Seen.{callbacks_of, Memory}
@@ -52,7 +52,7 @@ module _ {D : Type 0} (seen : D → Option (List ℕ)) (left_by : D → ℕ → 
     same_disk_by (Err e) answers = ap (λ (u : Store D). u.disk) answers.1
 
     pub disk_all : (result : Result Outs NodeFault) (b : Bool) → b ≡ has_room s.durable p.rec → Prepares {E = NodeFault} p.rec s mid (Ok b) → SameD s.disk mid.disk → CountsD s.disk mid.disk → IsMade clock id c x →
-        IsPlanned s.node s.durable.boot s.drawn clock head id x (callbacks_of old) p → (b ≡ true → Of (Some p.rec) mid.durable mid.disk t.disk result) → (b ≡ false → Refused result) → (b ≡ false → IsErrOf result nodes.Down → ⊥) →
+        IsPlanned (stand_of s) clock head id x (callbacks_of old) p → (b ≡ true → Of (Some p.rec) mid.durable mid.disk t.disk result) → (b ≡ false → Refused result) → (b ≡ false → IsErrOf result nodes.Down → ⊥) →
         Of (record_decided s.durable.boot clock (roomed (server_seen old s) clock head c)) s.durable s.disk t.disk result
     disk_all result true room prepares same counts is plan written answers up =
         subst (λ (o : Option StoreRecord). Of o s.durable s.disk t.disk result) (sym (saved_record clock id head c x old new s mid t p true is plan room refl))

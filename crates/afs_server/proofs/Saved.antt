@@ -1,9 +1,8 @@
 -- A change that is planned, put on the disk and taken is the step of its row.
-use Rattle.std.proofs.Common.{◌≡◌, ◌≤◌, ◌+◌, ℕ, List, [], ◌∷◌, ◌++◌, map, length, false, true, Option, Some, None, refl, sym, ap, subst, ◌∙◌, append_assoc, arith, lt-ltb}
+use Rattle.std.proofs.Common.{◌≡◌, ◌≤◌, ◌+◌, ℕ, List, [], ◌∷◌, ◌++◌, map, length, false, true, Option, Some, refl, sym, ap, subst, ◌∙◌, arith, lt-ltb}
 use Rattle.std.specs.Prelude.{nat_lt}
 use Rattle.std.specs.List.{All}
-use Rattle.std.proofs.lemmas.List.Elements.{All-append}
-use Rattle.afs_num.specs.Nodes.{node_number, IsNode}
+use Rattle.afs_num.specs.Nodes.{IsNode}
 use Rattle.afs_num.specs.declared.histories.Version.{Version}
 use Rattle.afs_num.specs.declared.messages.Message.{Message}
 use Rattle.afs_num.specs.declared.records.StoreRecord.{StoreRecord}
@@ -21,32 +20,31 @@ use Rattle.afs_records.specs.Durable.{folded, time_in, Durable}
 use Rattle.afs_records.specs.Records.{FitsRecord}
 use Rattle.afs_rows.specs.Callbacks as row
 use Rattle.afs_rows.specs.Callbacks.{alls, fids_found, grants_found, new_owes, numbers, owe_line, pumped, turn_for, withdraws_all}
-use Rattle.afs_rows.specs.ServerRow.{change_reply_to, does, granted, granted_in, key_of, made, result, record_of, saved, saves, stored_by, versioned, Change}
+use Rattle.afs_rows.specs.ServerRow.{change_reply_to, granted, granted_in, key_of, made, result, saved, saves, stored_by, versioned, Change}
 use Rattle.afs_rows.specs.ServerSteps.{stepped}
 use Rattle.afs_rows.specs.States.{Lasting, ServerState}
 use Rattle.afs_server_parts.specs.Called.{AreGoodCalls}
-use Rattle.afs_server_parts.specs.Kept.{Spells}
+use Rattle.afs_message.specs.Spelled.{Spells}
 use Rattle.afs_server_parts.specs.Telling.{grant_line}
+use Rattle.afs_server_parts.specs.Ending.{Ends, IsPlan}
 use Rattle.afs_server_parts.specs.Turning.{IsBreakToNode}
 use Rattle.afs_server_parts.specs.declared.telling.Grant.{Grant}
 use Rattle.afs_volstore.specs.Stores.{Store}
-use Rattle.afs_callbacks.specs.Answering.{answer_turn, with_lists}
+use Rattle.afs_callbacks.specs.Answering.{answer_turn, reply_told, with_lists}
 use Rattle.afs_decisions.specs.Deciding.{IsMade}
-use Rattle.afs_callbacks.specs.Ending.{Ends}
-use Rattle.afs_server.specs.Handling.{server_seen, Makes}
+use Rattle.afs_server.specs.Handling.{server_seen, stand_of, Makes}
 use Rattle.afs_server.specs.Putting.{IsMadeOf, TellsAgain}
-use Rattle.afs_callbacks.specs.Saving.{breaks_new, change_kept, change_lines, fids_changed, fids_granted, hits_each, new_grants, reply_told, withdraws_each, IsPlanned}
+use Rattle.afs_callbacks.specs.Saving.{breaks_new, change_kept, change_lines, fids_changed, new_grants, withdraws_each, IsPlanned}
 use Rattle.afs_server.specs.Saving.{IsPut, IsTaken}
-use Rattle.afs_server.specs.Seen.{backs_seen, callbacks_of, lasting_of, AreToNodes, KeepsForNodes, Memory, Serves}
+use Rattle.afs_server.specs.Seen.{backs_seen, callbacks_of, lasting_of, AreToNodes, Memory, Serves}
 use Rattle.afs_callbacks.specs.States.{IsPromiseToNode}
-use Rattle.afs_callbacks.specs.declared.ending.Ended.{Ended}
 use Rattle.afs_callbacks.specs.declared.saving.Planned.{Planned}
 use Rattle.afs_server.proofs.Effects.{told_again}
 use Rattle.afs_server.proofs.Folded.{durable_saved, folds, lasting_left, record_is, reply_is, set_to_nodes}
 use Rattle.afs_callbacks.proofs.Granting.{granted_to_nodes, lines_granted}
-use Rattle.afs_callbacks.proofs.Lasting.{lasting_promised, lasting_to_nodes}
+use Rattle.afs_callbacks.proofs.Lasting.{lasting_promised}
 use Rattle.afs_server.proofs.Making.{makes_stepped, Leaves}
-use Rattle.afs_callbacks.proofs.Withdrawn.{change_grants, granted_fids, granted_first, left_to_nodes, new_owes_are, new_to_nodes, withdrawn_owed, withdraws_are}
+use Rattle.afs_callbacks.proofs.Withdrawn.{change_grants, granted_fids, granted_first, left_to_nodes, new_owes_are, withdrawn_owed, withdraws_are}
 
 some_is : {A : Type 0} (x y : A) → ◌≡◌ {A = Option A} (Some x) (Some y) → x ≡ y
 some_is x y e = cc
@@ -77,7 +75,7 @@ module _ {D : Type 0} (clock id : ℕ) (head : Head) (c : Change) (x : made_of.C
   abbrev owes : List OwedBreak
   owes = new_owes head.from (made c) (expired clock old.lists)
 
-  new_lists : clock ≤ 1000000000 → IsMade clock id c x → IsPlanned s.node s.durable.boot s.drawn clock head id x (callbacks_of old) p → IsTaken head clock p old new → new.lists ≡ lists_after
+  new_lists : clock ≤ 1000000000 → IsMade clock id c x → IsPlanned (stand_of s) clock head id x (callbacks_of old) p → IsTaken head clock p old new → new.lists ≡ lists_after
   new_lists small is plan taken =
       let fids : p.changed ≡ fids_changed (made c) = plan.changed ∙ ap fids_changed is.versions in
       let grants : p.granted ≡ fids_found (granted_in c) = plan.granted ∙ granted_fids c.id c.caller (time_in (stored_by clock c)) (result c) c.shown c.call x.reply is.reply in
@@ -96,34 +94,37 @@ module _ {D : Type 0} (clock id : ℕ) (head : Head) (c : Change) (x : made_of.C
       ap (λ (l : Lists). l.owed) (withdraws_are head.from (made c) (expired clock old.lists))
       ∙ (withdrawn_owed head.from (fids_changed (made c)) (expired clock old.lists) ∙ ap (λ (os : List OwedBreak). lasting_breaks clock old.lists.owed ++ os) (sym (new_owes_are head.from (made c) (expired clock old.lists))))
 
-  spells_reply : IsMade clock id c x → IsPlanned s.node s.durable.boot s.drawn clock head id x (callbacks_of old) p → Spells (change_reply_to s.durable.boot head clock c) p.kept
-  spells_reply is plan = subst (λ (m : Message). Spells m p.kept) (sym (reply_is s.durable.boot clock id head c x is)) plan.kept
+  spells_reply : IsMade clock id c x → IsPlanned (stand_of s) clock head id x (callbacks_of old) p → Spells (change_reply_to s.durable.boot head clock c) p.kept
+  spells_reply is plan = subst (λ (m : Message). Spells m p.kept) (sym (reply_is s.durable.boot clock id head c x is)) plan.replied.kept
 
-  ends_as : IsMade clock id c x → IsPlanned s.node s.durable.boot s.drawn clock head id x (callbacks_of old) p → Ends lists_after (pumped s.node s.durable.boot (turn_for s.node (server_seen old s) clock (row.expired clock (server_seen old s).backs) (saves head c))) p.ended
-  ends_as is plan =
+  -- the lines of the step
+  abbrev told_lines : List Line
+  told_lines = lines.Change s.node (key_of head) (length (made c)) ∷ versioned (made c) (granted s.node head.from (clock + 7200) (granted_in c) (map (owe_line s.node) owes))
+
+  plan_as : IsMade clock id c x → IsPlanned (stand_of s) clock head id x (callbacks_of old) p → IsPlan (stand_of s) (turn_for s.node (server_seen old s) clock (row.expired clock (server_seen old s).backs) (saves head c)) told_lines p.ended
+  plan_as is plan =
       let b = with_lists lists_after (backs_seen old s.drawn) in
       let all = alls (lasting_breaks clock old.lists.owed) in
-      let told = reply_told s.durable.boot head (clock + 7200) x in
-      let first = plan.ends lists_after (owed_after ∙ ap (λ (os : List OwedBreak). lasting_breaks clock old.lists.owed ++ os) (sym (breaks_are is))) in
-      let second = subst (λ (os : List OwedBreak). Ends lists_after (pumped s.node s.durable.boot (answer_turn told (numbers os ++ all) false b)) p.ended) (breaks_are is) first in
-      let third = subst (λ (m : Message). Ends lists_after (pumped s.node s.durable.boot (answer_turn m (numbers owes ++ all) false b)) p.ended) (sym (reply_is s.durable.boot clock id head c x is)) second in
-      record { backs = third.backs; sent = third.sent }
+      let told = reply_told s.durable.boot head (clock + 7200) x.reply in
+      let first = plan.replied.answer lists_after (owed_after ∙ ap (λ (os : List OwedBreak). lasting_breaks clock old.lists.owed ++ os) (sym (breaks_are is))) in
+      let second = subst (λ (os : List OwedBreak). IsPlan (stand_of s) (answer_turn told (numbers os ++ all) false b) (change_lines s.node head (clock + 7200) x os) p.ended) (breaks_are is) first in
+      let third = subst (λ (m : Message). IsPlan (stand_of s) (answer_turn m (numbers owes ++ all) false b) (change_lines s.node head (clock + 7200) x owes) p.ended) (sym (reply_is s.durable.boot clock id head c x is)) second in
+      record {
+        ends = record { backs = third.ends.backs; sent = third.ends.sent };
+        lines = third.lines ∙ lines_are s.node head (clock + 7200) x (made c) (granted_in c) owes is.versions (sym (change_grants c.id c.caller (time_in (stored_by clock c)) (result c) c.shown c.call x.reply is.reply));
+        drawn = third.drawn;
+        owed = third.owed;
+        calls = third.calls;
+      }
 
-  lines_as : IsMade clock id c x → IsPlanned s.node s.durable.boot s.drawn clock head id x (callbacks_of old) p →
-      p.ended.outs.lines ≡ lines.Change s.node (key_of head) (length (made c)) ∷ versioned (made c) (granted s.node head.from (clock + 7200) (granted_in c) (map (owe_line s.node) owes))
-  lines_as is plan =
-      plan.lines
-      ∙ (ap (change_lines s.node head (clock + 7200) x) (breaks_are is)
-      ∙ lines_are s.node head (clock + 7200) x (made c) (granted_in c) owes is.versions (sym (change_grants c.id c.caller (time_in (stored_by clock c)) (result c) c.shown c.call x.reply is.reply)))
-
-  folds_as : IsPlanned s.node s.durable.boot s.drawn clock head id x (callbacks_of old) p → IsPut p s t → folded (change_kept head id x p.kept) s.durable ≡ Some t.durable
+  folds_as : IsPlanned (stand_of s) clock head id x (callbacks_of old) p → IsPut p s t → folded (change_kept head id x p.kept) s.durable ≡ Some t.durable
   folds_as plan put = ap (λ (r : StoreRecord). folded r s.durable) (sym plan.rec) ∙ put.folds
 
-  lasting_as : get id s.durable.volumes ≡ Some c.before → IsMade clock id c x → IsNode head.from → Serves s.node old s.durable → IsPlanned s.node s.durable.boot s.drawn clock head id x (callbacks_of old) p → IsPut p s t →
+  lasting_as : get id s.durable.volumes ≡ Some c.before → IsMade clock id c x → IsNode head.from → Serves s.node old s.durable → IsPlanned (stand_of s) clock head id x (callbacks_of old) p → IsPut p s t →
       lasting_of t.durable ≡ (saved head clock c (server_seen old s)).lasting
   lasting_as there is node serves plan put = lasting_left clock id head c x p.kept s.durable t.durable there is (spells_reply is plan) node serves.kept (folds_as plan put)
 
-  serves_as : get id s.durable.volumes ≡ Some c.before → clock ≤ 1000000000 → IsMade clock id c x → IsNode head.from → Serves s.node old s.durable → IsPlanned s.node s.durable.boot s.drawn clock head id x (callbacks_of old) p → IsTaken head clock p old new → IsPut p s t →
+  serves_as : get id s.durable.volumes ≡ Some c.before → clock ≤ 1000000000 → IsMade clock id c x → IsNode head.from → Serves s.node old s.durable → IsPlanned (stand_of s) clock head id x (callbacks_of old) p → IsTaken head clock p old new → IsPut p s t →
       Serves t.node new t.durable
   serves_as there small is node serves plan taken put =
       let me : t.node ≡ s.node = ap (λ (u : Store D). u.node) put.store in
@@ -139,25 +140,20 @@ module _ {D : Type 0} (clock id : ℕ) (head : Head) (c : Change) (x : made_of.C
             subst (λ (l : Lists). All IsPromiseToNode l.promises) (sym lists)
             (granted_to_nodes head.from (clock + 7200) (fids_found (granted_in c)) (withdraws_all head.from (made c) (expired clock old.lists)) node
             (subst (λ (l : Lists). All IsPromiseToNode l.promises) (sym (withdraws_are head.from (made c) (expired clock old.lists))) promised));
-        owed =
-            subst (λ (l : Lists). All IsBreakToNode l.owed) (sym lists)
-            (subst (All IsBreakToNode) (sym owed_after)
-            (All-append IsBreakToNode (lasting_breaks clock old.lists.owed) owes (lasting_to_nodes clock old.lists.owed serves.owed)
-            (subst (All IsBreakToNode) (breaks_are is) (new_to_nodes head.from (fids_changed x.versions) clock old.lists serves.promises))));
-        calls = subst (λ (n : Node). AreGoodCalls n new.callees) (sym me) (subst (AreGoodCalls s.node) (sym taken.callees) plan.good);
+        owed = subst (λ (l : Lists). All IsBreakToNode l.owed) (sym lists) (plan_as is plan).owed;
+        calls = subst AreGoodCalls (sym taken.callees) (plan_as is plan).calls;
       }
 
-  pub effects_as : get id s.durable.volumes ≡ Some c.before → IsMade clock id c x → IsPlanned s.node s.durable.boot s.drawn clock head id x (callbacks_of old) p → TellsAgain clock (saves head c) old s
+  pub effects_as : get id s.durable.volumes ≡ Some c.before → IsMade clock id c x → IsPlanned (stand_of s) clock head id x (callbacks_of old) p → TellsAgain clock (saves head c) old s
   effects_as there is plan r recorded =
       told_again s.node clock id head c x p.kept (server_seen old s) s.durable r there is (subst FitsRecord plan.rec plan.fits)
       (sym (record_is s.durable.boot clock id head c x p.kept is (spells_reply is plan)) ∙ some_is _ r recorded)
 
-  pub saved_made : (outs : Outs) → get id s.durable.volumes ≡ Some c.before → clock ≤ 1000000000 → IsMade clock id c x → IsNode head.from → Serves s.node old s.durable → IsPlanned s.node s.durable.boot s.drawn clock head id x (callbacks_of old) p → IsTaken head clock p old new →
+  pub saved_made : (outs : Outs) → get id s.durable.volumes ≡ Some c.before → clock ≤ 1000000000 → IsMade clock id c x → IsNode head.from → Serves s.node old s.durable → IsPlanned (stand_of s) clock head id x (callbacks_of old) p → IsTaken head clock p old new →
       IsPut p s t → outs ≡ p.ended.outs → IsMadeOf clock (saves head c) (turn_for s.node (server_seen old s) clock (row.expired clock (server_seen old s).backs) (saves head c)) old new s t outs
   saved_made outs there small is node serves plan taken put given =
       let turn = turn_for s.node (server_seen old s) clock (row.expired clock (server_seen old s).backs) (saves head c) in
       let state : ServerState = saved head clock c (server_seen old s) in
-      let ls = lines.Change s.node (key_of head) (length (made c)) ∷ versioned (made c) (granted s.node head.from (clock + 7200) (granted_in c) (map (owe_line s.node) owes)) in
       let left : Leaves state p.ended new t = record {
         lasting = lasting_as there is node serves plan put;
         seats = taken.seats (change_reply_to s.durable.boot head clock c) (spells_reply is plan);
@@ -165,9 +161,9 @@ module _ {D : Type 0} (clock id : ℕ) (head : Head) (c : Change) (x : made_of.C
         held = taken.held;
         drawn = ap (λ (u : Store D). u.drawn) put.store;
       } in
-      let ends = subst (λ (l : Lists). Ends l (pumped s.node s.durable.boot turn) p.ended) (sym (new_lists small is plan taken)) (ends_as is plan) in
+      let ends = subst (λ (l : Lists). Ends l (pumped s.node s.durable.boot turn) p.ended) (sym (new_lists small is plan taken)) (plan_as is plan).ends in
       record {
-        makes = subst (λ (o : Outs). Makes (stepped s.node state ls turn) [] new t o) (sym given) (makes_stepped s.node state [] ls turn p.ended new t left ends (lines_as is plan));
+        makes = subst (λ (o : Outs). Makes (stepped s.node state told_lines turn) [] new t o) (sym given) (makes_stepped s.node state [] told_lines turn p.ended new t left ends (plan_as is plan).lines);
         serves = serves_as there small is node serves plan taken put;
         store =
             let prepared = sym (ap (λ (u : Store D). u.prepared) put.store) in

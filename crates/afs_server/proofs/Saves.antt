@@ -1,28 +1,28 @@
 -- A change whose record is prepared, or for which there is no room, is done as the row does it.
-use Rattle.std.proofs.Common.{◌≡◌, ◌≤◌, ◌+◌, ℕ, Bool, true, false, List, [], Option, Some, None, refl, sym, ap, subst, ◌∙◌, arith, length}
+use Rattle.std.proofs.Common.{◌≡◌, ◌≤◌, ◌+◌, ℕ, Bool, true, false, List, [], Option, Some, None, refl, sym, ap, subst, ◌∙◌}
 use Rattle.std.specs.Prelude.{Result, Ok, Err, pos, IsErrOf, IsSome}
 use Rattle.afs_num.specs.Nodes.{IsNode}
 use Rattle.afs_num.specs.declared.messages.Message.{Message}
 use Rattle.afs_num.specs.declared.records.StoreRecord.{StoreRecord}
 use Rattle.afs_num.specs.declared.types.Head.{Head}
-use Rattle.afs_num.specs.declared.types.Node.{Node}
 use Rattle.afs_num.specs.declared.volumes.Change as made_of
 use Rattle.afs_history.specs.declared.lines.Outs.{Outs}
 use Rattle.afs_ideal.specs.Tables.{get}
 use Rattle.afs_records.specs.Durable.{folded, has_room, Durable}
 use Rattle.afs_rows.specs.Callbacks as row
 use Rattle.afs_rows.specs.Callbacks.{turn_for}
-use Rattle.afs_rows.specs.ServerRow.{begun_after, change_reply_to, no_room, record_of, refusal, refuses, roomed, saves, Change, Decision}
+use Rattle.afs_rows.specs.ServerRow.{begun_after, no_room, record_of, refusal, refuses, roomed, saves, Change, Decision}
 use Rattle.afs_rows.specs.States.{durable_of}
 use Rattle.afs_callbacks.specs.States.{CallbackState}
-use Rattle.afs_server_parts.specs.Kept.{Spells}
+use Rattle.afs_message.specs.Spelled.{Spells}
 use Rattle.afs_volstore.specs.Stores.{Store}
 use Rattle.afs_callbacks.specs.Answering.{answer_turn}
 use Rattle.afs_decisions.specs.Deciding.{IsMade}
-use Rattle.afs_server.specs.Handling.{record_decided, server_seen, Answers, IsClosed, IsDone, SameStore}
-use Rattle.afs_server.specs.Putting.{DoesAll, IsInterrupted, IsMadeOf, Prepares}
+use Rattle.afs_server.specs.Handling.{stand_of, record_decided, server_seen, Answers, IsClosed, SameStore}
+use Rattle.afs_server.specs.Putting.{DoesAll, IsMadeOf, Prepares}
+use Rattle.afs_server_parts.specs.declared.turns.Stand.{Stand}
 use Rattle.afs_callbacks.specs.Saving.{change_kept, IsPlanned}
-use Rattle.afs_server.specs.Saving.{IsPut, IsTaken, Puts}
+use Rattle.afs_server.specs.Saving.{IsPut, Puts}
 use Rattle.afs_server.specs.Seen.{callbacks_of, lasting_of, Memory, Serves}
 use Rattle.afs_server.specs.declared.faults.NodeFault.{NodeFault}
 use Rattle.afs_server.specs.declared.faults.NodeFault.TheVariants as faults
@@ -33,10 +33,10 @@ use Rattle.afs_server.proofs.Saved.{effects_as, saved_made}
 
 -- ---- what was planned, by what the store told
 
-pub planned_as : {D : Type 0} (s : Store D) (clock : ℕ) (head : Head) (id : ℕ) (x y : made_of.Change) (old : Memory) (p : Planned) (n : Node) (boot last : ℕ) (k : CallbackState) → x ≡ y → n ≡ s.node → boot ≡ s.durable.boot → last ≡ s.drawn → k ≡ callbacks_of old →
-    IsPlanned n boot last clock head id x k p → IsPlanned s.node s.durable.boot s.drawn clock head id y (callbacks_of old) p
-planned_as {D} s clock head id x y old p n boot last k same node boots lasts seen plan =
-    as_planned (λ (m : Node) (a b : ℕ) (j : CallbackState). IsPlanned m a b clock head id y j p) s old n boot last k node boots lasts seen (subst (λ (z : made_of.Change). IsPlanned n boot last clock head id z k p) same plan)
+pub planned_as : {D : Type 0} (s : Store D) (clock : ℕ) (head : Head) (id : ℕ) (x y : made_of.Change) (old : Memory) (p : Planned) (who : Stand) (k : CallbackState) → x ≡ y → who ≡ stand_of s → k ≡ callbacks_of old →
+    IsPlanned who clock head id x k p → IsPlanned (stand_of s) clock head id y (callbacks_of old) p
+planned_as {D} s clock head id x y old p who k same stands seen plan =
+    as_planned (λ (a : Stand) (j : CallbackState). IsPlanned a clock head id y j p) s old who k stands seen (subst (λ (z : made_of.Change). IsPlanned who clock head id z k p) same plan)
 
 -- ---- whether there is room
 
@@ -61,8 +61,8 @@ pub wanting : {D : Type 0} (clock : ℕ) (d : Decision) (turn : row.Turn) (old :
 wanting {D} clock d turn old s t result is same = subst (λ (r : Result Outs NodeFault). DoesAll clock d turn old old s t r) (sym is) (refl, same)
 
 module _ {D : Type 0} (clock id : ℕ) (head : Head) (c : Change) (x : made_of.Change) (old : Memory) (s : Store D) (p : Planned) where
-  the_record : IsMade clock id c x → IsPlanned s.node s.durable.boot s.drawn clock head id x (callbacks_of old) p → record_of s.durable.boot head clock c ≡ p.rec
-  the_record is plan = record_is s.durable.boot clock id head c x p.kept is (subst (λ (m : Message). Spells m p.kept) (sym (reply_is s.durable.boot clock id head c x is)) plan.kept) ∙ sym plan.rec
+  the_record : IsMade clock id c x → IsPlanned (stand_of s) clock head id x (callbacks_of old) p → record_of s.durable.boot head clock c ≡ p.rec
+  the_record is plan = record_is s.durable.boot clock id head c x p.kept is (subst (λ (m : Message). Spells m p.kept) (sym (reply_is s.durable.boot clock id head c x is)) plan.replied.kept) ∙ sym plan.rec
 
   room_by : (b : Bool) → has_room (durable_of (lasting_of s.durable)) (record_of s.durable.boot head clock c) ≡ b → b ≡ true → roomed (server_seen old s) clock head c ≡ saves head c
   room_by true e is = rw e refl
@@ -72,10 +72,10 @@ module _ {D : Type 0} (clock id : ℕ) (head : Head) (c : Change) (x : made_of.C
   full_by true e is = absurd cc
   full_by false e is = rw e refl
 
-  pub is_roomed : (b : Bool) → IsMade clock id c x → IsPlanned s.node s.durable.boot s.drawn clock head id x (callbacks_of old) p → b ≡ has_room s.durable p.rec → b ≡ true → roomed (server_seen old s) clock head c ≡ saves head c
+  pub is_roomed : (b : Bool) → IsMade clock id c x → IsPlanned (stand_of s) clock head id x (callbacks_of old) p → b ≡ has_room s.durable p.rec → b ≡ true → roomed (server_seen old s) clock head c ≡ saves head c
   is_roomed b is plan room has = room_by b (ap (has_room s.durable) (the_record is plan) ∙ sym room) has
 
-  pub is_full : (b : Bool) → IsMade clock id c x → IsPlanned s.node s.durable.boot s.drawn clock head id x (callbacks_of old) p → b ≡ has_room s.durable p.rec → b ≡ false → roomed (server_seen old s) clock head c ≡ refuses head no_room
+  pub is_full : (b : Bool) → IsMade clock id c x → IsPlanned (stand_of s) clock head id x (callbacks_of old) p → b ≡ has_room s.durable p.rec → b ≡ false → roomed (server_seen old s) clock head c ≡ refuses head no_room
   is_full b is plan room lacks = full_by b (ap (has_room s.durable) (the_record is plan) ∙ sym room) lacks
 
 -- the fold takes the record
@@ -110,16 +110,16 @@ module _ {D : Type 0} (clock id : ℕ) (head : Head) (c : Change) (x : made_of.C
       subst (λ (u : Store D). u ≡ record s { disk = u.disk; prepared = u.prepared }) (sym is)
       (prepared ∙ (λ i. record s { disk = mid.disk; prepared = sym (ap (λ (u : Store D). u.prepared) prepared) i }))
 
-  left_as : get id s.durable.volumes ≡ Some c.before → IsMade clock id c x → IsNode head.from → Serves s.node old s.durable → IsPlanned s.node s.durable.boot s.drawn clock head id x (callbacks_of old) p →
+  left_as : get id s.durable.volumes ≡ Some c.before → IsMade clock id c x → IsNode head.from → Serves s.node old s.durable → IsPlanned (stand_of s) clock head id x (callbacks_of old) p →
       (r : StoreRecord) → ◌≡◌ {A = Option StoreRecord} (Some (record_of s.durable.boot head clock c)) (Some r) → (e : Durable) → folded r s.durable ≡ Some e →
       lasting_of e ≡ (begun_after s.node (server_seen old s) clock (saves head c)).state.lasting
   left_as there is node serves plan r recorded e folds_to =
-      let spells = subst (λ (m : Message). Spells m p.kept) (sym (reply_is s.durable.boot clock id head c x is)) plan.kept in
+      let spells = subst (λ (m : Message). Spells m p.kept) (sym (reply_is s.durable.boot clock id head c x is)) plan.replied.kept in
       let same : record_of s.durable.boot head clock c ≡ r = cc in
       lasting_left clock id head c x p.kept s.durable e there is spells node serves.kept (ap (λ (q : StoreRecord). folded q s.durable) (sym (record_is s.durable.boot clock id head c x p.kept is spells) ∙ same) ∙ folds_to)
 
   saved_by : (result : Result Outs NodeFault) → mid ≡ record s { prepared = Some p.rec; disk = mid.disk } → get id s.durable.volumes ≡ Some c.before → clock ≤ 1000000000 → IsMade clock id c x → IsNode head.from → Serves s.node old s.durable →
-      IsPlanned s.node s.durable.boot s.drawn clock head id x (callbacks_of old) p → Puts head clock p old new mid t result → DoesAll clock (saves head c) (turn_for s.node (server_seen old s) clock (row.expired clock (server_seen old s).backs) (saves head c)) old new s t result
+      IsPlanned (stand_of s) clock head id x (callbacks_of old) p → Puts head clock p old new mid t result → DoesAll clock (saves head c) (turn_for s.node (server_seen old s) clock (row.expired clock (server_seen old s).backs) (saves head c)) old new s t result
   saved_by (Ok outs) prepared there small is node serves plan puts = saved_made clock id head c x old new s t p outs there small is node serves plan puts.0 (put_from prepared puts.1.0) puts.1.1
   saved_by (Err faults.OutOfMemory) prepared there small is node serves plan puts = (puts.0, same_from prepared puts.1)
   saved_by (Err faults.Down) prepared there small is node serves plan puts = record {
@@ -130,13 +130,13 @@ module _ {D : Type 0} (clock id : ℕ) (head : Head) (c : Change) (x : made_of.C
   }
 
   pub saved_all : (result : Result Outs NodeFault) (b : Bool) → b ≡ has_room s.durable p.rec → b ≡ true → mid ≡ record s { prepared = Some p.rec; disk = mid.disk } → get id s.durable.volumes ≡ Some c.before → clock ≤ 1000000000 → IsMade clock id c x → IsNode head.from →
-      Serves s.node old s.durable → IsPlanned s.node s.durable.boot s.drawn clock head id x (callbacks_of old) p → Puts head clock p old new mid t result →
+      Serves s.node old s.durable → IsPlanned (stand_of s) clock head id x (callbacks_of old) p → Puts head clock p old new mid t result →
       DoesAll clock (roomed (server_seen old s) clock head c) (turn_for s.node (server_seen old s) clock (row.expired clock (server_seen old s).backs) (roomed (server_seen old s) clock head c)) old new s t result
   saved_all result b room has prepared there small is node serves plan puts =
       subst (λ (d : Decision). DoesAll clock d (turn_for s.node (server_seen old s) clock (row.expired clock (server_seen old s).backs) d) old new s t result) (sym (is_roomed clock id head c x old s p b is plan room has))
       (saved_by result prepared there small is node serves plan puts)
 
-  pub saved_record : (b : Bool) → IsMade clock id c x → IsPlanned s.node s.durable.boot s.drawn clock head id x (callbacks_of old) p → b ≡ has_room s.durable p.rec → b ≡ true → record_decided s.durable.boot clock (roomed (server_seen old s) clock head c) ≡ Some p.rec
+  pub saved_record : (b : Bool) → IsMade clock id c x → IsPlanned (stand_of s) clock head id x (callbacks_of old) p → b ≡ has_room s.durable p.rec → b ≡ true → record_decided s.durable.boot clock (roomed (server_seen old s) clock head c) ≡ Some p.rec
   saved_record b is plan room has = ap (record_decided s.durable.boot clock) (is_roomed clock id head c x old s p b is plan room has) ∙ ap (λ (r : StoreRecord). Some r) (the_record clock id head c x old s p is plan)
 
   -- ---- without room
@@ -159,13 +159,13 @@ module _ {D : Type 0} (clock id : ℕ) (head : Head) (c : Change) (x : made_of.C
         few = tt;
       }
 
-  pub refused_all : (outs : Outs) (b : Bool) → b ≡ has_room s.durable p.rec → b ≡ false → mid ≡ record s { disk = mid.disk } → IsMade clock id c x → IsPlanned s.node s.durable.boot s.drawn clock head id x (callbacks_of old) p →
+  pub refused_all : (outs : Outs) (b : Bool) → b ≡ has_room s.durable p.rec → b ≡ false → mid ≡ record s { disk = mid.disk } → IsMade clock id c x → IsPlanned (stand_of s) clock head id x (callbacks_of old) p →
       Answers {E = NodeFault} head (refusal mid.durable.boot head (pos 108)) [] (answer_turn (refusal mid.durable.boot head (pos 108)) [] false (row.expired clock (server_seen old mid).backs)) old new mid t (Ok outs) →
       DoesAll clock (roomed (server_seen old s) clock head c) (turn_for s.node (server_seen old s) clock (row.expired clock (server_seen old s).backs) (roomed (server_seen old s) clock head c)) old new s t (Ok outs)
   refused_all outs b room lacks full is plan answers =
       subst (λ (d : Decision). DoesAll clock d (turn_for s.node (server_seen old s) clock (row.expired clock (server_seen old s).backs) d) old new s t (Ok outs)) (sym (is_full clock id head c x old s p b is plan room lacks)) (refused_made outs full answers)
 
-  pub refused_record : (b : Bool) → IsMade clock id c x → IsPlanned s.node s.durable.boot s.drawn clock head id x (callbacks_of old) p → b ≡ has_room s.durable p.rec → b ≡ false → record_decided s.durable.boot clock (roomed (server_seen old s) clock head c) ≡ None
+  pub refused_record : (b : Bool) → IsMade clock id c x → IsPlanned (stand_of s) clock head id x (callbacks_of old) p → b ≡ has_room s.durable p.rec → b ≡ false → record_decided s.durable.boot clock (roomed (server_seen old s) clock head c) ≡ None
   refused_record b is plan room lacks = ap (record_decided s.durable.boot clock) (is_full clock id head c x old s p b is plan room lacks)
 
   same_full : mid ≡ record s { disk = mid.disk } → t ≡ mid → t ≡ record s { disk = t.disk; prepared = t.prepared }
@@ -173,7 +173,7 @@ module _ {D : Type 0} (clock id : ℕ) (head : Head) (c : Change) (x : made_of.C
       subst (λ (u : Store D). u ≡ record s { disk = u.disk; prepared = u.prepared }) (sym is)
       (full ∙ (λ i. record s { disk = mid.disk; prepared = sym (ap (λ (u : Store D). u.prepared) full) i }))
 
-  refused_any : (result : Result Outs NodeFault) (b : Bool) → b ≡ has_room s.durable p.rec → b ≡ false → mid ≡ record s { disk = mid.disk } → IsMade clock id c x → IsPlanned s.node s.durable.boot s.drawn clock head id x (callbacks_of old) p →
+  refused_any : (result : Result Outs NodeFault) (b : Bool) → b ≡ has_room s.durable p.rec → b ≡ false → mid ≡ record s { disk = mid.disk } → IsMade clock id c x → IsPlanned (stand_of s) clock head id x (callbacks_of old) p →
       Answers {E = NodeFault} head (refusal mid.durable.boot head (pos 108)) [] (answer_turn (refusal mid.durable.boot head (pos 108)) [] false (row.expired clock (server_seen old mid).backs)) old new mid t result →
       (IsErrOf result faults.Down → ⊥) →
       DoesAll clock (roomed (server_seen old s) clock head c) (turn_for s.node (server_seen old s) clock (row.expired clock (server_seen old s).backs) (roomed (server_seen old s) clock head c)) old new s t result
@@ -184,7 +184,7 @@ module _ {D : Type 0} (clock id : ℕ) (head : Head) (c : Change) (x : made_of.C
   -- ---- either way
 
   pub does_all : (result : Result Outs NodeFault) (b : Bool) → b ≡ has_room s.durable p.rec → Prepares {E = NodeFault} p.rec s mid (Ok b) → get id s.durable.volumes ≡ Some c.before → clock ≤ 1000000000 → IsMade clock id c x → IsNode head.from →
-      Serves s.node old s.durable → IsPlanned s.node s.durable.boot s.drawn clock head id x (callbacks_of old) p →
+      Serves s.node old s.durable → IsPlanned (stand_of s) clock head id x (callbacks_of old) p →
       (b ≡ true → Puts head clock p old new mid t result) →
       (b ≡ false → Answers {E = NodeFault} head (refusal mid.durable.boot head (pos 108)) [] (answer_turn (refusal mid.durable.boot head (pos 108)) [] false (row.expired clock (server_seen old mid).backs)) old new mid t result) →
       (b ≡ false → IsErrOf result faults.Down → ⊥) →

@@ -10,7 +10,7 @@ use Rattle.afs_model.specs.SpellingLaws.{IsBytes}
 use Rattle.afs_records.specs.Durable.{Durable, Kept}
 use Rattle.afs_rows.specs.States.{durable_of, Seat}
 use Rattle.afs_server.specs.Seen.{lasting_of, KeepsForNodes}
-use Rattle.afs_server_parts.specs.Kept.{reply_in}
+use Rattle.afs_message.specs.Spelled.{reply_in}
 
 -- Bytes that are read as a kept reply are its spelling. (Numbers that are no bytes can be read too, and are none's.)
 abbrev pub KeptAreSpelled : Type 0

@@ -9,7 +9,7 @@ use Rattle.afs_rows.specs.Callbacks.{held_under, is_seat_of, key_answered, repea
 use Rattle.afs_rows.specs.ServerRow.{seat_for}
 use Rattle.afs_rows.specs.States.{Backs, Lasting, Seat}
 use Rattle.afs_model.specs.Calls.{call_seat, call_seated}
-use Rattle.afs_server_parts.specs.Kept.{Spells}
+use Rattle.afs_message.specs.Spelled.{Spells}
 
 -- a kept reply is asked again
 abbrev pub repeated_turn : Message → Lasting → Backs → row.Turn

@@ -1,22 +1,27 @@
 -- What a call of a server's node gives.
-use Rattle.std.specs.Prelude.{◌≡◌, ◌≤◌, ◌+◌, ◌⊎◌, ℕ, List, [], ◌∷◌, ◌++◌, true, Option, Some, None, Result, Ok, Err, IsErrOf, OnOk}
+use Rattle.std.specs.Prelude.{ℤ, false, ◌≡◌, ◌≤◌, ◌+◌, ◌⊎◌, ℕ, List, [], ◌∷◌, ◌++◌, true, Option, Some, None, Result, Ok, Err, IsErrOf, OnOk}
 use Rattle.afs_history.specs.declared.lines.Line.{Line}
 use Rattle.afs_history.specs.declared.lines.Outs.{Outs}
 use Rattle.afs_server.specs.declared.faults.NodeFault.{NodeFault}
 use Rattle.afs_server.specs.declared.faults.NodeFault.TheVariants as faults
 use Rattle.afs_num.specs.declared.records.StoreRecord.{StoreRecord}
-use Rattle.afs_model.specs.Messages.{parcels_read, messages_spelled}
+use Rattle.afs_model.specs.Messages.{parcels_read, messages_spelled, received_by}
 use Rattle.afs_disk.specs.Disk.{PassesAll, Rose, Setting, Trips}
 use Rattle.afs_records.specs.Durable.{folded}
 use Rattle.afs_volstore.specs.Stores.{Store}
 use Rattle.afs_rows.specs.Callbacks as row
+use Rattle.afs_rows.specs.Callbacks.{turn_for, turned_in}
 use Rattle.afs_num.specs.declared.types.Head.{Head}
 use Rattle.afs_num.specs.declared.messages.Message.{Message}
-use Rattle.afs_rows.specs.ServerRow.{does, keeps, saves, record_of, Decision}
+use Rattle.afs_num.specs.declared.messages.Received.{Received}
+use Rattle.afs_breaks.specs.Promises.{expired, Lists}
+use Rattle.afs_callbacks.specs.Answering.{answer_turn, with_lists}
+use Rattle.afs_rows.specs.ServerRow.{refusal, decides, does, keeps, saves, record_of, Decision}
 use Rattle.afs_rows.specs.ServerSteps.{stepped}
-use Rattle.afs_rows.specs.States.{ServerState}
+use Rattle.afs_rows.specs.States.{Backs, ServerState}
 use Rattle.afs_rows.specs.Steps.{Step}
-use Rattle.afs_server.specs.Seen.{Memory, state_seen, Serves}
+use Rattle.afs_server_parts.specs.declared.turns.Stand.{Stand}
+use Rattle.afs_server.specs.Seen.{backs_seen, Memory, state_seen, Serves}
 
 -- the calls that it serves
 abbrev pub calls_served : List ℕ
@@ -24,6 +29,21 @@ calls_served = 130 ∷ 131 ∷ 132 ∷ 133 ∷ 134 ∷ 135 ∷ 136 ∷ 137 ∷ 1
 
 abbrev pub server_seen : {D : Type 0} → Memory → Store D → ServerState
 server_seen {D} m s = state_seen m s.durable s.drawn
+
+-- who makes a step over this store
+abbrev pub stand_of : {D : Type 0} → Store D → Stand
+stand_of {D} s = record { node = s.node; boot = s.durable.boot; last = s.drawn }
+
+-- what is promised, owed, called and held at this time
+abbrev pub backs_then : {D : Type 0} → Memory → Store D → ℕ → Backs
+backs_then {D} m s clock = row.expired clock (backs_seen m s.drawn)
+
+-- the turn of what is decided, and that of what a message does besides
+abbrev pub turn_then : {D : Type 0} → Memory → Store D → ℕ → Decision → row.Turn
+turn_then {D} m s clock d = turn_for s.node (server_seen m s) clock (backs_then m s clock) d
+
+abbrev pub turned_then : {D : Type 0} → Memory → Store D → ℕ → Decision → Received → row.Turn
+turned_then {D} m s clock d received = turned_in s.node (server_seen m s) clock (backs_then m s clock) d received
 
 -- The step was made: the new state is its, and so is what was given out. Its lines are these and then the node's.
 pub record Makes {D : Type 0} (step : Step ServerState) (before : List Line) (m : Memory) (s : Store D) (outs : Outs) : Type 0 where
@@ -61,6 +81,14 @@ Turns {D} {E} turn old new s t result = Steps (server_seen old s) turn.lines tur
 abbrev pub Answers : {D E : Type 0} → Head → Message → List Line → row.Turn → Memory → Memory → Store D → Store D → Result Outs E → Type 0
 Answers {D} {E} head reply ls turn old new s t result = Steps (keeps head reply (server_seen old s)) ls turn old new s t result
 
+-- the reply goes out at once, and these promises are left
+abbrev pub AnswersNow : {D E : Type 0} → Head → Message → List Line → Lists → Memory → Memory → Store D → Store D → Result Outs E → Type 0
+AnswersNow {D} {E} head reply ls l old new s t result = Answers head reply ls (answer_turn reply [] false (with_lists l (backs_seen old s.drawn))) old new s t result
+
+-- at this time it is a refusal with this code
+abbrev pub RefusesNow : {D E : Type 0} → Head → ℤ → ℕ → Memory → Memory → Store D → Store D → Result Outs E → Type 0
+RefusesNow {D} {E} head code clock old new s t result = AnswersNow head (refusal s.durable.boot head code) [] (expired clock old.lists) old new s t result
+
 -- A step's lines behind that of its place.
 abbrev pub lines_behind : List Line → List Line
 lines_behind [] = []
@@ -77,6 +105,13 @@ Does {D} {E} clock d turn old new s t result =
 abbrev pub record_decided : ℕ → ℕ → Decision → Option StoreRecord
 record_decided boot clock (saves head c) = Some (record_of boot head clock c)
 record_decided boot clock d = None
+
+-- what is decided at this time on the message of these bytes, and its record, if it makes one
+abbrev pub decided_then : {D : Type 0} → Memory → Store D → ℕ → List ℕ → Decision
+decided_then {D} m s clock bytes = decides s.node (server_seen m s) clock (received_by calls_served bytes)
+
+abbrev pub record_then : {D : Type 0} → Memory → Store D → ℕ → List ℕ → Option StoreRecord
+record_then {D} m s clock bytes = record_decided s.durable.boot clock (decided_then m s clock bytes)
 
 -- what the store keeps after a step that makes this record, or none
 abbrev pub IsDone : {D : Type 0} → Option StoreRecord → Store D → Store D → Type 0

@@ -11,13 +11,14 @@ use Rattle.afs_ideal.specs.Tables.{Table}
 use Rattle.afs_records.specs.Durable as disk
 use Rattle.afs_records.specs.Durable.{Durable}
 use Rattle.afs_breaks.specs.Promises.{Lists, no_lists}
+use Rattle.afs_breaks.specs.declared.types.OwedBreak.{OwedBreak}
 use Rattle.afs_model.specs.Calls.{call_seat}
 use Rattle.afs_rows.specs.Callbacks.{first_backs, risen_turn}
 use Rattle.afs_rows.specs.ServerSteps.{stepped}
 use Rattle.afs_rows.specs.Steps.{Step}
-use Rattle.afs_rows.specs.States.{Backs, Held, Lasting, Seat, ServerState}
-use Rattle.afs_server_parts.specs.Called.{call_to, AreGoodCalls, Called, Callee}
-use Rattle.afs_server_parts.specs.Kept.{reply_in}
+use Rattle.afs_rows.specs.States.{BackCall, Backs, Held, Lasting, Seat, ServerState}
+use Rattle.afs_server_parts.specs.Called.{call_to, AreGoodCalls, Callee}
+use Rattle.afs_message.specs.Spelled.{reply_in}
 use Rattle.afs_server_parts.specs.Turning.{IsBreakToNode}
 use Rattle.afs_callbacks.specs.States.{backs_at, CallbackState, IsPromiseToNode}
 
@@ -74,7 +75,7 @@ pub record Memory : Type 0 where
   pub boot : ℕ
   pub seats : List Seat
   pub lists : Lists
-  pub callees : List Callee
+  pub callees : List (Callee (List OwedBreak))
   pub held : List Held
 
 -- in the first boot, with no callers, no promises and nothing owed
@@ -93,12 +94,12 @@ backs_seen m drawn = backs_at (callbacks_of m) drawn
 abbrev pub state_seen : Memory → Durable → ℕ → ServerState
 state_seen m d drawn = record { lasting = lasting_of d; seats = m.seats; backs = backs_seen m drawn }
 
--- the key of an unanswered call
-abbrev pub key_called : ℕ → Called → Key
-key_called boot c = record { node = c.server; epoch = boot; number = c.number }
+-- the key of an unanswered call of this node
+abbrev pub key_called : Node → ℕ → BackCall → Key
+key_called me boot c = record { node = me; epoch = boot; number = c.number }
 
-abbrev pub waits_by : Memory → Node → Option Key
-waits_by m n = option_map (key_called m.boot) (call_to m.callees n)
+abbrev pub waits_by : Node → Memory → Node → Option Key
+waits_by me m n = option_map (key_called me m.boot) (call_to m.callees n)
 
 -- ---- a restart
 
@@ -125,4 +126,4 @@ pub record Serves (me : Node) (m : Memory) (d : Durable) : Type 0 where
   pub kept : KeepsForNodes d
   pub promises : All IsPromiseToNode m.lists.promises
   pub owed : All IsBreakToNode m.lists.owed
-  pub calls : AreGoodCalls me m.callees
+  pub calls : AreGoodCalls m.callees

@@ -5,24 +5,24 @@ ghost use Rattle.afs_num.specs.Nodes.{IsNode};
 ghost use Rattle.afs_model.specs.Calls.{call_seat, paired, runs};
 ghost use Rattle.afs_model.specs.Heads.{is_zero, IsSoundHead};
 ghost use Rattle.afs_breaks.specs.Promises.{expired};
-ghost use Rattle.afs_rows.specs.Callbacks as row;
 ghost use Rattle.afs_rows.specs.Callbacks.{gives_up_all, is_seat_of};
-ghost use Rattle.afs_rows.specs.ServerRow.{boot_told, given_up_read, read_reply_to, refusal, replied};
-ghost use Rattle.afs_server_parts.specs.Kept.{IsSpelling};
-ghost use Rattle.afs_callbacks.specs.Answering.{answer_turn, sent_turn, with_lists};
+ghost use Rattle.afs_rows.specs.ServerRow.{boot_told, given_up_read, read_reply_to, replied};
+ghost use Rattle.afs_message.specs.Spelled.{IsSpelling};
+ghost use Rattle.afs_callbacks.specs.Answering.{sent_turn};
 ghost use Rattle.afs_server.specs.Answering.{is_answer_to, repeated_turn, KeepsReply};
-ghost use Rattle.afs_server.specs.Handling.{Answers, Turns};
-ghost use Rattle.afs_server.specs.Seen.{backs_seen, lasting_of, KeepsForNodes, Serves};
+ghost use Rattle.afs_server.specs.Handling.{backs_then, Turns, AnswersNow, RefusesNow};
+ghost use Rattle.afs_server.specs.Seen.{lasting_of, KeepsForNodes, Serves};
 
+use crate::ending::stand;
 use crate::server::FileServer;
 use afs_callbacks::answering::Replied;
 use afs_disk::Disk;
 use afs_history::lines::Outs;
+use afs_message::spelled::SpelledMessage;
 use afs_num::sequences::Octets;
 use afs_num::types::{Fid, Head, Key, Mem};
 use afs_server_parts::callers::Callers;
-use afs_server_parts::replies::{key, refusal, reply};
-use afs_server_parts::spelled::SpelledMessage;
+use afs_server_parts::replies::{key, reply};
 use afs_volstore::VolStore;
 
 /// Whether this reply, which a store keeps, is to the same call as a reply of this header.
@@ -54,7 +54,7 @@ pub fn keep_reply(callers: &mut Callers, head: &Head, reply: Octets)
     ensures boot { callers.new.boot ≡ callers.old.boot }
     ensures seats { KeepsReply head.now reply callers.old.seats callers.new.seats }
 {
-    callers.keep(key(head), reply);
+    callers.answer(key(head), SpelledMessage::of_spelling(reply));
 }
 
 /// The reply to the call of this header, which ran, is kept.
@@ -80,15 +80,9 @@ impl FileServer {
     ) -> Mem<Outs>
         requires serves { Serves store.old.node self.old store.old.durable }
         requires head { IsSoundHead head.now }
-        ensures { Turns (sent_turn (boot_told store.old.durable.boot head.now) (row.expired now (backs_seen self.old store.old.drawn))) self.old self.new store.old store.new result }
+        ensures { Turns (sent_turn (boot_told store.old.durable.boot head.now) (backs_then self.old store.old now)) self.old self.new store.old store.new result }
     {
-        let ended = self.callbacks().plan_boot_told(
-            store.node(),
-            store.boot_number(),
-            store.last_number(),
-            head,
-            now,
-        )?;
+        let ended = self.callbacks().plan_boot_told(stand(store), head, now)?;
         let outs = self.keep_at(store, ended, now);
         Ok(outs)
     }
@@ -102,17 +96,12 @@ impl FileServer {
     ) -> Mem<Outs>
         requires serves { Serves store.old.node self.old store.old.durable }
         requires node { IsNode reply.head.to }
-        ensures { Turns (repeated_turn reply (lasting_of store.old.durable) (row.expired now (backs_seen self.old store.old.drawn))) self.old self.new store.old store.new result }
+        ensures { Turns (repeated_turn reply (lasting_of store.old.durable) (backs_then self.old store.old now)) self.old self.new store.old store.new result }
     {
         let good = is_last_change(store, &reply);
-        let ended = self.callbacks().plan_repeated(
-            store.node(),
-            store.boot_number(),
-            store.last_number(),
-            reply,
-            good,
-            now,
-        )?;
+        let ended = self
+            .callbacks()
+            .plan_repeated(stand(store), reply, good, now)?;
         let outs = self.keep_at(store, ended, now);
         Ok(outs)
     }
@@ -129,16 +118,11 @@ impl FileServer {
         requires head { IsSoundHead head.now }
         requires runs { paired head.now.epoch head.now.number (call_seat head.now.from self.old.seats) ≡ runs }
         requires code { is_zero code ≡ false }
-        ensures { Answers head.now (refusal store.old.durable.boot head.now code) [] (answer_turn (refusal store.old.durable.boot head.now code) [] false (row.expired now (backs_seen self.old store.old.drawn))) self.old self.new store.old store.new result }
+        ensures { RefusesNow head.now code now self.old self.new store.old store.new result }
     {
-        let replied = self.callbacks().plan_refused(
-            store.node(),
-            store.boot_number(),
-            store.last_number(),
-            head,
-            code,
-            now,
-        )?;
+        let replied = self
+            .callbacks()
+            .plan_refused(stand(store), head, code, now)?;
         let Replied { ended, kept } = replied;
         keep_answer(&mut self.callers, head, kept)?;
         let outs = self.keep_at(store, ended, now);
@@ -157,15 +141,9 @@ impl FileServer {
         requires head { IsSoundHead head.now }
         requires opcode { head.now.opcode ≡ 147 }
         requires runs { paired head.now.epoch head.now.number (call_seat head.now.from self.old.seats) ≡ runs }
-        ensures { Answers head.now (read_reply_to store.old.durable.boot head.now 0 (given_up_read fids.now)) [] (answer_turn (read_reply_to store.old.durable.boot head.now 0 (given_up_read fids.now)) [] false (with_lists (gives_up_all head.now.from fids.now (expired now self.old.lists)) (backs_seen self.old store.old.drawn))) self.old self.new store.old store.new result }
+        ensures { AnswersNow head.now (read_reply_to store.old.durable.boot head.now 0 (given_up_read fids.now)) [] (gives_up_all head.now.from fids.now (expired now self.old.lists)) self.old self.new store.old store.new result }
     {
-        let replied = self.callbacks().plan_given_up(
-            store.node(),
-            store.boot_number(),
-            store.last_number(),
-            head,
-            now,
-        )?;
+        let replied = self.callbacks().plan_given_up(stand(store), head, now)?;
         let Replied { ended, kept } = replied;
         keep_answer(&mut self.callers, head, kept)?;
         self.callbacks.give_up(head.from, fids, now);

@@ -8,7 +8,7 @@ ghost use Rattle.afs_model.specs.CellRows.{call_number};
 ghost use Rattle.afs_model.specs.Messages.{IsSoundCarried};
 ghost use Rattle.afs_ideal.specs.Operations.{the_user, volume_called};
 ghost use Rattle.afs_reads.specs.Replying.{FitsCall};
-ghost use Rattle.afs_server_parts.specs.Kept.{Says};
+ghost use Rattle.afs_call.specs.Admitting.{means};
 ghost use Rattle.afs_rows.specs.ServerRow.{admits, called, code_of_unreadable, in_volume, is_client, runs, runs_carried, runs_received, serves, serves_call, with_volume};
 ghost use Rattle.afs_decisions.specs.Deciding.{is_on_volume, CanBeTold, Decides, FitsDecided, IsByClient, IsUnder, Runs};
 ghost use Rattle.afs_server.specs.Handling.{server_seen};
@@ -22,12 +22,12 @@ use afs_decisions::deciding::{
     volume_called,
 };
 use afs_disk::Disk;
+use afs_message::spelled::SpelledMessage;
 use afs_num::calls::{FsCall, FsReply};
 use afs_num::messages::{Call, Carried, Received};
 use afs_num::types::{Head, Mem};
 use afs_reads::read;
 use afs_server_parts::few::Few;
-use afs_server_parts::spelled::SpelledMessage;
 use afs_volstore::VolStore;
 
 impl FileServer {
@@ -201,11 +201,11 @@ impl FileServer {
         store: &VolStore<D>,
         head: &Head,
         received: &Received,
-        admit: Admit<'_>,
+        admit: Admit<'_, SpelledMessage>,
         now: u32,
     ) -> Mem<Decided>
         requires heard { IsUnder head.now received.now }
-        requires says { Says admit (admitted store.now.durable.boot self.now.seats head.now) }
+        requires means { means admit ≡ admitted store.now.durable.boot self.now.seats head.now }
         ensures decides { IfOk result (λ d. Decides (server_seen self.now store.now) now head.now (admits (server_seen self.now store.now) now head.now received.now (admitted store.now.durable.boot self.now.seats head.now)) d) }
         ensures told { IfOk result (λ d. CanBeTold head.now.opcode d) }
         ensures fits { IfOk result FitsDecided }
@@ -214,8 +214,8 @@ impl FileServer {
     {
         match admit {
             Admit::Run => { self.run(store, head, received, now) }
-            Admit::Kept(bytes) => {
-                let reply = SpelledMessage::read(self.alloc, bytes)?;
+            Admit::Kept(reply) => {
+                let reply = reply.copy(self.alloc)?;
                 Ok(Decided::Repeats(reply))
             }
             Admit::InProgress => Ok(Decided::Drops),

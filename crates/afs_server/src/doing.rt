@@ -3,11 +3,9 @@
 ghost use Rattle.std.specs.Prelude.{◌≡◌, ◌≤◌};
 ghost use Rattle.afs_model.specs.Calls.{call_seat, paired};
 ghost use Rattle.afs_model.specs.Heads.{IsSoundHead};
-ghost use Rattle.afs_rows.specs.Callbacks.{turn_for};
-ghost use Rattle.afs_rows.specs.Callbacks as row;
 ghost use Rattle.afs_rows.specs.ServerRow.{Decision};
 ghost use Rattle.afs_decisions.specs.Deciding.{CanBeTold, Decides, LeavesDisk, Runs};
-ghost use Rattle.afs_server.specs.Handling.{server_seen, Does};
+ghost use Rattle.afs_server.specs.Handling.{server_seen, turn_then, Does};
 ghost use Rattle.afs_server.specs.Seen.{Serves};
 
 use crate::server::FileServer;
@@ -33,7 +31,7 @@ impl FileServer {
         requires leaves { LeavesDisk decided }
         requires now { now ≤ 1000000000 }
         ensures { (d : Decision) → Decides (server_seen self.old store.old) now head.now d decided →
-            Does now d (turn_for store.old.node (server_seen self.old store.old) now (row.expired now (server_seen self.old store.old).backs) d) self.old self.new store.old store.new result }
+            Does now d (turn_then self.old store.old now d) self.old self.new store.old store.new result }
     {
         match decided {
             Decided::Drops => { self.pass(store, now) }

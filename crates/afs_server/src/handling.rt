@@ -14,17 +14,16 @@ ghost use Rattle.afs_model.specs.Heads.{IsSoundHead};
 ghost use Rattle.afs_model.specs.Messages.{received_by, FindsMessages, HasSpelling, IsSoundReceived};
 ghost use Rattle.afs_records.specs.Durable.{effect_of, folded, Durable};
 ghost use Rattle.afs_records.specs.Records.{record_bytes, FitsRecord};
-ghost use Rattle.afs_rows.specs.Callbacks as row;
-ghost use Rattle.afs_rows.specs.Callbacks.{no_turn, turn_for, turned_in};
+ghost use Rattle.afs_rows.specs.Callbacks.{no_turn};
 ghost use Rattle.afs_rows.specs.ServerRow.{begun_after, called, decides, device_calls, drops, Decision};
 ghost use Rattle.afs_rows.specs.ServerSteps.{server_row};
 ghost use Rattle.afs_volstore.specs.Stores.{LeftAround};
 ghost use Rattle.afs_memory.specs.Telling.{in_words};
 ghost use Rattle.afs_decisions.specs.Deciding.{leaves_disk, CanBeTold, Decides, FitsDecided, IsByClient, IsUnder, Runs};
-ghost use Rattle.afs_server.specs.Handling.{calls_served, record_decided, server_seen, Handles, IsDone, IsQuiet, IsWritten, Ran};
+ghost use Rattle.afs_server.specs.Handling.{decided_then, record_then, backs_then, turn_then, turned_then, calls_served, record_decided, server_seen, Handles, IsDone, IsQuiet, IsWritten, Ran};
 ghost use Rattle.afs_server.specs.Hearing.{answered_turn, noticed_turn};
 ghost use Rattle.afs_server.specs.Putting.{DoesAll, OnDisk};
-ghost use Rattle.afs_server.specs.Seen.{backs_seen, lasting_of, CanDraw, Serves};
+ghost use Rattle.afs_server.specs.Seen.{lasting_of, CanDraw, Serves};
 ghost use Rattle.afs_server.specs.declared.faults.NodeFault.TheVariants as faults;
 
 use crate::faults::NodeFault;
@@ -65,7 +64,7 @@ impl FileServer {
         requires runs { Runs decided (paired head.now.epoch head.now.number (call_seat head.now.from self.old.seats)) }
         requires now { now ≤ 1000000000 }
         ensures does { (d : Decision) → Decides (server_seen self.old store.old) now head.now d decided →
-            DoesAll now d (turn_for store.old.node (server_seen self.old store.old) now (row.expired now (server_seen self.old store.old).backs) d) self.old self.new store.old store.new result }
+            DoesAll now d (turn_then self.old store.old now d) self.old self.new store.old store.new result }
         ensures disk { (d : Decision) → Decides (server_seen self.old store.old) now head.now d decided →
             OnDisk D.seen D.left_by D.size D.may_leave D.moment D.left_since D.faults D.own_faults D.calls D.setting D.limit (record_decided store.old.durable.boot now d) store.old.durable store.old.disk store.new.disk result }
     {
@@ -93,7 +92,7 @@ impl FileServer {
         requires runs { Runs decided (paired head.now.epoch head.now.number (call_seat head.now.from self.old.seats)) }
         requires now { now ≤ 1000000000 }
         ensures does { (d : Decision) → Decides (server_seen self.old store.old) now head.now d decided →
-            DoesAll now d (turn_for store.old.node (server_seen self.old store.old) now (row.expired now (server_seen self.old store.old).backs) d) self.old self.new store.old store.new result }
+            DoesAll now d (turn_then self.old store.old now d) self.old self.new store.old store.new result }
         ensures disk { (d : Decision) → Decides (server_seen self.old store.old) now head.now d decided →
             OnDisk D.seen D.left_by D.size D.may_leave D.moment D.left_since D.faults D.own_faults D.calls D.setting D.limit (record_decided store.old.durable.boot now d) store.old.durable store.old.disk store.new.disk result }
     {
@@ -122,7 +121,7 @@ impl FileServer {
         requires runs { Runs decided (paired head.now.epoch head.now.number (call_seat head.now.from self.old.seats)) }
         requires now { now ≤ 1000000000 }
         ensures does { (d : Decision) → Decides (server_seen self.old store.old) now head.now d decided →
-            DoesAll now d (turn_for store.old.node (server_seen self.old store.old) now (row.expired now (server_seen self.old store.old).backs) d) self.old self.new store.old store.new result }
+            DoesAll now d (turn_then self.old store.old now d) self.old self.new store.old store.new result }
         ensures disk { (d : Decision) → Decides (server_seen self.old store.old) now head.now d decided →
             OnDisk D.seen D.left_by D.size D.may_leave D.moment D.left_since D.faults D.own_faults D.calls D.setting D.limit (record_decided store.old.durable.boot now d) store.old.durable store.old.disk store.new.disk result }
     {
@@ -148,7 +147,7 @@ impl FileServer {
         requires heard { IsUnder head.now received.now }
         requires now { now ≤ 1000000000 }
         ensures does { let d = called store.old.node (server_seen self.old store.old) now head.now received.now in
-            DoesAll now d (turn_for store.old.node (server_seen self.old store.old) now (row.expired now (server_seen self.old store.old).backs) d) self.old self.new store.old store.new result }
+            DoesAll now d (turn_then self.old store.old now d) self.old self.new store.old store.new result }
         ensures disk { let d = called store.old.node (server_seen self.old store.old) now head.now received.now in
             OnDisk D.seen D.left_by D.size D.may_leave D.moment D.left_since D.faults D.own_faults D.calls D.setting D.limit (record_decided store.old.durable.boot now d) store.old.durable store.old.disk store.new.disk result }
     {
@@ -163,7 +162,7 @@ impl FileServer {
         now: u32,
     ) -> Result<Outs, NodeFault>
         requires { Serves store.old.node self.old store.old.durable }
-        ensures does { DoesAll now drops (no_turn (row.expired now (backs_seen self.old store.old.drawn))) self.old self.new store.old store.new result }
+        ensures does { DoesAll now drops (no_turn (backs_then self.old store.old now)) self.old self.new store.old store.new result }
         ensures disk { OnDisk D.seen D.left_by D.size D.may_leave D.moment D.left_since D.faults D.own_faults D.calls D.setting D.limit None store.old.durable store.old.disk store.new.disk result }
     {
         let outs = self.pass(store, now)?;
@@ -178,7 +177,7 @@ impl FileServer {
         now: u32,
     ) -> Result<Outs, NodeFault>
         requires { Serves store.old.node self.old store.old.durable }
-        ensures does { DoesAll now drops (answered_turn store.old.node store.old.durable.boot head.now (row.expired now (backs_seen self.old store.old.drawn))) self.old self.new store.old store.new result }
+        ensures does { DoesAll now drops (answered_turn store.old.node store.old.durable.boot head.now (backs_then self.old store.old now)) self.old self.new store.old store.new result }
         ensures disk { OnDisk D.seen D.left_by D.size D.may_leave D.moment D.left_since D.faults D.own_faults D.calls D.setting D.limit None store.old.durable store.old.disk store.new.disk result }
     {
         let outs = self.hear_answer(store, head, now)?;
@@ -193,7 +192,7 @@ impl FileServer {
         now: u32,
     ) -> Result<Outs, NodeFault>
         requires { Serves store.old.node self.old store.old.durable }
-        ensures does { DoesAll now drops (noticed_turn store.old.node store.old.durable.boot head.now (row.expired now (backs_seen self.old store.old.drawn))) self.old self.new store.old store.new result }
+        ensures does { DoesAll now drops (noticed_turn store.old.node store.old.durable.boot head.now (backs_then self.old store.old now)) self.old self.new store.old store.new result }
         ensures disk { OnDisk D.seen D.left_by D.size D.may_leave D.moment D.left_since D.faults D.own_faults D.calls D.setting D.limit None store.old.durable store.old.disk store.new.disk result }
     {
         let outs = self.hear_notice(store, head, now)?;
@@ -215,7 +214,7 @@ impl FileServer {
         requires sound { HasSpelling message.now }
         requires now { now ≤ 1000000000 }
         ensures does { let d = decides store.old.node (server_seen self.old store.old) now received.now in
-            DoesAll now d (turned_in store.old.node (server_seen self.old store.old) now (row.expired now (server_seen self.old store.old).backs) d received.now) self.old self.new store.old store.new result }
+            DoesAll now d (turned_then self.old store.old now d received.now) self.old self.new store.old store.new result }
         ensures disk { let d = decides store.old.node (server_seen self.old store.old) now received.now in
             OnDisk D.seen D.left_by D.size D.may_leave D.moment D.left_since D.faults D.own_faults D.calls D.setting D.limit (record_decided store.old.durable.boot now d) store.old.durable store.old.disk store.new.disk result }
     {
@@ -240,7 +239,7 @@ impl FileServer {
         requires sound { IsSoundReceived received.now }
         requires now { now ≤ 1000000000 }
         ensures does { let d = decides store.old.node (server_seen self.old store.old) now received.now in
-            DoesAll now d (turned_in store.old.node (server_seen self.old store.old) now (row.expired now (server_seen self.old store.old).backs) d received.now) self.old self.new store.old store.new result }
+            DoesAll now d (turned_then self.old store.old now d received.now) self.old self.new store.old store.new result }
         ensures disk { let d = decides store.old.node (server_seen self.old store.old) now received.now in
             OnDisk D.seen D.left_by D.size D.may_leave D.moment D.left_since D.faults D.own_faults D.calls D.setting D.limit (record_decided store.old.durable.boot now d) store.old.durable store.old.disk store.new.disk result }
     {
@@ -263,9 +262,9 @@ impl FileServer {
         requires draws { CanDraw self.old store.old.drawn }
         requires up { store.old.closed ≡ false }
         requires now { now ≤ 1000000000 }
-        ensures does { let d = decides store.old.node (server_seen self.old store.old) now (received_by calls_served bytes.now) in
-            DoesAll now d (turned_in store.old.node (server_seen self.old store.old) now (row.expired now (server_seen self.old store.old).backs) d (received_by calls_served bytes.now)) self.old self.new store.old store.new result }
-        ensures disk { let d = decides store.old.node (server_seen self.old store.old) now (received_by calls_served bytes.now) in
+        ensures does { let d = decided_then self.old store.old now bytes.now in
+            DoesAll now d (turned_then self.old store.old now d (received_by calls_served bytes.now)) self.old self.new store.old store.new result }
+        ensures disk { let d = decided_then self.old store.old now bytes.now in
             OnDisk D.seen D.left_by D.size D.may_leave D.moment D.left_since D.faults D.own_faults D.calls D.setting D.limit (record_decided store.old.durable.boot now d) store.old.durable store.old.disk store.new.disk result }
         ensures found { FindsMessages calls_served bytes.now }
     {
@@ -294,39 +293,39 @@ impl FileServer {
         ensures told { IsSome (D.seen store.new.disk) ↔ IsSome (D.seen store.old.disk) }
 
         ensures store { OnOk result (store.new ≡ record store.old { durable = store.new.durable; disk = store.new.disk; prepared = store.new.prepared; count = store.new.count; drawn = store.new.drawn }) }
-        ensures kept { OnOk result (IsDone (record_decided store.old.durable.boot now (decides store.old.node (server_seen self.old store.old) now (received_by calls_served bytes.now))) store.old store.new) }
+        ensures kept { OnOk result (IsDone (record_then self.old store.old now bytes.now) store.old store.new) }
 
         // A step draws few numbers: one for a node, and one for a promise that it grants.
         ensures draws { OnOk result ((store.new.drawn ≤ store.old.drawn + 204) × (self.new.lists.last_owed + length self.new.lists.promises ≤ self.old.lists.last_owed + length self.old.lists.promises + 50)) }
 
         // Where the disk fails, what may be left with the record is what the row leaves behind it.
-        ensures down { IsErrOf result faults.Down → record_decided store.old.durable.boot now (decides store.old.node (server_seen self.old store.old) now (received_by calls_served bytes.now)) ≡ None → ⊥ }
-        ensures interrupted { IsErrOf result faults.Down → (r : records.StoreRecord) → record_decided store.old.durable.boot now (decides store.old.node (server_seen self.old store.old) now (received_by calls_served bytes.now)) ≡ Some r → (e : Durable) → folded r store.old.durable ≡ Some e
-            → lasting_of e ≡ (begun_after store.old.node (server_seen self.old store.old) now (decides store.old.node (server_seen self.old store.old) now (received_by calls_served bytes.now))).state.lasting }
+        ensures down { IsErrOf result faults.Down → record_then self.old store.old now bytes.now ≡ None → ⊥ }
+        ensures interrupted { IsErrOf result faults.Down → (r : records.StoreRecord) → record_then self.old store.old now bytes.now ≡ Some r → (e : Durable) → folded r store.old.durable ≡ Some e
+            → lasting_of e ≡ (begun_after store.old.node (server_seen self.old store.old) now (decided_then self.old store.old now bytes.now)).state.lasting }
 
         // Without a record the disk is left alone.
-        ensures quiet { IsQuiet (record_decided store.old.durable.boot now (decides store.old.node (server_seen self.old store.old) now (received_by calls_served bytes.now))) result
+        ensures quiet { IsQuiet (record_then self.old store.old now bytes.now) result
             → SameDisk D.seen D.left_by D.size D.may_leave D.moment D.left_since store.old.disk store.new.disk
             × SameCounts D.faults D.own_faults D.calls D.setting D.limit store.old.disk store.new.disk }
 
         // Else a crash at any moment leaves what was kept before, or what is kept with this record.
-        ensures any_moment { (r : records.StoreRecord) → IsWritten r (record_decided store.old.durable.boot now (decides store.old.node (server_seen self.old store.old) now (received_by calls_served bytes.now))) result
+        ensures any_moment { (r : records.StoreRecord) → IsWritten r (record_then self.old store.old now bytes.now) result
             → (bytes : List ℕ) → D.seen store.old.disk ≡ Some bytes → LeavesOnly D.moment D.left_since store.old.disk store.new.disk (LeftAround (whole_records bytes) r store.old.durable) }
 
         // Where the disk was set to stop or to fail at one of the calls, that one tells what a crash with each pick leaves.
         ensures reached { IsErrOf result faults.Down → ReachesCall (D.setting store.old.disk) (D.calls store.old.disk) (D.calls store.new.disk) }
-        ensures left { IsErrOf result faults.Down → (r : records.StoreRecord) → record_decided store.old.durable.boot now (decides store.old.node (server_seen self.old store.old) now (received_by calls_served bytes.now)) ≡ Some r
+        ensures left { IsErrOf result faults.Down → (r : records.StoreRecord) → record_then self.old store.old now bytes.now ≡ Some r
             → (bytes : List ℕ) → D.seen store.old.disk ≡ Some bytes → LeavesByPick D.left_by D.calls D.setting (whole_records bytes) (record_bytes r) store.old.disk store.new.disk }
 
-        ensures fits { (r : records.StoreRecord) → IsWritten r (record_decided store.old.durable.boot now (decides store.old.node (server_seen self.old store.old) now (received_by calls_served bytes.now))) result → FitsRecord r }
+        ensures fits { (r : records.StoreRecord) → IsWritten r (record_then self.old store.old now bytes.now) result → FitsRecord r }
 
         // What a restart tells of this record is what the row tells then of the step.
-        ensures effects { (r : records.StoreRecord) → IsWritten r (record_decided store.old.durable.boot now (decides store.old.node (server_seen self.old store.old) now (received_by calls_served bytes.now))) result
-            → (ls : List Line) → (begun_after store.old.node (server_seen self.old store.old) now (decides store.old.node (server_seen self.old store.old) now (received_by calls_served bytes.now))).before ls ≡ map in_words (effect_of store.old.node r store.old.durable) ++ ls }
+        ensures effects { (r : records.StoreRecord) → IsWritten r (record_then self.old store.old now bytes.now) result
+            → (ls : List Line) → (begun_after store.old.node (server_seen self.old store.old) now (decided_then self.old store.old now bytes.now)).before ls ≡ map in_words (effect_of store.old.node r store.old.durable) ++ ls }
 
         ensures most { (D.calls store.old.disk ≤ D.calls store.new.disk) × (D.calls store.new.disk ≤ D.calls store.old.disk + 4) }
         ensures limit { D.limit store.new.disk ≡ D.limit store.old.disk }
-        ensures calls { OnOk result (D.calls store.new.disk ≡ D.calls store.old.disk + device_calls (server_seen self.old store.old) now (decides store.old.node (server_seen self.old store.old) now (received_by calls_served bytes.now))) }
+        ensures calls { OnOk result (D.calls store.new.disk ≡ D.calls store.old.disk + device_calls (server_seen self.old store.old) now (decided_then self.old store.old now bytes.now)) }
         ensures ran { Ran (D.setting store.old.disk) (D.calls store.old.disk) (D.calls store.new.disk) (D.faults store.old.disk) (D.faults store.new.disk) (D.own_faults store.old.disk) (D.own_faults store.new.disk) result }
         ensures setting { D.setting store.new.disk ≡ D.setting store.old.disk }
     {

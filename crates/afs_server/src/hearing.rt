@@ -1,18 +1,16 @@
 //! What a server does with replies and notices to its own calls.
-
-ghost use Rattle.afs_breaks.specs.Promises.{expired};
-ghost use Rattle.afs_rows.specs.Callbacks as row;
 ghost use Rattle.afs_rows.specs.Callbacks.{renews, settles};
-ghost use Rattle.afs_server_parts.specs.Called.{call_seen, IsGoodCall, IsGoodOrNone};
-ghost use Rattle.afs_server.specs.Handling.{Turns};
+ghost use Rattle.afs_server_parts.specs.Called.{IsGoodCall, IsGoodOrNone};
+ghost use Rattle.afs_server.specs.Handling.{backs_then, Turns};
 ghost use Rattle.afs_server.specs.Hearing.{answered_turn, noticed_turn, renewed_turn, settled_turn};
-ghost use Rattle.afs_server.specs.Seen.{backs_seen, Serves};
+ghost use Rattle.afs_server.specs.Seen.{Serves};
 
+use crate::ending::stand;
 use crate::server::FileServer;
 use afs_disk::Disk;
 use afs_history::lines::Outs;
 use afs_num::types::{Head, Mem, Node};
-use afs_server_parts::callees::BackCall;
+use afs_server_parts::calling::BreakCall;
 use afs_volstore::VolStore;
 
 impl FileServer {
@@ -21,21 +19,16 @@ impl FileServer {
         &mut self,
         store: &mut VolStore<D>,
         node: Node,
-        call: &BackCall,
+        call: &BreakCall,
         now: u32,
     ) -> Mem<Outs>
         requires serves { Serves store.old.node self.old store.old.durable }
-        ensures { Turns (settles store.old.node node (call_seen call.now) (row.expired now (backs_seen self.old store.old.drawn))) self.old self.new store.old store.new result }
+        ensures { Turns (settles store.old.node node call.now (backs_then self.old store.old now)) self.old self.new store.old store.new result }
     {
-        let ended = self.callbacks().plan_settled(
-            store.node(),
-            store.boot_number(),
-            store.last_number(),
-            node,
-            call,
-            now,
-        )?;
-        self.callbacks.settle(call.breaks.as_slice(), now);
+        let ended = self
+            .callbacks()
+            .plan_settled(stand(store), node, call, now)?;
+        self.callbacks.settle(call.content.as_slice(), now);
         let outs = self.keep(store, ended);
         Ok(outs)
     }
@@ -46,21 +39,16 @@ impl FileServer {
         store: &mut VolStore<D>,
         node: Node,
         known: u32,
-        call: &BackCall,
+        call: &BreakCall,
         now: u32,
     ) -> Mem<Outs>
         requires serves { Serves store.old.node self.old store.old.durable }
-        requires good { IsGoodCall store.old.node node call.now }
-        ensures { Turns (renews store.old.node store.old.durable.boot node known (call_seen call.now) (row.expired now (backs_seen self.old store.old.drawn))) self.old self.new store.old store.new result }
+        requires good { IsGoodCall node call.now }
+        ensures { Turns (renews store.old.node store.old.durable.boot node known call.now (backs_then self.old store.old now)) self.old self.new store.old store.new result }
     {
-        let ended = self.callbacks().plan_renewed(
-            store.boot_number(),
-            store.last_number(),
-            node,
-            known,
-            call,
-            now,
-        )?;
+        let ended = self
+            .callbacks()
+            .plan_renewed(stand(store), node, known, call, now)?;
         let outs = self.keep_at(store, ended, now);
         Ok(outs)
     }
@@ -70,11 +58,11 @@ impl FileServer {
         &mut self,
         store: &mut VolStore<D>,
         head: &Head,
-        call: Option<BackCall>,
+        call: Option<BreakCall>,
         now: u32,
     ) -> Mem<Outs>
         requires serves { Serves store.old.node self.old store.old.durable }
-        ensures { Turns (settled_turn store.old.node head.now (row.expired now (backs_seen self.old store.old.drawn)) call) self.old self.new store.old store.new result }
+        ensures { Turns (settled_turn store.old.node head.now (backs_then self.old store.old now) call) self.old self.new store.old store.new result }
     {
         match call {
             Some(call) => {
@@ -93,12 +81,12 @@ impl FileServer {
         &mut self,
         store: &mut VolStore<D>,
         head: &Head,
-        call: Option<BackCall>,
+        call: Option<BreakCall>,
         now: u32,
     ) -> Mem<Outs>
         requires serves { Serves store.old.node self.old store.old.durable }
-        requires good { IsGoodOrNone store.old.node head.now.from call }
-        ensures { Turns (renewed_turn store.old.node store.old.durable.boot head.now (row.expired now (backs_seen self.old store.old.drawn)) call) self.old self.new store.old store.new result }
+        requires good { IsGoodOrNone head.now.from call }
+        ensures { Turns (renewed_turn store.old.node store.old.durable.boot head.now (backs_then self.old store.old now) call) self.old self.new store.old store.new result }
     {
         match call {
             Some(call) => {
@@ -120,7 +108,7 @@ impl FileServer {
         now: u32,
     ) -> Mem<Outs>
         requires serves { Serves store.old.node self.old store.old.durable }
-        ensures { Turns (answered_turn store.old.node store.old.durable.boot head.now (row.expired now (backs_seen self.old store.old.drawn))) self.old self.new store.old store.new result }
+        ensures { Turns (answered_turn store.old.node store.old.durable.boot head.now (backs_then self.old store.old now)) self.old self.new store.old store.new result }
     {
         let call = self
             .callbacks()
@@ -137,7 +125,7 @@ impl FileServer {
         now: u32,
     ) -> Mem<Outs>
         requires serves { Serves store.old.node self.old store.old.durable }
-        ensures { Turns (noticed_turn store.old.node store.old.durable.boot head.now (row.expired now (backs_seen self.old store.old.drawn))) self.old self.new store.old store.new result }
+        ensures { Turns (noticed_turn store.old.node store.old.durable.boot head.now (backs_then self.old store.old now)) self.old self.new store.old store.new result }
     {
         let call = self
             .callbacks()

@@ -5,10 +5,11 @@ ghost use Rattle.afs_num.specs.Nodes.{IsNode};
 ghost use Rattle.afs_server.specs.declared.faults.NodeFault.TheVariants as faults;
 ghost use Rattle.afs_rows.specs.ServerSteps.{back_timeout_row, wake_row};
 ghost use Rattle.afs_rows.specs.States as rows;
-ghost use Rattle.afs_server_parts.specs.Called.{call_to, calls_seen};
+ghost use Rattle.afs_server_parts.specs.Called.{call_to};
 ghost use Rattle.afs_server.specs.Handling.{server_seen, Handles, Makes};
 ghost use Rattle.afs_server.specs.Seen.{begun_step, waits_by, CanDraw, Serves};
 
+use crate::ending::stand;
 use crate::faults::NodeFault;
 use crate::restoring::callers_kept;
 use crate::server::FileServer;
@@ -17,7 +18,7 @@ use afs_callbacks::restoring::{owed_to_clients, rise};
 use afs_disk::Disk;
 use afs_history::lines::Outs;
 use afs_num::types::{Key, Mem, Node};
-use afs_server_parts::callees::BackCall;
+use afs_server_parts::calling::BreakCall;
 use afs_volstore::VolStore;
 use std::alloc::Global;
 
@@ -26,7 +27,7 @@ const PROMISE_TICKS: u32 = 7200;
 
 impl FileServer {
     /// A copy of its unanswered call to this node.
-    fn awaited(&self, callee: Node) -> Mem<BackCall>
+    fn awaited(&self, callee: Node) -> Mem<BreakCall>
         requires { IsSome (call_to self.now.callees callee) }
         ensures { IfOk result (λ c. call_to self.now.callees callee ≡ Some c) }
     {
@@ -48,7 +49,7 @@ impl FileServer {
         requires draws { CanDraw self.old store.old.drawn }
         requires now { now ≤ 1000000000 }
         requires waits { IsSome (call_to self.old.callees callee) }
-        ensures step { (c : rows.BackCall) → calls_seen self.old.callees callee ≡ Some c → Handles (back_timeout_row store.old.node (server_seen self.old store.old) now callee c) [] self.old self.new store.old store.new result }
+        ensures step { (c : rows.BackCall) → call_to self.old.callees callee ≡ Some c → Handles (back_timeout_row store.old.node (server_seen self.old store.old) now callee c) [] self.old self.new store.old store.new result }
         ensures serves { OnOk result (Serves store.new.node self.new store.new.durable) }
         ensures draws { OnOk result ((store.new.drawn ≤ store.old.drawn + 204) × (self.new.lists.last_owed + length self.new.lists.promises ≤ self.old.lists.last_owed + length self.old.lists.promises)) }
         ensures store { store.new ≡ record store.old { drawn = store.new.drawn } }
@@ -96,7 +97,7 @@ impl FileServer {
     {
         let callers = callers_kept(alloc, store)?;
         let promises = owed_to_clients(alloc, clients, now + PROMISE_TICKS)?;
-        let ended = rise(alloc, store.node(), store.boot_number(), &promises)?;
+        let ended = rise(alloc, stand(store), &promises)?;
         let callbacks = Callbacks::owing(alloc, promises);
         let mut server = FileServer {
             alloc,
@@ -108,12 +109,12 @@ impl FileServer {
     }
 
     /// The key of the server's unanswered call to this node. It takes no memory.
-    pub fn waits_on(&self, callee: Node) -> Option<Key>
-        ensures { result ≡ waits_by self.now callee }
+    pub fn waits_on<D: Disk>(&self, store: &VolStore<D>, callee: Node) -> Option<Key>
+        ensures { result ≡ waits_by store.now.node self.now callee }
     {
         let call = self.callbacks().call_to(callee)?;
         Some(Key {
-            node: call.server,
+            node: store.node(),
             epoch: self.callers.boot(),
             number: call.number,
         })

@@ -7,7 +7,7 @@ ghost use Rattle.afs_server.specs.Seen.{or_loc, seat_kept, seats_after, CanFollo
 
 use afs_disk::Disk;
 use afs_num::types::{Key, Mem, Node};
-use afs_server_parts::callers::Callers;
+use afs_server_parts::callers::{Callers, restore};
 use afs_volstore::VolStore;
 use std::alloc::Global;
 
@@ -25,7 +25,7 @@ fn keep_again(alloc: Global, callers: &mut Callers, key: Key, reply: &[u8]) -> M
         unreachable!()
     };
     callers.reserve(1)?;
-    callers.restore(alloc, Key { node, ..key }, reply)?;
+    restore(alloc, callers, Key { node, ..key }, reply)?;
     Ok(())
 }
 

@@ -1,31 +1,24 @@
 //! A server's own calls wait too long, and time passes.
-
-ghost use Rattle.afs_breaks.specs.Promises.{expired};
-ghost use Rattle.afs_rows.specs.Callbacks as row;
 ghost use Rattle.afs_rows.specs.Callbacks.{no_turn, timed};
-ghost use Rattle.afs_server_parts.specs.Called.{call_seen, IsGoodCall};
-ghost use Rattle.afs_server.specs.Handling.{Turns};
-ghost use Rattle.afs_server.specs.Seen.{backs_seen, Serves};
+ghost use Rattle.afs_server_parts.specs.Called.{IsGoodCall};
+ghost use Rattle.afs_server.specs.Handling.{backs_then, Turns};
+ghost use Rattle.afs_server.specs.Seen.{Serves};
 
+use crate::ending::stand;
 use crate::server::FileServer;
 use afs_disk::Disk;
 use afs_history::lines::Outs;
 use afs_num::types::{Mem, Node};
-use afs_server_parts::callees::BackCall;
+use afs_server_parts::calling::BreakCall;
 use afs_volstore::VolStore;
 
 impl FileServer {
     /// Nothing happens but that time has passed.
     pub(crate) fn pass<D: Disk>(&mut self, store: &mut VolStore<D>, now: u32) -> Mem<Outs>
         requires serves { Serves store.old.node self.old store.old.durable }
-        ensures { Turns (no_turn (row.expired now (backs_seen self.old store.old.drawn))) self.old self.new store.old store.new result }
+        ensures { Turns (no_turn (backs_then self.old store.old now)) self.old self.new store.old store.new result }
     {
-        let ended = self.callbacks().plan_wake(
-            store.node(),
-            store.boot_number(),
-            store.last_number(),
-            now,
-        )?;
+        let ended = self.callbacks().plan_wake(stand(store), now)?;
         let outs = self.keep_at(store, ended, now);
         Ok(outs)
     }
@@ -35,20 +28,16 @@ impl FileServer {
         &mut self,
         store: &mut VolStore<D>,
         callee: Node,
-        call: &BackCall,
+        call: &BreakCall,
         now: u32,
     ) -> Mem<Outs>
         requires serves { Serves store.old.node self.old store.old.durable }
-        requires good { IsGoodCall store.old.node callee call.now }
-        ensures { Turns (timed store.old.node store.old.durable.boot callee (call_seen call.now) (row.expired now (backs_seen self.old store.old.drawn))) self.old self.new store.old store.new result }
+        requires good { IsGoodCall callee call.now }
+        ensures { Turns (timed store.old.node store.old.durable.boot callee call.now (backs_then self.old store.old now)) self.old self.new store.old store.new result }
     {
-        let ended = self.callbacks().plan_timeout(
-            store.boot_number(),
-            store.last_number(),
-            callee,
-            call,
-            now,
-        )?;
+        let ended = self
+            .callbacks()
+            .plan_timeout(stand(store), callee, call, now)?;
         self.callbacks.time_out(call, now);
         let outs = self.keep(store, ended);
         Ok(outs)

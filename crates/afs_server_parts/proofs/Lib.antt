@@ -1,11 +1,8 @@
 pub mod Calls
 pub mod Finding
 pub mod First
-pub mod Keeping
-pub mod Read
 pub mod Released
 pub mod Same
-pub mod Sending
 pub mod Spelling
 pub mod Steps
 pub mod Turning

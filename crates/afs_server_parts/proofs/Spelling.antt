@@ -34,5 +34,5 @@ carried_for : (os : List OwedBreak) → length os ≤ 50 → IsSoundCarried Call
 carried_for [] few = (refl, refl, omega arith, (omega arith, (omega arith, tt)))
 carried_for (o ∷ os) few = carried_by o.what (o ∷ os) few
 
-pub break_spelled : (me : Node) (boot : ℕ) (n : Node) (known : ℕ) (c : BackCall) → IsNode me → IsNode n → length c.breaks ≤ 50 → HasSpelling (break_message me boot n known c)
-break_spelled me boot n known c is_me is_n few = ((is_me, is_n), carried_for c.breaks few)
+pub break_spelled : (me : Node) (boot : ℕ) (n : Node) (known : ℕ) (c : BackCall) → IsNode me → IsNode n → length c.content ≤ 50 → HasSpelling (break_message me boot n known c)
+break_spelled me boot n known c is_me is_n few = ((is_me, is_n), carried_for c.content few)

@@ -1,18 +1,18 @@
 -- A plan is the turn of its row.
 use Rattle.std.proofs.Common.{◌≡◌, ℕ, Bool, true, false, cond, ◌&&◌, List, [], ◌∷◌, ◌++◌, not, Option, Some, None, refl, sym, ap, subst, ◌∙◌, append_assoc}
-use Rattle.std.specs.Prelude.{filter, is_some, nat_lt}
-use Rattle.std.specs.Option.{option_map}
+use Rattle.std.specs.Prelude.{filter, is_some}
 use Rattle.std.proofs.lemmas.List.{map-append}
 use Rattle.std.proofs.lemmas.List.Elements.{filter-append}
 use Rattle.afs_num.specs.declared.types.Node.{Node}
 use Rattle.afs_num.specs.declared.messages.Message.{Message}
+use Rattle.afs_model.specs.Calls.{is_sent_again}
 use Rattle.afs_history.specs.declared.lines.Line.{Line}
 use Rattle.afs_breaks.specs.Promises.{Lists, ends}
 use Rattle.afs_breaks.specs.declared.types.OwedBreak.{OwedBreak}
 use Rattle.afs_rows.specs.Callbacks as row
 use Rattle.afs_rows.specs.Callbacks.{ends_all, given_out, held_after, is_ready, replies_of, starts_by, no_turn, Started}
 use Rattle.afs_rows.specs.States.{BackCall, Backs, Held}
-use Rattle.afs_server_parts.specs.Called.{call_seen, calls_seen, known_to, Called}
+use Rattle.afs_server_parts.specs.Called.{call_to, known_to}
 use Rattle.afs_server_parts.specs.declared.turns.Calls.{Calls}
 use Rattle.afs_server_parts.specs.declared.turns.Turn.{Turn}
 use Rattle.afs_server_parts.specs.Turning.{backs_with, breaks_left, started_with, turn_with, waits_again, IsFresh, IsTurn}
@@ -23,7 +23,7 @@ ends_owed (b ∷ bs) l = ends_owed bs (ends b.number l)
 
 -- part by part
 pub turn_is : (l : Lists) (t : Turn) (k : ℕ) (cs : Node → Option BackCall) (kn : Node → ℕ) (hs : List Held) (ls : List Line) (ms : List Message) (os : List Held) →
-    l.owed ≡ t.owed.items → t.calls.last ≡ k → calls_seen t.calls.callees.items ≡ cs → known_to t.calls.callees.items ≡ kn → t.held ≡ hs → t.lines ≡ ls → t.calls.sent ≡ ms → t.outs ≡ os →
+    l.owed ≡ t.owed.items → t.calls.last ≡ k → call_to t.calls.callees.items ≡ cs → known_to t.calls.callees.items ≡ kn → t.held ≡ hs → t.lines ≡ ls → t.calls.sent ≡ ms → t.outs ≡ os →
     IsTurn (record { backs = record { lists = l; last_call = k; calls = cs; known = kn; held = hs }; lines = ls; sent = ms; outs = os }) t
 turn_is l t k cs kn hs ls ms os o a b c d e f g = record {
   owed = o;
@@ -31,7 +31,7 @@ turn_is l t k cs kn hs ls ms os o a b c d e f g = record {
 }
 
 pub started_is : (l : Lists) (hs : List Held) (c : Calls) (k : ℕ) (cs : Node → Option BackCall) (kn : Node → ℕ) (ms : List Message) →
-    c.last ≡ k → calls_seen c.callees.items ≡ cs → known_to c.callees.items ≡ kn → c.sent ≡ ms →
+    c.last ≡ k → call_to c.callees.items ≡ cs → known_to c.callees.items ≡ kn → c.sent ≡ ms →
     started_with l hs c ≡ record { backs = record { lists = l; last_call = k; calls = cs; known = kn; held = hs }; sent = ms }
 started_is l hs c k cs kn ms a b d e = λ i. record { backs = record { lists = l; last_call = a i; calls = b i; known = d i; held = hs }; sent = e i }
 
@@ -48,7 +48,7 @@ turned f b t u is h = subst (λ (x : Backs). IsTurn (f x) u) (backs_of b t is) (
 -- ---- the replies that wait no more
 
 -- what is sent and what still waits, as the code goes through both lists
-pub released : (l : Lists) (t : Turn) (hs : List Held) (u : Calls) → l.owed ≡ t.owed.items → u.last ≡ t.calls.last → calls_seen u.callees.items ≡ calls_seen t.calls.callees.items → known_to u.callees.items ≡ known_to t.calls.callees.items →
+pub released : (l : Lists) (t : Turn) (hs : List Held) (u : Calls) → l.owed ≡ t.owed.items → u.last ≡ t.calls.last → call_to u.callees.items ≡ call_to t.calls.callees.items → known_to u.callees.items ≡ known_to t.calls.callees.items →
     u.sent ≡ (t.calls.sent ++ replies_of (filter (is_ready t.owed.items) t.outs)) ++ replies_of (filter (is_ready t.owed.items) t.held) →
     hs ≡ filter (λ (h : Held). not (is_ready t.owed.items h)) t.held ++ filter (λ (h : Held). not (is_ready t.owed.items h)) t.outs →
     started_with l hs u ≡ record { backs = held_after (turn_with l t); sent = given_out (turn_with l t) }
@@ -66,7 +66,7 @@ released l t hs u o a b c sent held =
 
 -- ---- a node that has no unanswered call
 
-pub not_waiting : (o : Option Called) → is_some o ≡ false → option_map call_seen o ≡ None
+pub not_waiting : (o : Option BackCall) → is_some o ≡ false → o ≡ None
 not_waiting None e = refl
 not_waiting (Some c) e = absurd cc
 
@@ -90,7 +90,10 @@ asks_at b m None false w e = ap (row.asked_again b m) (numbers_of [] w e)
 pub asks_again : (t : Turn) (b : Backs) (os : List OwedBreak) (m : Message) (o : Option Held) (good : Bool) (w : List ℕ) → b.lists.owed ≡ os → waits_again os o good ≡ Some w → IsTurn (row.asked_again b m w) t → IsTurn (row.repeats_by b m o good) t
 asks_again t b os m o good w q e is = subst (λ (x : row.Turn). IsTurn x t) (sym (asks_at b m o good w (ap (λ (xs : List OwedBreak). waits_again xs o good) q ∙ e))) is
 
--- ---- a timeout that isn't the last
+-- ---- a timeout that isn't the last, and the last
 
-pub timed_first : (me : Node) (boot : ℕ) (n : Node) (c : BackCall) (b : Backs) (t : Turn) → nat_lt c.tries 2 ≡ true → IsTurn (row.retries me boot n c b) t → IsTurn (row.timed me boot n c b) t
+pub timed_first : (me : Node) (boot : ℕ) (n : Node) (c : BackCall) (b : Backs) (t : Turn) → is_sent_again c.tries ≡ true → IsTurn (row.retries me boot n c b) t → IsTurn (row.timed me boot n c b) t
 timed_first me boot n c b t first is = subst (λ (x : Bool). IsTurn (cond x (row.retries me boot n c b) (row.quits me boot n c b)) t) (sym first) is
+
+pub timed_last : (me : Node) (boot : ℕ) (n : Node) (c : BackCall) (b : Backs) (t : Turn) → is_sent_again c.tries ≡ false → IsTurn (row.quits me boot n c b) t → IsTurn (row.timed me boot n c b) t
+timed_last me boot n c b t last is = subst (λ (x : Bool). IsTurn (cond x (row.retries me boot n c b) (row.quits me boot n c b)) t) (sym last) is

@@ -1,6 +1,5 @@
 pub mod Called
+pub mod Ending
 pub mod Few
-pub mod Kept
-pub mod Sending
 pub mod Telling
 pub mod Turning

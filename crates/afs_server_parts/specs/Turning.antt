@@ -1,12 +1,13 @@
 -- What a step plans with a server's promises, calls and replies, and the turn of its row that this is.
-use Rattle.std.specs.Prelude.{◌≡◌, ℕ, List, [], ◌∷◌, Bool, true, false, ◌&&◌, Option, Some, None, if◌then◌else◌}
+use Rattle.std.specs.List.{All}
+use Rattle.std.specs.Prelude.{◌≡◌, ◌≤◌, ℕ, List, [], ◌∷◌, Bool, true, false, ◌&&◌, Option, Some, None, if◌then◌else◌}
 use Rattle.afs_num.specs.Nodes.{IsNode}
 use Rattle.afs_breaks.specs.Promises.{Lists, without_break}
 use Rattle.afs_breaks.specs.declared.types.OwedBreak.{OwedBreak}
 use Rattle.afs_rows.specs.Callbacks as row
 use Rattle.afs_rows.specs.Callbacks.{Started}
 use Rattle.afs_rows.specs.States.{Backs, Held}
-use Rattle.afs_server_parts.specs.Called.{calls_seen, known_to}
+use Rattle.afs_server_parts.specs.Called.{call_to, known_to, AreGoodCalls}
 use Rattle.afs_server_parts.specs.declared.turns.Calls.{Calls}
 use Rattle.afs_server_parts.specs.declared.turns.Turn.{Turn}
 
@@ -18,7 +19,7 @@ breaks_left (b ∷ bs) os = breaks_left bs (without_break b.number os)
 -- The promises stay where they are; a plan has the breaks that are owed after the step. With the lists as they then are, it is
 -- the row's.
 abbrev pub backs_with : Lists → List Held → Calls → Backs
-backs_with l held c = record { lists = l; last_call = c.last; calls = calls_seen c.callees.items; known = known_to c.callees.items; held = held }
+backs_with l held c = record { lists = l; last_call = c.last; calls = call_to c.callees.items; known = known_to c.callees.items; held = held }
 
 abbrev pub turn_with : Lists → Turn → row.Turn
 turn_with l t = record { backs = backs_with l t.held t.calls; lines = t.lines; sent = t.calls.sent; outs = t.outs }
@@ -40,6 +41,13 @@ pub record IsFresh (t : Turn) : Type 0 where
 -- a break of which a node of the cell is told
 abbrev pub IsBreakToNode : OwedBreak → Type 0
 IsBreakToNode o = IsNode o.client
+
+-- who makes it, what it owes and whom it calls are nodes of the cell, and it draws its calls behind the last one
+pub record IsReady (t : Turn) : Type 0 where
+  pub node : IsNode t.stand.node
+  pub owed : All IsBreakToNode t.owed.items
+  pub calls : AreGoodCalls t.calls.callees.items
+  pub drawn : t.stand.last ≤ t.calls.last
 
 -- for which breaks a kept reply waits that is asked again, if it is given at all
 abbrev pub waits_again : List OwedBreak → Option Held → Bool → Option (List ℕ)

@@ -6,13 +6,12 @@ ghost use Rattle.std.specs.Option.{option_copied};
 ghost use Rattle.afs_num.specs.declared.types.Node.{Node};
 ghost use Rattle.afs_breaks.specs.Promises.{Lists};
 ghost use Rattle.afs_rows.specs.Callbacks.{alls, held_under, is_reply_to, key_answered, no_turn, repeats_by};
-ghost use Rattle.afs_server_parts.specs.Called.{AreGoodCalls};
-ghost use Rattle.afs_server_parts.specs.Turning.{backs_with, waits_again, IsFresh, IsTurn};
+ghost use Rattle.afs_server_parts.specs.Turning.{backs_with, waits_again, IsFresh, IsReady, IsTurn};
 
 use crate::held::{HeldReply, copy_numbers};
 use crate::owed::alls;
-use crate::spelled::SpelledMessage;
 use crate::turns::Turn;
+use afs_message::spelled::SpelledMessage;
 use afs_num::sequences::Sequence;
 use afs_num::types::{Head, Key, Mem};
 use std::alloc::Global;
@@ -53,8 +52,8 @@ impl Turn {
     pub fn send(&mut self, message: SpelledMessage) -> Mem<()>
         requires fresh { IsFresh self.old }
         ensures turn { OnOk result ((l : Lists) → l.owed ≡ self.old.owed.items → IsTurn (record (no_turn (backs_with l self.old.held self.old.calls)) { sent = message ∷ [] }) self.new) }
-        ensures good { self.new.calls.callees ≡ self.old.calls.callees }
-        ensures owed { self.new.owed ≡ self.old.owed }
+        ensures stand { self.new.stand ≡ self.old.stand }
+        ensures ready { OnOk result (IsReady self.old → IsReady self.new) }
     {
         self.calls.sent.push(message)?;
         Ok(())
@@ -64,8 +63,8 @@ impl Turn {
     pub fn answer(&mut self, reply: SpelledMessage, waits: Sequence<u32>, again: bool) -> Mem<()>
         requires fresh { IsFresh self.old }
         ensures turn { OnOk result ((l : Lists) → l.owed ≡ self.old.owed.items → IsTurn (record (no_turn (backs_with l self.old.held self.old.calls)) { outs = record { reply = reply; waits = waits; again = again } ∷ [] }) self.new) }
-        ensures good { self.new.calls.callees ≡ self.old.calls.callees }
-        ensures owed { self.new.owed ≡ self.old.owed }
+        ensures stand { self.new.stand ≡ self.old.stand }
+        ensures ready { OnOk result (IsReady self.old → IsReady self.new) }
     {
         self.outs.push(HeldReply {
             reply,
@@ -107,8 +106,8 @@ impl Turn {
     pub fn repeat(&mut self, alloc: Global, reply: SpelledMessage, good: bool) -> Mem<()>
         requires fresh { IsFresh self.old }
         ensures turn { OnOk result ((l : Lists) → l.owed ≡ self.old.owed.items → IsTurn (repeats_by (backs_with l self.old.held self.old.calls) reply (held_under (key_answered reply) self.old.held) good) self.new) }
-        ensures good { self.new.calls.callees ≡ self.old.calls.callees }
-        ensures owed { self.new.owed ≡ self.old.owed }
+        ensures stand { self.new.stand ≡ self.old.stand }
+        ensures ready { OnOk result (IsReady self.old → IsReady self.new) }
     {
         match self.waits_again(alloc, &reply, good)? {
             Some(waits) => self.answer(reply, waits, true)?,

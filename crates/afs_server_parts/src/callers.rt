@@ -1,18 +1,18 @@
 //! The callers of a server, with the replies that it keeps for them.
 
-ghost use Rattle.std.specs.Prelude.{◌≡◌, ◌≤◌, [], Some, true, IfOk, OnOk, OnErr};
-ghost use Rattle.afs_num.specs.Keyed.{HasRoom, KeepsRoom};
-ghost use Rattle.afs_model.specs.Calls.{admitted, call_seat, call_seated, paired, runs};
+ghost use Rattle.std.specs.Prelude.{◌≡◌, Some, true, IfOk, OnOk, OnErr};
+ghost use Rattle.afs_num.specs.Keyed.{HasRoom};
+ghost use Rattle.afs_model.specs.Calls.{call_seat, call_seated, paired, runs};
 ghost use Rattle.afs_model.specs.Messages.{received};
-ghost use Rattle.afs_server_parts.specs.Kept.{is_whole, reply_in, IsSpelling, Says};
+ghost use Rattle.afs_message.specs.Spelled.{is_whole, reply_in, IsSpelling};
 
-use afs_call::{Admit, CallTable};
+use afs_call::CallTable;
 use afs_message::messages::read_message;
+use afs_message::spelled::SpelledMessage;
 use afs_num::messages::Received;
 use afs_num::sequences::Octets;
-use afs_num::types::{Head, Key, Mem};
+use afs_num::types::{Key, Mem};
 use std::alloc::Global;
-use std::marker::Model;
 
 /// The calls of the cell.
 const ALL_CALLS: [u32; 43] = [
@@ -39,85 +39,23 @@ fn is_message(alloc: Global, bytes: &[u8]) -> Mem<bool>
     Ok(is_whole(&received))
 }
 
-/// A table of calls whose kept replies are messages, in their spellings.
-#[derive(Drop)]
-pub struct Callers {
-    table: CallTable,
-}
+/// The callers of a server: a table of calls that keeps replies as messages.
+pub type Callers = CallTable<SpelledMessage>;
 
-impl Model for Callers {
-    ghost use Rattle.std.specs.List.{All};
-    ghost use Rattle.afs_server_parts.specs.Kept.{Served, read_seats, KeepsSpelling};
-
-    ghost Value = { Served };
-
-    ghost view = { λ c. record { boot = c.table.boot; seats = read_seats c.table.seats; room = c.table.room } };
-
-    ghost invariant = { λ c. All KeepsSpelling c.table.seats };
-}
-
-impl Callers {
-    /// No callers, in this boot. It takes no memory.
-    pub fn new(alloc: Global, boot: u32) -> Callers
-        ensures boot { result.boot ≡ boot }
-        ensures seats { result.seats ≡ [] }
-    {
-        Callers {
-            table: CallTable::new(alloc, boot),
-        }
+/// The seat of a caller as it was kept, with this reply to its last call: none where the bytes spell no message. A caller's
+/// first call needs room for one caller.
+pub fn restore(alloc: Global, callers: &mut Callers, key: Key, reply: &[u8]) -> Mem<()>
+    requires runs { paired key.epoch key.number (call_seat key.node callers.old.seats) ≡ runs }
+    requires room { HasRoom (call_seat key.node callers.old.seats) callers.old.room }
+    ensures boot { callers.new.boot ≡ callers.old.boot }
+    ensures seats { OnOk result (callers.new.seats ≡ call_seated (record { caller = key.node; epoch = key.epoch; number = key.number; reply = reply_in (Some reply.now) }) callers.old.seats) }
+    ensures err { OnErr result (callers.new.seats ≡ callers.old.seats) }
+{
+    if is_message(alloc, reply)? {
+        let reply = Octets::from_slice(alloc, reply)?;
+        callers.answer(key, SpelledMessage::of_spelling(reply));
+    } else {
+        callers.start(key);
     }
-
-    pub fn boot(&self) -> u32
-        ensures { result ≡ self.now.boot }
-    {
-        self.table.boot()
-    }
-
-    /// Makes room for so many more callers.
-    pub fn reserve(&mut self, callers: u32) -> Mem<()>
-        ensures room { OnOk result (callers ≤ self.new.room) }
-        ensures boot { self.new.boot ≡ self.old.boot }
-        ensures seats { self.new.seats ≡ self.old.seats }
-        ensures kept { self.old.room ≤ self.new.room }
-        ensures err { OnErr result (self.new ≡ self.old) }
-    {
-        self.table.reserve(callers)
-    }
-
-    /// What becomes of a call. It takes no memory.
-    pub fn admit(&self, head: &Head) -> Admit<'_>
-        ensures { Says result (admitted self.now.boot self.now.seats head.now) }
-    {
-        self.table.admit(head)
-    }
-
-    /// Keeps the reply to a call that ran. It takes no memory; a caller's first call needs room for one caller.
-    pub fn keep(&mut self, key: Key, reply: Octets)
-        requires runs { paired key.epoch key.number (call_seat key.node self.old.seats) ≡ runs }
-        requires room { HasRoom (call_seat key.node self.old.seats) self.old.room }
-        requires spelling { IsSpelling reply }
-        ensures boot { self.new.boot ≡ self.old.boot }
-        ensures seats { self.new.seats ≡ call_seated (record { caller = key.node; epoch = key.epoch; number = key.number; reply = reply_in (Some reply) }) self.old.seats }
-        ensures room { KeepsRoom (call_seat key.node self.old.seats) self.old.room self.new.room }
-    {
-        self.table.answer(key, reply);
-    }
-
-    /// The seat of a caller as it was kept, with this reply to its last call: none where the bytes spell no message. A caller's
-    /// first call needs room for one caller.
-    pub fn restore(&mut self, alloc: Global, key: Key, reply: &[u8]) -> Mem<()>
-        requires runs { paired key.epoch key.number (call_seat key.node self.old.seats) ≡ runs }
-        requires room { HasRoom (call_seat key.node self.old.seats) self.old.room }
-        ensures boot { self.new.boot ≡ self.old.boot }
-        ensures seats { OnOk result (self.new.seats ≡ call_seated (record { caller = key.node; epoch = key.epoch; number = key.number; reply = reply_in (Some reply.now) }) self.old.seats) }
-        ensures err { OnErr result (self.new.seats ≡ self.old.seats) }
-    {
-        if is_message(alloc, reply)? {
-            let reply = Octets::from_slice(alloc, reply)?;
-            self.keep(key, reply);
-        } else {
-            self.table.start(key);
-        }
-        Ok(())
-    }
+    Ok(())
 }

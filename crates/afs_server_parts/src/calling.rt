@@ -3,17 +3,23 @@
 ghost use Rattle.std.specs.Prelude.{◌≡◌, ◌≤◌, ◌++◌, ◌∷◌, [], filter, length, map, IfOk, OnOk};
 ghost use Rattle.afs_num.specs.Nodes.{IsNode};
 ghost use Rattle.afs_rows.specs.Callbacks.{break_message, breaks_call, breaks_opcode, broken_until, call_for, carries_for, fids_of, first_of, is_for, most_breaks, opcode_for};
-ghost use Rattle.afs_server_parts.specs.Called.{call_seen};
 
-use crate::callees::BackCall;
+use crate::callees::{BackCall, Callee};
 use crate::few::Few;
-use crate::spelled::{Sent, SpelledMessage};
+use crate::turns::Stand;
 use afs_breaks::types::OwedBreak;
+use afs_message::spelled::{Sent, SpelledMessage};
 use afs_num::calls::{AfsCallBack, CallBacks, Fids, FsCall};
 use afs_num::messages::{Call, Carried, Message};
 use afs_num::sequences::{Octets, Sequence};
 use afs_num::types::{Fid, Half, Head, Mem, Node};
 use std::alloc::Global;
+
+/// A call that brings breaks.
+pub type BreakCall = BackCall<Few<OwedBreak>>;
+
+/// A node to which such calls go.
+pub type BreakCallee = Callee<Few<OwedBreak>>;
 
 /// Whether it is a break on a fid for this node.
 fn is_for(owed: &OwedBreak, node: Node) -> bool
@@ -138,17 +144,23 @@ pub fn breaks_opcode(breaks: &[OwedBreak]) -> u32
     }
 }
 
-/// The message of a call to a node of which this boot number is known, by a server of this boot.
-fn call_message(alloc: Global, boot: u32, callee: Node, known: u32, call: &BackCall) -> Mem<Message>
-    ensures { IfOk result (λ m. m ≡ break_message call.now.server boot callee known (call_seen call.now)) }
+/// The message of a call to a node of which this boot number is known.
+fn call_message(
+    alloc: Global,
+    stand: Stand,
+    callee: Node,
+    known: u32,
+    call: &BreakCall,
+) -> Mem<Message>
+    ensures { IfOk result (λ m. m ≡ break_message stand.node stand.boot callee known call.now) }
 {
-    let breaks = call.breaks.as_slice();
+    let breaks = call.content.as_slice();
     Ok(Message {
         head: Head {
             half: Half::Call,
-            from: call.server,
+            from: stand.node,
             to: callee,
-            epoch: boot,
+            epoch: stand.boot,
             number: call.number,
             boot: known,
             stamp: 0,
@@ -164,35 +176,35 @@ fn call_message(alloc: Global, boot: u32, callee: Node, known: u32, call: &BackC
 /// The message of a call, in its spelling.
 fn spell_call(
     alloc: Global,
-    boot: u32,
+    stand: Stand,
     callee: Node,
     known: u32,
-    call: &BackCall,
+    call: &BreakCall,
 ) -> Mem<SpelledMessage>
-    requires server { IsNode call.now.server }
+    requires stands { IsNode stand.node }
     requires callee { IsNode callee }
-    requires few { length call.now.breaks ≤ 50 }
-    ensures { IfOk result (λ m. m ≡ break_message call.now.server boot callee known (call_seen call.now)) }
+    requires few { length call.now.content ≤ 50 }
+    ensures { IfOk result (λ m. m ≡ break_message stand.node stand.boot callee known call.now) }
 {
-    let message = call_message(alloc, boot, callee, known, call)?;
+    let message = call_message(alloc, stand, callee, known, call)?;
     SpelledMessage::from_message(alloc, message)
 }
 
 /// A call goes out to a node of which this boot number is known.
 pub(crate) fn send_call(
     alloc: Global,
-    boot: u32,
+    stand: Stand,
     callee: Node,
     known: u32,
-    call: &BackCall,
+    call: &BreakCall,
     sent: &mut Sent,
 ) -> Mem<()>
-    requires server { IsNode call.now.server }
+    requires stands { IsNode stand.node }
     requires callee { IsNode callee }
-    requires few { length call.now.breaks ≤ 50 }
-    ensures { OnOk result (sent.new ≡ sent.old ++ break_message call.now.server boot callee known (call_seen call.now) ∷ []) }
+    requires few { length call.now.content ≤ 50 }
+    ensures { OnOk result (sent.new ≡ sent.old ++ break_message stand.node stand.boot callee known call.now ∷ []) }
 {
-    let message = spell_call(alloc, boot, callee, known, call)?;
+    let message = spell_call(alloc, stand, callee, known, call)?;
     sent.push(message)?;
     Ok(())
 }

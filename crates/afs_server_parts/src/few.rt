@@ -1,7 +1,8 @@
 //! Lists that mostly have one item.
 
-ghost use Rattle.std.specs.Prelude.{◌≡◌, ◌∷◌, [], IfOk, IfSome};
+ghost use Rattle.std.specs.Prelude.{◌≡◌, ◌∷◌, [], IfSome};
 
+use crate::callees::Copies;
 use afs_num::sequences::Sequence;
 use afs_num::types::Mem;
 use std::alloc::Global;
@@ -81,11 +82,10 @@ impl<T: Copy> Few<T> {
             },
         }
     }
+}
 
-    /// A copy.
-    pub fn copy(&self, alloc: Global) -> Mem<Self>
-        ensures { IfOk result (λ f. f ≡ self.now) }
-    {
+impl<T: Copy> Copies for Few<T> {
+    fn copy(&self, alloc: Global) -> Mem<Few<T>> {
         match &self.kept {
             OneOrAll::One([item]) => Ok(Few::one(*item)),
             OneOrAll::All(items) => {

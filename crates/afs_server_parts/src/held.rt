@@ -6,8 +6,8 @@ ghost use Rattle.afs_rows.specs.Callbacks.{is_ready, replies_of, waits_none};
 ghost use Rattle.afs_rows.specs.States.{Held};
 
 use crate::owed::has_break;
-use crate::spelled::{Sent, SpelledMessage};
 use afs_breaks::types::OwedBreak;
+use afs_message::spelled::{Sent, SpelledMessage};
 use afs_num::sequences::Sequence;
 use afs_num::types::Mem;
 use std::alloc::Global;

@@ -7,16 +7,16 @@ ghost use Rattle.afs_num.specs.declared.types.Node.{Node};
 ghost use Rattle.afs_breaks.specs.Promises.{Lists};
 ghost use Rattle.afs_rows.specs.Callbacks.{given_out, held_after, is_ready, pumped, replies_of, starts, starts_by};
 ghost use Rattle.afs_rows.specs.States.{Held};
-ghost use Rattle.afs_server_parts.specs.Called.{calls_seen, AreGoodCalls};
-ghost use Rattle.afs_server_parts.specs.Turning.{started_with, turn_with, IsBreakToNode};
+ghost use Rattle.afs_server_parts.specs.Called.{call_to, AreGoodCalls};
+ghost use Rattle.afs_server_parts.specs.Turning.{started_with, turn_with, IsBreakToNode, IsReady};
 
 use crate::callees::{BackCall, is_waiting, known, set_call};
 use crate::calling::{carried, send_call};
 use crate::held::{any_ready, hold_all, part_ready};
-use crate::turns::{Calls, Turn};
+use crate::turns::{Calls, Stand, Turn};
 use afs_breaks::types::OwedBreak;
 use afs_num::sequences::Sequence;
-use afs_num::types::{Mem, Node};
+use afs_num::types::Mem;
 use std::alloc::{AllocError, Global};
 use std::mem::replace;
 
@@ -30,28 +30,26 @@ fn next_number(last: u32) -> Mem<u32>
 /// Calls the node to which this break is owed, which has no unanswered call.
 fn start(
     alloc: Global,
-    server: Node,
-    boot: u32,
+    stand: Stand,
     owed: &[OwedBreak],
     oldest: &OwedBreak,
     calls: &mut Calls,
 ) -> Mem<()>
-    requires server { IsNode server }
+    requires stands { IsNode stand.node }
     requires client { IsNode oldest.now.client }
-    ensures started { OnOk result ((l : Lists) (hs : List Held) → l.owed ≡ owed.now → started_with l hs calls.new ≡ starts_by server boot (started_with l hs calls.old) oldest.now None) }
-    ensures good { OnOk result (AreGoodCalls server calls.old.callees.items → AreGoodCalls server calls.new.callees.items) }
+    ensures started { OnOk result ((l : Lists) (hs : List Held) → l.owed ≡ owed.now → started_with l hs calls.new ≡ starts_by stand.node stand.boot (started_with l hs calls.old) oldest.now None) }
+    ensures good { OnOk result (AreGoodCalls calls.old.callees.items → AreGoodCalls calls.new.callees.items) }
     ensures drawn { OnOk result (calls.old.last ≤ calls.new.last) }
 {
     let node = oldest.client;
     let number = next_number(calls.last)?;
     let call = BackCall {
-        server,
         number,
         tries: 0,
-        breaks: carried(alloc, oldest, owed)?,
+        content: carried(alloc, oldest, owed)?,
     };
     let known = known(&calls.callees, node);
-    send_call(alloc, boot, node, known, &call, &mut calls.sent)?;
+    send_call(alloc, stand, node, known, &call, &mut calls.sent)?;
     calls.last = number;
     set_call(&mut calls.callees, node, Some(call))?;
     Ok(())
@@ -60,41 +58,34 @@ fn start(
 /// Calls the node to which this break is owed, unless it has an unanswered call.
 fn start_by(
     alloc: Global,
-    server: Node,
-    boot: u32,
+    stand: Stand,
     owed: &[OwedBreak],
     oldest: &OwedBreak,
     calls: &mut Calls,
 ) -> Mem<()>
-    requires server { IsNode server }
+    requires stands { IsNode stand.node }
     requires client { IsNode oldest.now.client }
-    ensures started { OnOk result ((l : Lists) (hs : List Held) → l.owed ≡ owed.now → started_with l hs calls.new ≡ starts_by server boot (started_with l hs calls.old) oldest.now (calls_seen calls.old.callees.items oldest.now.client)) }
-    ensures good { OnOk result (AreGoodCalls server calls.old.callees.items → AreGoodCalls server calls.new.callees.items) }
+    ensures started { OnOk result ((l : Lists) (hs : List Held) → l.owed ≡ owed.now → started_with l hs calls.new ≡ starts_by stand.node stand.boot (started_with l hs calls.old) oldest.now (call_to calls.old.callees.items oldest.now.client)) }
+    ensures good { OnOk result (AreGoodCalls calls.old.callees.items → AreGoodCalls calls.new.callees.items) }
     ensures drawn { OnOk result (calls.old.last ≤ calls.new.last) }
 {
     if is_waiting(&calls.callees, oldest.client) {
         return Ok(());
     }
-    start(alloc, server, boot, owed, oldest, calls)?;
+    start(alloc, stand, owed, oldest, calls)?;
     Ok(())
 }
 
 /// Calls each node to which breaks are owed and which has no unanswered call, the oldest break first.
-fn start_all(
-    alloc: Global,
-    server: Node,
-    boot: u32,
-    owed: &[OwedBreak],
-    calls: &mut Calls,
-) -> Mem<()>
-    requires server { IsNode server }
+fn start_all(alloc: Global, stand: Stand, owed: &[OwedBreak], calls: &mut Calls) -> Mem<()>
+    requires stands { IsNode stand.node }
     requires clients { All IsBreakToNode owed.now }
-    ensures started { OnOk result ((l : Lists) (hs : List Held) → l.owed ≡ owed.now → started_with l hs calls.new ≡ starts server boot owed.now (started_with l hs calls.old)) }
-    ensures good { OnOk result (AreGoodCalls server calls.old.callees.items → AreGoodCalls server calls.new.callees.items) }
+    ensures started { OnOk result ((l : Lists) (hs : List Held) → l.owed ≡ owed.now → started_with l hs calls.new ≡ starts stand.node stand.boot owed.now (started_with l hs calls.old)) }
+    ensures good { OnOk result (AreGoodCalls calls.old.callees.items → AreGoodCalls calls.new.callees.items) }
     ensures drawn { OnOk result (calls.old.last ≤ calls.new.last) }
 {
     for oldest in owed {
-        start_by(alloc, server, boot, owed, oldest, calls)?;
+        start_by(alloc, stand, owed, oldest, calls)?;
     }
     Ok(())
 }
@@ -105,6 +96,7 @@ impl Turn {
         ensures sent { OnOk result (self.new.calls.sent ≡ self.old.calls.sent ++ replies_of (filter (is_ready self.old.owed.items) self.old.held)) }
         ensures held { OnOk result (self.new.held ≡ filter (λ (h : Held). not (is_ready self.old.owed.items h)) self.old.held) }
         ensures owed { self.new.owed ≡ self.old.owed }
+        ensures stand { self.new.stand ≡ self.old.stand }
         ensures callees { self.new.calls.callees ≡ self.old.calls.callees }
         ensures lines { self.new.lines ≡ self.old.lines }
         ensures last { self.new.calls.last ≡ self.old.calls.last }
@@ -121,6 +113,7 @@ impl Turn {
     fn release(&mut self, alloc: Global) -> Mem<()>
         ensures backs { OnOk result ((l : Lists) → l.owed ≡ self.old.owed.items → started_with l self.new.held self.new.calls ≡ record { backs = held_after (turn_with l self.old); sent = given_out (turn_with l self.old) }) }
         ensures owed { self.new.owed ≡ self.old.owed }
+        ensures stand { self.new.stand ≡ self.old.stand }
         ensures callees { self.new.calls.callees ≡ self.old.calls.callees }
         ensures lines { self.new.lines ≡ self.old.lines }
         ensures last { self.new.calls.last ≡ self.old.calls.last }
@@ -135,18 +128,15 @@ impl Turn {
     }
 
     /// What comes last in each step.
-    pub fn pump(&mut self, alloc: Global, server: Node, boot: u32) -> Mem<()>
-        requires server { IsNode server }
-        requires clients { All IsBreakToNode self.old.owed.items }
-        ensures pumped { OnOk result ((l : Lists) → l.owed ≡ self.old.owed.items → started_with l self.new.held self.new.calls ≡ pumped server boot (turn_with l self.old)) }
-        ensures good { OnOk result (AreGoodCalls server self.old.calls.callees.items → AreGoodCalls server self.new.calls.callees.items) }
+    pub(crate) fn pump(&mut self, alloc: Global) -> Mem<()>
+        requires { IsReady self.old }
+        ensures pumped { OnOk result ((l : Lists) → l.owed ≡ self.old.owed.items → started_with l self.new.held self.new.calls ≡ pumped self.old.stand.node self.old.stand.boot (turn_with l self.old)) }
+        ensures good { OnOk result (AreGoodCalls self.new.calls.callees.items) }
         ensures drawn { OnOk result (self.old.calls.last ≤ self.new.calls.last) }
         ensures lines { self.new.lines ≡ self.old.lines }
-        ensures owed { self.new.owed ≡ self.old.owed }
-        ensures outs { OnOk result (self.new.outs ≡ []) }
     {
         self.release(alloc)?;
-        start_all(alloc, server, boot, &self.owed, &mut self.calls)?;
+        start_all(alloc, self.stand, &self.owed, &mut self.calls)?;
         Ok(())
     }
 }

@@ -88,29 +88,43 @@ macro_rules! long_field {
     ($kind:ident $value:ident) => { _ };
 }
 
-/// So many bytes, and those of these fields that aren't of a fixed size.
+/// How many bytes a field of this kind takes, or three more: an opaque has a pad of three bytes at most.
+#[macro_export]
+macro_rules! field_room {
+    (Word $value:ident) => { 4 };
+    (Signed $value:ident) => { 4 };
+    (VolumeKind $value:ident) => { 4 };
+    (Server $value:ident) => { 4 };
+    (Fid $value:ident) => { 12 };
+    (StoreStatus $value:ident) => { 24 };
+    (FetchStatus $value:ident) => { 84 };
+    (CallBack $value:ident) => { 12 };
+    (VolSync $value:ident) => { 24 };
+    (Entry $value:ident) => { 192 };
+    (Opaque $value:ident) => { $value.len().saturating_add(7) };
+    (Fids $value:ident) => { $value.len().saturating_mul(12).saturating_add(4) };
+    (CallBacks $value:ident) => { $value.len().saturating_mul(12).saturating_add(4) };
+    (Statuses $value:ident) => { $value.len().saturating_mul(84).saturating_add(4) };
+    (Volumes $value:ident) => { $value.len().saturating_mul(16).saturating_add(4) };
+}
+
+/// So many bytes, and those of these fields.
 #[macro_export]
 macro_rules! room_with {
     ($room:expr;) => { $room };
-    ($room:expr; Entry $value:ident $($more:ident)*) => { $crate::room_with!($room.saturating_add(192); $($more)*) };
-    ($room:expr; Opaque $value:ident $($more:ident)*) => { $crate::room_with!($room.saturating_add($value.len()); $($more)*) };
-    ($room:expr; Fids $value:ident $($more:ident)*) => { $crate::room_with!($room.saturating_add($value.len().saturating_mul(12)); $($more)*) };
-    ($room:expr; CallBacks $value:ident $($more:ident)*) => { $crate::room_with!($room.saturating_add($value.len().saturating_mul(12)); $($more)*) };
-    ($room:expr; Statuses $value:ident $($more:ident)*) => { $crate::room_with!($room.saturating_add($value.len().saturating_mul(84)); $($more)*) };
-    ($room:expr; Volumes $value:ident $($more:ident)*) => { $crate::room_with!($room.saturating_add($value.len().saturating_mul(16)); $($more)*) };
-    ($room:expr; $kind:ident $value:ident $($more:ident)*) => { $crate::room_with!($room; $($more)*) };
+    ($room:expr; $kind:ident $value:ident $($more:ident)*) => { $crate::room_with!($room.saturating_add($crate::field_room!($kind $value)); $($more)*) };
 }
 
-/// How many bytes the fields of a message of this enum take, or more. Those of a fixed size, and the lengths of the others, take so
-/// many at most.
+/// How many bytes the fields of a message of this enum take, or a few more: a location entry is taken to be the longest, and each
+/// pad too.
 #[macro_export]
 macro_rules! room_of {
     (
-        ($message:ident, $enum:ident, $fixed:expr)
+        ($message:ident, $enum:ident)
         [$($opcode:literal $name:ident { $($field:ident: $kind:ident $([$most:expr])?),* }),*]
     ) => {
         match $message {
-            $($enum::$name { $($field: $crate::long_field!($kind $field)),* } => $crate::room_with!($fixed; $($kind $field)*),)*
+            $($enum::$name { $($field: $crate::long_field!($kind $field)),* } => $crate::room_with!(0_usize; $($kind $field)*),)*
         }
     };
 }

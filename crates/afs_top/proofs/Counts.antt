@@ -1,11 +1,10 @@
 -- Faults of disks, counted by node as the disks go back to the bank.
-use Rattle.std.specs.Prelude.{◌≡◌, ◌≢◌, ◌≤◌, ◌<◌, ◌⊎◌, ℕ, suc, ◌+◌, ◌-◌, ◌^◌, List, [], ◌∷◌, length, min, Bool, true, false, nat_eq, if◌then◌else◌, Option, Some, None}
+use Rattle.std.specs.Prelude.{◌≡◌, ◌≢◌, ◌≤◌, ◌<◌, ◌⊎◌, ℕ, suc, ◌+◌, ◌-◌, List, [], ◌∷◌, length, min, Bool, true, false, nat_eq, if◌then◌else◌, Option, Some, None}
 use Rattle.std.proofs.Common.{refl, ap, sym, subst, ◌∙◌, inl, inr, arith}
-use Rattle.std.proofs.lemmas.Bool.{eq-eqb, eqb-false, ne_eqb}
+use Rattle.std.proofs.lemmas.Bool.{eq-eqb, ne_eqb}
 use Rattle.std.proofs.lemmas.Bool.Decides.{eqb_tells, leb_tells}
 use Rattle.std.proofs.Math.Dec.{leb}
 use Rattle.afs_num.specs.declared.types.Node.{Node}
-use Rattle.afs_num.specs.declared.types.Node.TheVariants.{Server}
 use Rattle.afs_disk.specs.Banks.{counted}
 use Rattle.afs_disk.specs.Disk.{Rose}
 use Rattle.afs_disk.specs.Fuses.{last_count}
@@ -13,16 +12,15 @@ use Rattle.afs_disk.specs.declared.bank.LendFault.{LendFault}
 use Rattle.afs_disk.specs.declared.bank.LendFault.TheVariants as lending
 use Rattle.afs_disk.specs.declared.disks.Lent.{Lent}
 use Rattle.afs_volstore.specs.Stores.{Store}
-use Rattle.afs_cell.specs.Ends.{NoneFell, NoneRose, RoseAt}
-use Rattle.afs_cell.specs.Steps.{lent_from}
-use Rattle.afs_cell.specs.Worlds.{seat_disk, Counts, IsCounted, ServerSeat}
+use Rattle.afs_ends.specs.Ends.{NoneFell, NoneRose, RoseAt}
+use Rattle.afs_ends.specs.Lends.{lent_from}
+use Rattle.afs_cell.specs.Worlds.{Counts, IsCounted}
+use Rattle.afs_host.specs.Seated.{seat_disk, ServerSeat}
 use Rattle.afs_final.specs.Reading.{fault_in, kept_disk, or_memory, AreFound}
 use Rattle.afs_final.specs.declared.reading.Left.{Left}
 use Rattle.afs_final.specs.declared.reading.Left.TheVariants as left
 use Rattle.afs_lending.specs.Lending.{kept_disks, with_faults, AreUnused}
-use Rattle.afs_outside.specs.Outside as outside
 use Rattle.afs_command.specs.Spans.{span, RoseBy, Span}
-use Rattle.afs_top.specs.Outside.{DidNotRise}
 use Rattle.afs_top.specs.Top.{one_other, AreOfServers}
 use Rattle.afs_top.proofs.Ending.{each_is, EachFrom}
 
@@ -257,12 +255,6 @@ one_disk_failed {D} faults n i (l ∷ ls) (b ∷ back) counts unused fell (inr (
 pub rose_once : (before after : ℕ) → Rose before after → before ≤ after → RoseBy 1 (span before after)
 rose_once before after (inl more) never_falls = inl (omega (arith, more))
 rose_once before after (inr full) never_falls = inr (omega (arith, full, never_falls))
-
-pub rose_outside : (before after : ℕ) → outside.Rose before after → RoseBy 1 (span before after)
-rose_outside before after rose = either (leb_tells (before + 1) last_count) where
-  either : ((leb (before + 1) last_count ≡ true) × (before + 1 ≤ last_count)) ⊎ ((leb (before + 1) last_count ≡ false) × (last_count < before + 1)) → RoseBy 1 (span before after)
-  either (inl few) = inl (omega (arith, rose, few.1))
-  either (inr many) = inr (omega (arith, rose, many.1))
 
 -- and from an earlier one on
 pub rose_since : (n earlier before after : ℕ) → earlier ≤ before → RoseBy n (span before after) → RoseBy n (span earlier after)

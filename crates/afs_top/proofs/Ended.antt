@@ -22,18 +22,20 @@ use Rattle.afs_text.specs.Telling.{told, AreRead}
 use Rattle.afs_text.proofs.Kept.{history_told}
 use Rattle.afs_volstore.specs.Stores.{Store}
 use Rattle.afs_cell.specs.Steps as cells
-use Rattle.afs_cell.specs.Ends.{AreLeft, IsRefused}
-use Rattle.afs_cell.specs.Steps.{lent_from, AreStanding, HasPlayedAll, HasPlayedFirst, HasPlayedSome}
+use Rattle.afs_ends.specs.Ends.{AreLeft, IsRefused}
+use Rattle.afs_cell.specs.Steps.{AreStanding, HasPlayedAll, HasPlayedFirst, HasPlayedSome}
+use Rattle.afs_ends.specs.Lends.{lent_from}
 use Rattle.afs_cell.specs.Worlds.{most_entries, own_falls, AllTell, IsCell, IsWorld, Runs, WorldState}
-use Rattle.afs_cell.specs.declared.faults.SetupFault.{SetupFault}
-use Rattle.afs_cell.specs.declared.faults.SetupFault.TheVariants as setup
+use Rattle.afs_ends.specs.declared.faults.SetupFault.{SetupFault}
+use Rattle.afs_ends.specs.declared.faults.SetupFault.TheVariants as setup
 use Rattle.afs_final.specs.Reading.{fault_in, part, AreFound}
 use Rattle.afs_final.specs.declared.reading.Left.{Left}
 use Rattle.afs_disk.specs.Fuses.{last_count}
 use Rattle.afs_lending.specs.Lending.{kept_disks, lends, with_faults, AreLent, AreUnused, GivesBackBut, GoBack, HasFailed}
 use Rattle.afs_command.specs.Spans.{span, IsUnchanged, RoseBy, Span}
-use Rattle.afs_top.specs.Outside.{DidNotRise, Outside, SoManyFailed, Writes, WritesAll, WritesText, WritesWhole}
-use Rattle.afs_top.specs.Parts.{lend_status, returned, set_up_status, TellsLeft}
+use Rattle.afs_telling.specs.Outside.{DidNotRise, Outside, SoManyFailed, Writes, WritesAll, WritesText, WritesWhole}
+use Rattle.afs_top.specs.Parts.{set_up_status}
+use Rattle.afs_telling.specs.Parts.{lend_status, returned, TellsLeft}
 use Rattle.afs_top.specs.Top.{lends_of, no_other, one_other, AreAllBut, AreOfServers, AtBankFault, EndsReplay, EndsRun, GivesBack, GivesBackLent, GivesBackThose, IsFew, IsFull, IsLegalRun, IsServerOf, LendingLeaves, MissedByTheBank, NoneIsMissing, NotToItsEnd, ReadingFails, Replays, ReplaysFirst, ReplaysSome, ReplaysUnread, SetUpLeaves, SomeOfIt, ToItsEnd, WritesEntries, WritesRun}
 use Rattle.afs_command.specs.declared.statuses.Status.{Status}
 use Rattle.afs_command.specs.declared.statuses.Status.TheVariants as statuses

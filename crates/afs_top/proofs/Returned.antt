@@ -12,13 +12,14 @@ use Rattle.afs_outside.specs.declared.outside.Failed.{Failed}
 use Rattle.afs_text.specs.FinalText.{final_text}
 use Rattle.afs_volstore.specs.Stores.{Store}
 use Rattle.afs_cell.specs.Since.{whole, StandsSince}
-use Rattle.afs_cell.specs.Steps.{lent_from, AreStanding, HasPlayedAll, HasPlayedFirst, HasPlayedSome}
+use Rattle.afs_cell.specs.Steps.{AreStanding, HasPlayedAll, HasPlayedFirst, HasPlayedSome}
+use Rattle.afs_ends.specs.Lends.{lent_from}
 use Rattle.afs_cell.specs.Worlds.{most_entries, AllTell, HistoryTold, IsWorld, WorldState}
 use Rattle.afs_final.specs.Reading.{fault_in, part, AreFound}
 use Rattle.afs_final.specs.declared.reading.Left.{Left}
 use Rattle.afs_lending.specs.Lending.{kept_disks, with_faults, GivesBackBut, GoBack}
-use Rattle.afs_top.specs.Outside.{Outside, Writes}
-use Rattle.afs_top.specs.Parts.{returned, TellsLeft}
+use Rattle.afs_telling.specs.Outside.{Outside, Writes}
+use Rattle.afs_telling.specs.Parts.{returned, TellsLeft}
 use Rattle.afs_top.specs.Playing.{world_text, IsWritten}
 use Rattle.afs_top.specs.Top.{EndsRun, IsFew, WritesEntries}
 use Rattle.afs_command.specs.declared.statuses.Status.{Status}

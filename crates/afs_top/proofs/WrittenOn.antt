@@ -1,5 +1,5 @@
 -- A script is played, and its history is written as it goes.
-use Rattle.std.specs.Prelude.{◌≡◌, ◌≤◌, ◌<◌, ◌⊎◌, ℕ, ◌+◌, ◌-◌, List, [], ◌++◌, length, drop, Bool, Option, Result, Ok, Err, IsOk, IsErr}
+use Rattle.std.specs.Prelude.{◌≡◌, ◌≤◌, ◌<◌, ◌⊎◌, ℕ, ◌+◌, ◌-◌, List, [], ◌++◌, length, drop, Bool, Option, Result, Ok}
 use Rattle.std.proofs.Common.{refl, ap, ap₂, sym, subst, ◌∙◌, inl, inr, append_assoc, append-nil, arith}
 use Rattle.std.proofs.Math.Seq.{drop-append-add}
 use Rattle.std.proofs.lemmas.List.{length-append}
@@ -8,7 +8,7 @@ use Rattle.afs_history.specs.declared.lines.Entry as kept
 use Rattle.afs_history.specs.declared.scripts.Script.{Script}
 use Rattle.afs_outside.specs.Outside.{Puts}
 use Rattle.afs_outside.specs.declared.outside.Failed.{Failed}
-use Rattle.afs_outside.proofs.Puts.{puts_nothing, puts_stop, puts_then}
+use Rattle.afs_outside.proofs.Puts.{puts_nothing}
 use Rattle.afs_schedule.specs.Schedules.{events_of}
 use Rattle.afs_schedule.specs.Settled.{settled}
 use Rattle.afs_schedule.specs.Taking.{IsLeft}
@@ -24,18 +24,9 @@ use Rattle.afs_cell.specs.Worlds.{most_entries, none_gone, AllTell, HistoryTold,
 use Rattle.afs_cell.specs.declared.playing.Played.TheVariants as played
 use Rattle.afs_cell.proofs.UnderWay.{begins}
 use Rattle.afs_cell.proofs.Whole.{before_more, sent_by-append, whole_more, with_more}
-use Rattle.afs_top.specs.Playing.{world_text, IsTold, PlaysOn, PutsBehind}
+use Rattle.afs_top.specs.Playing.{world_text, IsTold, PlaysOn}
+use Rattle.afs_telling.specs.Behind.{PutsBehind}
 use Rattle.afs_top.specs.declared.playing.Ended.TheVariants as ended
-
--- ---- what is written behind a text
-
-pub puts_behind : {T U : Type 0} (x y : List ℕ) (a b c : Option (List ℕ)) (f g h : ℕ) (r : Result T Failed) (q : Result U Failed) → IsOk r → Puts x a b f g r → Puts y b c g h q → Puts (x ++ y) a c f h q
-puts_behind x y a b c f g h (Ok u) q ok p more = puts_then x y a b c f g h u q p more
-puts_behind x y a b c f g h (Err e) q ok p more = absurd cc
-
-pub puts_no_more : {T U : Type 0} (x y : List ℕ) (a b : Option (List ℕ)) (f g : ℕ) (r : Result T Failed) (q : Result U Failed) → IsErr r → IsErr q → Puts x a b f g r → Puts (x ++ y) a b f g q
-puts_no_more x y a b f g (Ok u) q failed fails p = absurd cc
-puts_no_more x y a b f g (Err e) q failed fails p = puts_stop x y a b f g e q fails p
 
 -- ---- the text of the whole world
 

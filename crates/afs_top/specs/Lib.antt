@@ -1,4 +1,3 @@
-pub mod Outside
 pub mod Parts
 pub mod Playing
 pub mod Top

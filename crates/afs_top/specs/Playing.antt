@@ -1,5 +1,5 @@
 -- How a script is played while its history is written.
-use Rattle.std.specs.Prelude.{◌≡◌, ◌≤◌, ℕ, List, [], ◌++◌, length, Bool, false, Option, Result}
+use Rattle.std.specs.Prelude.{◌≡◌, ◌≤◌, ℕ, List, [], length, Bool, false, Option, Result}
 use Rattle.afs_history.specs.declared.scripts.Script.{Script}
 use Rattle.afs_outside.specs.Outside.{Puts}
 use Rattle.afs_outside.specs.declared.outside.Failed.{Failed}
@@ -17,10 +17,6 @@ use Rattle.afs_top.specs.declared.playing.Told.{Told}
 -- the text of a world's history, with the bytes of each message or without
 abbrev pub world_text : {D : Type 0} → Bool → WorldState D → List ℕ
 world_text {D} wire w = kept_history_text wire w.wire w.history
-
--- Behind a text so far, these bytes were written, or none where that text wasn't written whole; whatever it is, and wherever it began.
-abbrev pub PutsBehind : {T U : Type 0} → List ℕ → Option (List ℕ) → Option (List ℕ) → ℕ → ℕ → Result T Failed → Result U Failed → Type 0
-PutsBehind {T} {U} bytes old new before after written result = (text : List ℕ) (start : Option (List ℕ)) (count : ℕ) → Puts text start old count before written → Puts (text ++ bytes) start new count after result
 
 -- how far it was played, where its disks tell
 abbrev pub EndsSo : {D : Type 0} → (D → Option (List ℕ)) → (D → List ℕ → Type 0) → (D → ℕ) → (D → ℕ) → Script → Type 0 → Ended → WorldState D → Type 0

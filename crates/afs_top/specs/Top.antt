@@ -22,13 +22,13 @@ use Rattle.afs_text.specs.HistoryText.{history_text, text}
 use Rattle.afs_text.specs.KeptText.{kept_history_text}
 use Rattle.afs_text.specs.Telling.{sent_by}
 use Rattle.afs_schedule.specs.Schedules.{events_of, first_turn, AreFirst, AreInputs}
-use Rattle.afs_cell.specs.Ends.{AreLeft, OneRoseAtMost}
+use Rattle.afs_ends.specs.Ends.{AreLeft, OneRoseAtMost}
 use Rattle.afs_cell.specs.Steps.{MayBeRead}
 use Rattle.afs_cell.specs.Worlds.{most_entries, own_falls}
 use Rattle.afs_lending.specs.Lending.{lends, AreLent, AreUnused, GivesBackBut}
 use Rattle.afs_command.specs.Forms.{Asks, HaveForm}
 use Rattle.afs_command.specs.Spans.{IsUnchanged, RoseBy, Span}
-use Rattle.afs_top.specs.Outside.{DidNotRise, Outside, SoManyFailed, Writes, WritesAll}
+use Rattle.afs_telling.specs.Outside.{DidNotRise, Outside, SoManyFailed, Writes, WritesAll}
 use Rattle.afs_command.specs.declared.statuses.Form.TheVariants.{Replay}
 use Rattle.afs_command.specs.declared.statuses.Status.{Status}
 use Rattle.afs_command.specs.declared.statuses.Status.TheVariants as statuses

@@ -4,7 +4,7 @@ ghost use Rattle.std.specs.Prelude.{◌≡◌, ◌⊎◌, ◌+◌, ℕ, map, str
 ghost use Rattle.afs_outside.specs.Outside.{Gives, Puts, TakesAtMost};
 ghost use Rattle.afs_command.specs.Forms.{HaveForm};
 ghost use Rattle.afs_command.specs.Spans.{span, RoseBy};
-ghost use Rattle.afs_top.specs.Outside.{OneRose};
+ghost use Rattle.afs_telling.specs.Outside.{OneRose};
 ghost use Rattle.afs_command.specs.Statuses.{Shows, status_line, status_number};
 ghost use Rattle.afs_top.specs.Top.{Ends, IsBeforeReplay, IsScript, LendingLeaves, SetUpLeaves};
 
@@ -66,5 +66,9 @@ pub fn run<S: Source, K: Sink, E: Sink, B: Bank<D: Drop>>(
     ensures told { Shows result.status (E.held errors.old) (E.held errors.new) (E.faults errors.old) (E.faults errors.new) }
 {
     let status = cell_main(alloc, words, source, sink, bank);
-    end_with(errors, status)
+    let ended = end_with(errors, status);
+    Ended {
+        status,
+        number: ended.number,
+    }
 }

@@ -1,46 +1,29 @@
 //! A script is played over the disks of its servers, and its history is written.
 
-ghost use Rattle.std.specs.Prelude.{◌≡◌, ◌≤◌, ◌⊎◌, ◌+◌, ◌++◌, ℕ, List, [], Bool, Option, None, length, map, false, IfErr, IsErr, IfOk, OnOk};
+ghost use Rattle.std.specs.Prelude.{◌≡◌, ◌≤◌, ◌+◌, ℕ, List, Bool, Option, length, false};
 ghost use Rattle.afs_grammar.specs.CellScripts.{IsCellScript};
-ghost use Rattle.afs_outside.specs.Outside.{Puts};
 ghost use Rattle.afs_cell.specs.Since.{whole, IsWorldSince};
-ghost use Rattle.afs_cell.specs.Steps.{AreLent, HasPlayedAll, HasPlayedFirst, HasPlayedSome, LentTell};
+ghost use Rattle.afs_cell.specs.Steps.{HasPlayedAll, HasPlayedFirst, HasPlayedSome};
+ghost use Rattle.afs_ends.specs.Lends.{AreLent, LentTell};
 ghost use Rattle.afs_cell.specs.Worlds.{most_entries, AllTell, HistoryTold};
-ghost use Rattle.afs_final.specs.Reading.{part};
-ghost use Rattle.afs_final.specs.Reading as read;
-ghost use Rattle.afs_final.specs.Telling.{final_of};
-ghost use Rattle.afs_lending.specs.Lending.{with_faults, AreUnused, GoBack};
-ghost use Rattle.afs_text.specs.FinalText.{final_text};
+ghost use Rattle.afs_lending.specs.Lending.{AreUnused};
 ghost use Rattle.afs_command.specs.Spans.{span};
-ghost use Rattle.afs_top.specs.Outside.{WritesText};
-ghost use Rattle.afs_top.specs.Parts.{lend_status, returned, set_up_status, TellsLeft};
-ghost use Rattle.afs_top.specs.Playing.{IsWritten, PutsBehind};
+ghost use Rattle.afs_top.specs.Parts.{set_up_status};
+ghost use Rattle.afs_top.specs.Playing.{IsWritten};
 ghost use Rattle.afs_top.specs.Top.{EndsReplay, EndsRun, LendingLeaves, SetUpLeaves};
 
 use crate::playing::{Ended, Told, play};
-use afs_cell::faults::SetupFault;
 use afs_cell::{World, set_up};
 use afs_command::statuses::Status;
 use afs_disk::{Bank, Disk, Disks, LendFault, Place};
-use afs_final::{Kept, Left, fault_in, put_final, told_of};
+use afs_ends::faults::SetupFault;
 use afs_history::scripts::Script;
 use afs_law::laws::{runs_are_legal, runs_end_well};
-use afs_lending::{give_back, give_back_all, lend_all};
-use afs_num::devices::Failed as BankFailed;
-use afs_outside::outside::{Failed, Sink, pass_on};
+use afs_lending::{give_back, lend_all};
+use afs_outside::outside::{Failed, Sink};
 use afs_scripts::laws::volumes_are_in_cell;
-use afs_volstore::VolStore;
+use afs_telling::telling::{give_up, put_no_more, returned, status_of_lend, tell_left, tell_none};
 use std::alloc::Global;
-
-/// The status where a disk wasn't lent, or couldn't be read.
-fn status_of_lend(fault: LendFault) -> Status
-    ensures { result ≡ lend_status fault }
-{
-    match fault {
-        LendFault::Failed => Status::BankFault,
-        LendFault::OutOfMemory => Status::OutOfMemory,
-    }
-}
 
 /// The status where the cell wasn't set up.
 fn status_of_setup(fault: SetupFault) -> Status
@@ -49,87 +32,6 @@ fn status_of_setup(fault: SetupFault) -> Status
     match fault {
         SetupFault::Disk(_) => Status::BankFault,
         SetupFault::OutOfMemory => Status::OutOfMemory,
-    }
-}
-
-/// The status after the return of the disks: nothing is done where one of them wasn't taken.
-fn returned(status: Status, taken: Result<(), BankFailed>) -> Status
-    ensures { result ≡ returned status taken }
-{
-    match (status, taken) {
-        (Status::Done, Err(_)) => Status::BankFault,
-        (status, _) => status,
-    }
-}
-
-/// The disks go back, and the program ends so, also where the bank doesn't take one of them.
-fn give_up<B: Bank<D: Drop>>(bank: &mut B, disks: Disks<B::D>, status: Status) -> Status
-    ensures status { result ≡ status }
-    ensures back { GoBack B.D.seen disks (B.given bank.old) (B.given bank.new) (B.faults bank.old) (B.faults bank.new) }
-    ensures faults { (n : ℕ) → B.lent_faults bank.new n ≡ with_faults B.D.faults disks n (B.lent_faults bank.old n) }
-    ensures lends { B.lends bank.new ≡ B.lends bank.old }
-    ensures never_falls { B.faults bank.old ≤ B.faults bank.new }
-{
-    let _taken = give_back_all(bank, disks);
-    status
-}
-
-/// Writes what the disks keep after the history, and passes all on.
-fn put_rest<K: Sink>(
-    sink: &mut K,
-    kept: &[Kept<'_>],
-    written: Result<(), Failed>,
-) -> Result<(), Failed>
-    ensures all { OnOk result (K.passed sink.new ≡ K.held sink.new) }
-    ensures puts { PutsBehind (final_of kept.now) (K.held sink.old) (K.held sink.new) (K.faults sink.old) (K.faults sink.new) written result }
-{
-    written?;
-    put_final(sink, kept)?;
-    pass_on(sink)
-}
-
-/// Passes on what was written, if all was.
-fn put_no_more<K: Sink>(sink: &mut K, written: Result<(), Failed>) -> Result<(), Failed>
-    ensures all { OnOk result (K.passed sink.new ≡ K.held sink.new) }
-    ensures puts { PutsBehind [] (K.held sink.old) (K.held sink.new) (K.faults sink.old) (K.faults sink.new) written result }
-{
-    written?;
-    pass_on(sink)
-}
-
-/// What the disks keep can't be told: the history is passed on.
-fn tell_none<K: Sink>(sink: &mut K, written: Result<(), Failed>, why: LendFault) -> Status
-    ensures status { result ≡ lend_status why }
-    ensures written { (text : List ℕ) (start : Option (List ℕ)) (count : ℕ) → Puts text start (K.held sink.old) count (K.faults sink.old) written → WritesText (span start (K.held sink.new)) (K.passed sink.new) (span count (K.faults sink.new)) text }
-{
-    // The status stands already; that the sink failed is counted.
-    let _passed = put_no_more(sink, written);
-    status_of_lend(why)
-}
-
-/// What was found on the disks is told after the history, where that can be. Where the history wasn't written, nothing is made of it.
-fn tell_left<K: Sink, D: Disk>(
-    alloc: Global,
-    sink: &mut K,
-    left: &[Left<VolStore<D>, D>],
-    written: Result<(), Failed>,
-) -> Status
-    requires few { length left.now ≤ 8 }
-    ensures broken { read.fault_in left.now ≡ None → IsErr written → result ≡ Status.WriteFault }
-    ensures told { (text : List ℕ) (start : Option (List ℕ)) (count : ℕ) → Puts text start (K.held sink.old) count (K.faults sink.old) written → TellsLeft written text (final_text (map part left.now)) (read.fault_in left.now) (span start (K.held sink.new)) (K.passed sink.new) (span count (K.faults sink.new)) result }
-{
-    if let Some(why) = fault_in(left) {
-        return tell_none(sink, written, why);
-    }
-    if written.is_err() {
-        return Status::WriteFault;
-    }
-    let Ok(kept) = told_of(alloc, left) else {
-        return tell_none(sink, written, LendFault::OutOfMemory);
-    };
-    match put_rest(sink, kept.as_slice(), written) {
-        Ok(()) => Status::Done,
-        Err(Failed) => Status::WriteFault,
     }
 }
 
@@ -158,7 +60,7 @@ fn end<K: Sink, B: Bank<D: Drop>>(
         }
     };
     let status = tell_left(alloc, sink, left.as_slice(), written);
-    let taken = give_back(bank, left);
+    let taken = give_back(bank, 1, left);
     returned(status, taken)
 }
 
@@ -251,7 +153,7 @@ pub(crate) fn replay<K: Sink, B: Bank<D: Drop>>(
     requires script { IsCellScript script.now }
     ensures { EndsReplay script.now wire place.now (B.tells bank.old place.now) (SetUpLeaves B.D.seen B.D.may_leave B.D.faults script.now (record { sink = span (K.held sink.old) (K.held sink.new); passed = K.passed sink.new; lends = span (B.lends bank.old) (B.lends bank.new); given = span (B.given bank.old) (B.given bank.new); sink_faults = span (K.faults sink.old) (K.faults sink.new); bank_faults = span (B.faults bank.old) (B.faults bank.new); disk_faults = λ (n : ℕ). span (B.lent_faults bank.old n) (B.lent_faults bank.new n) })) (LendingLeaves B.D.seen B.D.faults B.D.limit script.now (record { sink = span (K.held sink.old) (K.held sink.new); passed = K.passed sink.new; lends = span (B.lends bank.old) (B.lends bank.new); given = span (B.given bank.old) (B.given bank.new); sink_faults = span (K.faults sink.old) (K.faults sink.new); bank_faults = span (B.faults bank.old) (B.faults bank.new); disk_faults = λ (n : ℕ). span (B.lent_faults bank.old n) (B.lent_faults bank.new n) })) (record { sink = span (K.held sink.old) (K.held sink.new); passed = K.passed sink.new; lends = span (B.lends bank.old) (B.lends bank.new); given = span (B.given bank.old) (B.given bank.new); sink_faults = span (K.faults sink.old) (K.faults sink.new); bank_faults = span (B.faults bank.old) (B.faults bank.new); disk_faults = λ (n : ℕ). span (B.lent_faults bank.old n) (B.lent_faults bank.new n) }) result }
 {
-    match lend_all(alloc, bank, place, script.servers, script.capacity) {
+    match lend_all(alloc, bank, place, 1, script.servers, script.capacity) {
         Ok(disks) => replay_over(alloc, script, disks, wire, sink, bank),
         Err((fault, disks)) => give_up(bank, disks, status_of_lend(fault)),
     }

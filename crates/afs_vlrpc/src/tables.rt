@@ -16,12 +16,6 @@ use std::alloc::Global;
 /// The name of a volume, in bytes.
 pub const NAME_LIMIT: u32 = 32;
 
-/// The fields of a call that are of a fixed size take so many bytes at most, with the lengths and the filling of the others.
-const CALL_ROOM: usize = 12;
-
-/// The fields of a reply that are of a fixed size take so many bytes at most, with the lengths and the filling of the others.
-const REPLY_ROOM: usize = 12;
-
 /// The calls, with the fields behind the user.
 macro_rules! with_calls {
     ($arms:ident $value:tt) => {
@@ -85,7 +79,7 @@ impl Messages for LocCalls {
     }
 
     fn room(call: &LocCall) -> usize {
-        with_calls!(room_of(call, LocCall, CALL_ROOM))
+        with_calls!(room_of(call, LocCall))
     }
 
     #[tactic(auto, using(afs_shape::proofs::Spellable::parts_spellable))]
@@ -113,7 +107,7 @@ impl Messages for LocReplies {
     }
 
     fn room(reply: &LocReply) -> usize {
-        with_replies!(room_of(reply, LocReply, REPLY_ROOM))
+        with_replies!(room_of(reply, LocReply))
     }
 
     #[tactic(auto, using(afs_shape::proofs::Spellable::parts_spellable))]

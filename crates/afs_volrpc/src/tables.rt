@@ -22,12 +22,6 @@ pub const NAME_LIMIT: u32 = 32;
 /// The volumes in a list.
 pub const VOLUMES_LIMIT: u32 = 64;
 
-/// The fields of a call that are of a fixed size take so many bytes at most, with the lengths and the filling of the others.
-const CALL_ROOM: usize = 32;
-
-/// The fields of a reply that are of a fixed size take so many bytes at most, with the lengths and the filling of the others.
-const REPLY_ROOM: usize = 28;
-
 /// The calls, with the fields behind the user.
 macro_rules! with_calls {
     ($arms:ident $value:tt) => {
@@ -101,7 +95,7 @@ impl Messages for VolCalls {
     }
 
     fn room(call: &VolCall) -> usize {
-        with_calls!(room_of(call, VolCall, CALL_ROOM))
+        with_calls!(room_of(call, VolCall))
     }
 
     #[tactic(auto, using(afs_shape::proofs::Spellable::parts_spellable))]
@@ -129,7 +123,7 @@ impl Messages for VolReplies {
     }
 
     fn room(reply: &VolReply) -> usize {
-        with_replies!(room_of(reply, VolReply, REPLY_ROOM))
+        with_replies!(room_of(reply, VolReply))
     }
 
     #[tactic(auto, using(afs_shape::proofs::Spellable::parts_spellable))]

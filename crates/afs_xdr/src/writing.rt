@@ -1,15 +1,15 @@
-ghost use Rattle.std.specs.Prelude.{◌≡◌, ◌+◌, ◌<◌, ◌≤◌, ◌*◌, ◌==◌, ◌^◌, [], ◌++◌, length, take, replicate, IfOk, OnOk, OnErr};
+ghost use Rattle.std.specs.Prelude.{◌≡◌, ◌+◌, ◌<◌, ◌≤◌, ◌*◌, ◌==◌, ◌^◌, [], ◌++◌, length, take, replicate, IfOk, OnOk, OnErr, vec_len};
+ghost use Rattle.std.specs.Vec.{vec_capacity};
 ghost use Rattle.afs_xdr.specs.Words.{word, words, opaque, AreWords};
 
 use crate::reading::pad_of;
-use bytes::BytesMut;
 use std::alloc::{AllocError, Global};
 use std::marker::Model;
 
 /// Appends fields one after another. Want of memory leaves it as it was.
 #[derive(Drop)]
 pub struct Writer {
-    bytes: BytesMut,
+    bytes: Vec<u8>,
 }
 
 impl Model for Writer {
@@ -26,7 +26,7 @@ impl Writer {
         ensures { result ≡ [] }
     {
         Writer {
-            bytes: BytesMut::new(alloc),
+            bytes: Vec::new(alloc),
         }
     }
 
@@ -35,19 +35,19 @@ impl Writer {
         ensures { IfOk result (λ w. w ≡ []) }
     {
         Ok(Writer {
-            bytes: BytesMut::with_capacity(alloc, capacity)?,
+            bytes: Vec::with_capacity(alloc, capacity)?,
         })
     }
 
     /// Appends a word.
+    #[tactic(auto, unfolding(crate::specs::Words::word))]
+    #[inline]
     pub fn word(&mut self, n: u32) -> Result<(), AllocError>
         ensures ok { OnOk result (self.new ≡ self.old ++ word n) }
         ensures fits { n < 2 ^ 32 }
         ensures err { OnErr result (self.new ≡ self.old) }
     {
-        self.bytes.reserve(4)?;
-        put_word(&mut self.bytes, n);
-        Ok(())
+        self.bytes.extend_from_slice(&n.to_be_bytes())
     }
 
     /// Appends words.
@@ -92,32 +92,53 @@ impl Writer {
         let pad = pad_of(bytes.len());
         self.bytes.reserve(4 + bytes.len() + pad)?;
         put_word(&mut self.bytes, bytes.len() as u32);
-        self.bytes.extend_reserved(bytes);
+        put(&mut self.bytes, bytes);
         put_zeros(&mut self.bytes, pad);
         Ok(())
     }
 
-    /// The bytes, in a block of their size.
+    /// The bytes, in the block in which they were laid; or in one of their size, where more than a quarter of it would be
+    /// left free.
     pub fn into_vec(self) -> Result<Vec<u8>, AllocError>
         ensures { IfOk result (λ v. v.items ≡ self) }
     {
-        Vec::from_slice(*self.bytes.allocator(), self.bytes.as_slice())
+        let Writer { bytes } = self;
+        if bytes.capacity() <= bytes.len() + bytes.len() / 4 {
+            Ok(bytes)
+        } else {
+            Vec::from_slice(*bytes.allocator(), bytes.as_slice())
+        }
     }
+}
+
+/// Appends bytes where there is room for them. It is laid into its callers, so that of a word four bytes are moved at once.
+#[inline(always)]
+fn put(out: &mut Vec<u8>, bytes: &[u8])
+    requires { vec_len out.old + length bytes.now ≤ vec_capacity out.old }
+    ensures items { out.new.items ≡ out.old.items ++ bytes.now }
+    ensures len { vec_len out.new ≡ vec_len out.old + length bytes.now }
+    ensures capacity { vec_capacity out.old ≤ vec_capacity out.new }
+{
+    let Ok(()) = out.extend_from_slice(bytes) else {
+        unreachable!()
+    };
 }
 
 /// Appends a word where there is room for it.
 #[tactic(auto, unfolding(crate::specs::Words::word))]
-fn put_word(out: &mut BytesMut, n: u32)
-    requires { 4 ≤ out.old.spare }
+#[inline(always)]
+fn put_word(out: &mut Vec<u8>, n: u32)
+    requires { vec_len out.old + 4 ≤ vec_capacity out.old }
     ensures items { out.new.items ≡ out.old.items ++ word n }
-    ensures spare { out.new.spare + 4 ≡ out.old.spare }
+    ensures len { vec_len out.new ≡ vec_len out.old + 4 }
+    ensures capacity { vec_capacity out.old ≤ vec_capacity out.new }
 {
-    out.extend_reserved(&n.to_be_bytes());
+    put(out, &n.to_be_bytes());
 }
 
 /// Appends words where there is room for them.
-fn put_words(out: &mut BytesMut, ns: &[u32])
-    requires { 4 * length ns.now ≤ out.old.spare }
+fn put_words(out: &mut Vec<u8>, ns: &[u32])
+    requires { vec_len out.old + 4 * length ns.now ≤ vec_capacity out.old }
     ensures { out.new.items ≡ out.old.items ++ words ns.now }
 {
     for n in ns {
@@ -126,15 +147,15 @@ fn put_words(out: &mut BytesMut, ns: &[u32])
 }
 
 /// Appends so many zero bytes, at most three, where there is room for them.
-fn put_zeros(out: &mut BytesMut, count: usize)
+fn put_zeros(out: &mut Vec<u8>, count: usize)
     requires few { count < 4 }
-    requires room { count ≤ out.old.spare }
+    requires room { vec_len out.old + count ≤ vec_capacity out.old }
     ensures { out.new.items ≡ out.old.items ++ replicate count 0 }
 {
     match count {
         0 => {}
-        1 => out.extend_reserved(&[0]),
-        2 => out.extend_reserved(&[0, 0]),
-        _ => out.extend_reserved(&[0, 0, 0]),
+        1 => put(out, &[0]),
+        2 => put(out, &[0, 0]),
+        _ => put(out, &[0, 0, 0]),
     }
 }

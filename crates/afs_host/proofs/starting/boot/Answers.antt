@@ -14,6 +14,7 @@ use Rattle.afs_host.specs.Starting.{Rises, Stays}
 use Rattle.afs_host.proofs.Blows.{none_cause}
 use Rattle.afs_host.proofs.Booting.{failed_boots, failed_over, fits_boot, full_boots, full_failed, full_over, is_true, memory_failed, risen_boots, risen_over, starts_are_kept, still_there, untouched, was_failed}
 use Rattle.afs_host.proofs.starting.boot.Goals as goal
+use Rattle.afs_host.specs.Views.{shown_store}
 
 -- ---- there is no memory for the line that ends the restart
 
@@ -53,7 +54,7 @@ returns-in-Err-Full-clause-boots g c = λ begun records found.
     let err : IsErrOf {T = List Line} {E = StoreFault} (Err c.in-Err-Full.field-0) (refusals.Full c.in-Err-Full.field-0-0 c.in-Err-Full.field-0-1) = ap (λ (f : StoreFault). Err f) is in
     let same : SameBut store c.boot.new.self = subst (λ (f : StoreFault). IsEarly {T = List Line} (Err f) (SameBut store c.boot.new.self)) is e.early in
     let up = ap (λ (s : Store (Fused g.row.D.Denot)). s.closed) same ∙ c.requires.up in
-    let told = subst (λ (ls : List Line). Stays c.boot.new.self ls (lines.Full store.node) c.stay.result) c.in-Ok.ensures.items (subst (λ (n : Node). Stays c.boot.new.self c.in-Ok.front.items (lines.Full n) c.stay.result) c.node-node.ensures c.stay.ensures.stays) in
+    let told = subst (λ (ls : List Line). Stays (shown_store c.boot.new.self) ls (lines.Full store.node) c.stay.result) c.in-Ok.ensures.items (subst (λ (n : Node). Stays (shown_store c.boot.new.self) c.in-Ok.front.items (lines.Full n) c.stay.result) c.node-node.ensures c.stay.ensures.stays) in
     full_boots g.D.Disk.seen g.D.Disk.may_leave g.D.Disk.faults g.D.Disk.limit begun records c.args.front store c.boot.new.self c.args.now c.args.clients found same (e.full c.in-Err-Full.field-0-0 c.in-Err-Full.field-0-1 err).0
     (c.stay.ensures.kept up) (c.stay.ensures.counted up) c.stay.ensures.capacity c.stay.result told
 
@@ -63,7 +64,7 @@ returns-in-Err-Full-clause-over g c =
     let e = c.in-Err-Full.ensures in
     let is = c.in-Err-Full.field-0-is in
     let err : IsErrOf {T = List Line} {E = StoreFault} (Err c.in-Err-Full.field-0) (refusals.Full c.in-Err-Full.field-0-0 c.in-Err-Full.field-0-1) = ap (λ (f : StoreFault). Err f) is in
-    let told = subst (λ (ls : List Line). Stays c.boot.new.self ls (lines.Full store.node) c.stay.result) c.in-Ok.ensures.items (subst (λ (n : Node). Stays c.boot.new.self c.in-Ok.front.items (lines.Full n) c.stay.result) c.node-node.ensures c.stay.ensures.stays) in
+    let told = subst (λ (ls : List Line). Stays (shown_store c.boot.new.self) ls (lines.Full store.node) c.stay.result) c.in-Ok.ensures.items (subst (λ (n : Node). Stays (shown_store c.boot.new.self) c.in-Ok.front.items (lines.Full n) c.stay.result) c.node-node.ensures c.stay.ensures.stays) in
     full_over g.D.Disk.faults c.args.front store c.boot.new.self c.args.now c.args.clients (e.full c.in-Err-Full.field-0-0 c.in-Err-Full.field-0-1 err).0
     (e.served.quiet (λ failed. full_failed c.in-Err-Full.field-0 c.in-Err-Full.field-0-0 c.in-Err-Full.field-0-1 is failed)).1 c.stay.result told
 
@@ -77,7 +78,7 @@ returns-in-Err-Failed-clause-boots g c = λ begun records found.
     let err : IsErrOf {T = List Line} {E = StoreFault} (Err c.in-Err-Failed.field-0) refusals.Failed = ap (λ (f : StoreFault). Err f) is in
     let can : can_boot store.durable ≡ true = is_true (can_boot store.durable) (λ none. was_failed c.in-Err-Failed.field-0 store.durable.journal store.durable.capacity is (e.room none).0) in
     let stayed = c.stay-in-Err-Failed in
-    let told = subst (λ (ls : List Line). Stays c.boot.new.self ls (lines.Fault store.node) stayed.result) c.in-Ok.ensures.items (subst (λ (n : Node). Stays c.boot.new.self c.in-Ok.front.items (lines.Fault n) stayed.result) c.node-node.ensures stayed.ensures.stays) in
+    let told = subst (λ (ls : List Line). Stays (shown_store c.boot.new.self) ls (lines.Fault store.node) stayed.result) c.in-Ok.ensures.items (subst (λ (n : Node). Stays (shown_store c.boot.new.self) c.in-Ok.front.items (lines.Fault n) stayed.result) c.node-node.ensures stayed.ensures.stays) in
     failed_boots g.D.Disk.seen g.D.Disk.may_leave g.D.Disk.moment g.D.Disk.left_since g.met.D.Disk.counts_now starts_are_kept g.D.Disk.faults g.D.Disk.limit begun records c.args.front store c.boot.new.self c.args.now c.args.clients found (record {
       store = e.failed err;
       can = can;
@@ -97,7 +98,7 @@ returns-in-Err-Failed-clause-over g c =
     let err : IsErrOf {T = List Line} {E = StoreFault} (Err c.in-Err-Failed.field-0) refusals.Failed = ap (λ (f : StoreFault). Err f) is in
     let can : can_boot store.durable ≡ true = is_true (can_boot store.durable) (λ none. was_failed c.in-Err-Failed.field-0 store.durable.journal store.durable.capacity is (e.room none).0) in
     let stayed = c.stay-in-Err-Failed in
-    let told = subst (λ (ls : List Line). Stays c.boot.new.self ls (lines.Fault store.node) stayed.result) c.in-Ok.ensures.items (subst (λ (n : Node). Stays c.boot.new.self c.in-Ok.front.items (lines.Fault n) stayed.result) c.node-node.ensures stayed.ensures.stays) in
+    let told = subst (λ (ls : List Line). Stays (shown_store c.boot.new.self) ls (lines.Fault store.node) stayed.result) c.in-Ok.ensures.items (subst (λ (n : Node). Stays (shown_store c.boot.new.self) c.in-Ok.front.items (lines.Fault n) stayed.result) c.node-node.ensures stayed.ensures.stays) in
     failed_over g.D.Disk.faults c.args.front store c.boot.new.self c.args.now c.args.clients can
     (none_cause (record { stop = store.disk.stop; fail = store.disk.fail }) c.boot.new.self.disk.calls _ c.requires.unset.0 c.requires.unset.1 (e.served.failed err).1) stayed.result told
 

@@ -1,4 +1,5 @@
-use Rattle.std.proofs.Common.{◌≡◌, List, ℕ, [], Some, length, rules, sym, ◌∙◌, ap, subst}
+use Rattle.std.proofs.Common.{◌≡◌, List, ℕ, [], Some, length, map, rules, sym, ◌∙◌, ap, subst}
+use Rattle.afs_journal.specs.Found.{piece_of}
 use Rattle.afs_journal.specs.Records.{whole_records}
 use Rattle.afs_journal.proofs.Crash.{no_bytes, nothing_whole}
 use Rattle.afs_journal.proofs.Moments.{weaker}
@@ -15,7 +16,7 @@ returns-in_err-begin-clause-any_moment g c = λ told only.
 pub returns-then-is_empty-clause-found : goal.returns-then-is_empty-clause-found
 returns-then-is_empty-clause-found g c =
     let none : length c.args.bytes.now ≡ 0 = search rules in
-    c.new.ensures ∙ sym (nothing_whole c.args.bytes.now none)
+    ap (map (piece_of c.args.bytes.now)) c.new.ensures.items ∙ sym (nothing_whole c.args.bytes.now none)
 
 pub returns-then-is_empty-clause-done : goal.returns-then-is_empty-clause-done
 returns-then-is_empty-clause-done g c = λ told only.

@@ -1,15 +1,19 @@
-use Rattle.std.proofs.Common.{◌≡◌, ◌<◌, ◌≤◌, ◌-◌, ◌*◌, ℕ, suc, List, ◌++◌, [], ◌∷◌, length, None, arith, refl, sym, ◌∙◌, ap, subst, length-append}
+use Rattle.std.proofs.Common.{◌≡◌, ◌<◌, ◌≤◌, ◌-◌, ◌*◌, ℕ, suc, List, ◌++◌, [], ◌∷◌, length, map, None, arith, refl, sym, ◌∙◌, ap, subst, length-append}
+use Rattle.std.proofs.lemmas.List.{length-map, map-append}
+use Rattle.afs_journal.specs.Found.{piece_of}
 use Rattle.afs_journal.specs.Records.{blocks, record_at, whole_records, Fit, StartsWith, EndsAt}
 use Rattle.afs_journal.proofs.Crash.{ends_whole, ends_counts}
-use Rattle.afs_journal.proofs.Records.{one_found, all_found, few, fit-push}
+use Rattle.afs_journal.proofs.Records.{one_found, all_found, few, fit-push, piece_found}
 use Rattle.afs_journal.proofs.scan.scan.Goals as goal
 
 pub loop-body-preserved : goal.loop-body-preserved
 loop-body-preserved c =
     let so_far = c.loop-body.invariant in
-    let bodies = c.loop-body.found in
+    let bodies = map (piece_of c.args.bytes.now) c.loop-body.found.items in
     let first : StartsWith (suc (length bodies)) c.in-Some.body.now c.in-Some.behind.now c.loop-body.rest.now = subst (λ (n : ℕ). StartsWith n c.in-Some.body.now c.in-Some.behind.now c.loop-body.rest.now) so_far.counted c.in-Some.ensures.some in
-    let pushed : c.push.new.self ≡ bodies ++ c.in-Some.body.now ∷ [] = c.in_ok-push.ensures.ok ∙ ap (λ (b : List ℕ). bodies ++ b ∷ []) c.in_ok-from_slice.ensures in
+    let lies = c.piece.ensures ∙ piece_found c.args.bytes.now bodies (suc (length bodies)) c.in-Some.body.now c.in-Some.behind.now c.loop-body.rest.now so_far.split first in
+    let pushed : map (piece_of c.args.bytes.now) c.push.new.self.items ≡ bodies ++ c.in-Some.body.now ∷ [] =
+    ap (map (piece_of c.args.bytes.now)) c.in_ok-push.ensures.items ∙ (map-append (piece_of c.args.bytes.now) c.loop-body.found.items (c.piece.result ∷ []) ∙ ap (λ (b : List ℕ). bodies ++ b ∷ []) lies) in
     record {
       split = one_found c.args.bytes.now bodies c.in-Some.body.now c.loop-body.rest.now c.in-Some.behind.now so_far.split first ∙ ap (λ (l : List (List ℕ)). blocks 1 l ++ c.in-Some.behind.now) (sym pushed);
       more = first.more;
@@ -34,19 +38,21 @@ module _ (bytes : List ℕ) (bodies : List (List ℕ)) (rest : List ℕ) (number
 pub returns-clause-ends : goal.returns-clause-ends
 returns-clause-ends c =
     let so_far = c.loop-body.invariant in
-    ends c.args.bytes.now c.loop-body.found c.loop-body.rest.now c.loop-body.number so_far.split so_far.more so_far.fit so_far.counted c.in_default.ensures.none
+    ends c.args.bytes.now (map (piece_of c.args.bytes.now) c.loop-body.found.items) c.loop-body.rest.now c.loop-body.number so_far.split so_far.more so_far.fit so_far.counted c.in_default.ensures.none
 
 pub returns-clause-whole : goal.returns-clause-whole
 returns-clause-whole c =
     let so_far = c.loop-body.invariant in
-    whole c.args.bytes.now c.loop-body.found c.loop-body.rest.now c.loop-body.number so_far.split so_far.more so_far.fit so_far.counted c.in_default.ensures.none
+    whole c.args.bytes.now (map (piece_of c.args.bytes.now) c.loop-body.found.items) c.loop-body.rest.now c.loop-body.number so_far.split so_far.more so_far.fit so_far.counted c.in_default.ensures.none
 
 pub returns-clause-counts : goal.returns-clause-counts
 returns-clause-counts c =
-    let so_far = c.loop-body.invariant in (
-      counts c.args.bytes.now c.loop-body.found c.loop-body.rest.now c.loop-body.number so_far.split so_far.more so_far.fit so_far.counted c.in_default.ensures.none,
-      below c.args.bytes.now c.loop-body.found c.loop-body.rest.now c.loop-body.number so_far.split so_far.more so_far.fit so_far.counted c.in_default.ensures.none,
-    )
+    let so_far = c.loop-body.invariant in
+    let bodies = map (piece_of c.args.bytes.now) c.loop-body.found.items in
+    let many = counts c.args.bytes.now bodies c.loop-body.rest.now c.loop-body.number so_far.split so_far.more so_far.fit so_far.counted c.in_default.ensures.none in
+    (omega (arith, many, length-map c.loop-body.found.items (piece_of c.args.bytes.now)), below c.args.bytes.now bodies c.loop-body.rest.now c.loop-body.number so_far.split so_far.more so_far.fit so_far.counted c.in_default.ensures.none)
 
 pub returns-clause-few : goal.returns-clause-few
-returns-clause-few c = omega (arith, few c.loop-body.found 1 (omega arith) c.loop-body.invariant.fit)
+returns-clause-few c =
+    let bodies = map (piece_of c.args.bytes.now) c.loop-body.found.items in
+    omega (arith, few bodies 1 (omega arith) c.loop-body.invariant.fit, length-map c.loop-body.found.items (piece_of c.args.bytes.now))

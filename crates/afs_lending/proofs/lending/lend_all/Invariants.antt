@@ -6,10 +6,10 @@ use Rattle.afs_lending.proofs.lending.lend_all.Given as goal
 
 abbrev pub invariant-loop-before : goal.invariant-loop-before
 invariant-loop-before g l = record {
-  lent : AreLent g.B.D.Disk.limit l.capacity 1 l.disks.items;
+  lent : AreLent g.B.D.Disk.limit l.capacity l.first l.disks.items;
   count : length l.disks.items ≡ l.before;
-  room : l.servers ≤ vec_capacity l.disks;
-  lends : g.B.Bank.lends l.bank ≡ option_map (λ ls. ls ++ lends l.place l.capacity 1 (length l.disks.items)) (g.B.Bank.lends l.fn.bank);
+  room : l.count ≤ vec_capacity l.disks;
+  lends : g.B.Bank.lends l.bank ≡ option_map (λ ls. ls ++ lends l.place l.capacity l.first (length l.disks.items)) (g.B.Bank.lends l.fn.bank);
   tells : g.B.Bank.tells l.fn.bank l.place → g.B.Bank.tells l.bank l.place;
   told : g.B.Bank.tells l.fn.bank l.place → AreTold g.B.D.Disk.seen l.disks.items;
   unused : AreUnused g.B.D.Disk.faults l.disks.items;

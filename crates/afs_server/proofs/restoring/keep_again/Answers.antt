@@ -3,7 +3,7 @@ use Rattle.afs_num.specs.Nodes.{node_number, node_of}
 use Rattle.afs_num.specs.declared.types.Node.{Node}
 use Rattle.afs_model.specs.Calls.{call_seat, call_seated}
 use Rattle.afs_rows.specs.States.{Seat}
-use Rattle.afs_server_parts.specs.Kept.{reply_in}
+use Rattle.afs_message.specs.Spelled.{reply_in}
 use Rattle.afs_server.specs.Seen.{or_loc}
 use Rattle.afs_server.proofs.Kept.{no_others}
 use Rattle.afs_server.proofs.restoring.keep_again.Goals as goal

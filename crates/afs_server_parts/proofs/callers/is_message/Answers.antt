@@ -1,6 +1,6 @@
 use Rattle.std.proofs.Common.{arith, ap, sym, ◌∙◌}
-use Rattle.afs_server_parts.specs.Kept.{is_whole}
-use Rattle.afs_server_parts.proofs.Read.{spelling_of}
+use Rattle.afs_message.specs.Spelled.{is_whole}
+use Rattle.afs_message.proofs.Read.{spelling_of}
 use Rattle.afs_server_parts.proofs.callers.is_message.Goals as goal
 
 pub returns-clause-value : goal.returns-clause-value

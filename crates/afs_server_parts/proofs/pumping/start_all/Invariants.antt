@@ -8,7 +8,7 @@ use Rattle.afs_server_parts.proofs.pumping.start_all.Given as goal
 
 abbrev pub invariant-loop-oldest : goal.invariant-loop-oldest
 invariant-loop-oldest l = record {
-  started : (ls : Lists) (hs : List Held) → ls.owed ≡ l.owed → starts l.server l.boot (drop l.oldest-index l.owed) (started_with ls hs l.calls) ≡ starts l.server l.boot l.owed (started_with ls hs l.fn.calls);
-  good : AreGoodCalls l.server l.fn.calls.callees.items → AreGoodCalls l.server l.calls.callees.items;
+  started : (ls : Lists) (hs : List Held) → ls.owed ≡ l.owed → starts l.stand.node l.stand.boot (drop l.oldest-index l.owed) (started_with ls hs l.calls) ≡ starts l.stand.node l.stand.boot l.owed (started_with ls hs l.fn.calls);
+  good : AreGoodCalls l.fn.calls.callees.items → AreGoodCalls l.calls.callees.items;
   drawn : l.fn.calls.last ≤ l.calls.last;
 }

@@ -10,4 +10,4 @@ pub returns-clause-started : goal.returns-clause-started
 returns-clause-started c l hs q =
     let none : is_some (call_to c.args.calls.now.callees.items c.args.oldest.now.client) ≡ false = search rules in
     c.in_ok-start.ensures.started l hs q
-    ∙ ap (starts_by c.args.server c.args.boot (started_with l hs c.args.calls.now) c.args.oldest.now) (sym (not_waiting (call_to c.args.calls.now.callees.items c.args.oldest.now.client) none))
+    ∙ ap (starts_by c.args.stand.node c.args.stand.boot (started_with l hs c.args.calls.now) c.args.oldest.now) (sym (not_waiting (call_to c.args.calls.now.callees.items c.args.oldest.now.client) none))

@@ -2,6 +2,9 @@ use Rattle.std.proofs.Common.{length, refl, arith}
 use Rattle.afs_top.proofs.Ended.{leaves_lent, lent_before, none_failed, not_lent, one_failed, replayed, rose_before}
 use Rattle.afs_top.proofs.replaying.replay.Goals as goal
 
+pub lend_all-requires : goal.lend_all-requires
+lend_all-requires g c = omega (arith, c.requires.script.servers.1)
+
 pub returns-in-Ok : goal.returns-in-Ok
 returns-in-Ok g c =
     replayed g.B.D.Disk.seen g.B.D.Disk.may_leave g.B.D.Disk.faults c.args.script.now c.args.wire c.args.place.now _ _ _ _ _ _ _ _ _ _ _ _ _ _ _ _ _ _ c.replay_over.result c.in-Ok.ensures.tells c.in-Ok.ensures.lends c.replay_over.ensures.lends c.in-Ok.ensures.given c.in-Ok.ensures.faults

@@ -7,9 +7,9 @@ use Rattle.afs_cache.proofs.node.CacheManager.called.Goals as goal
 pub returns-in-Kept : goal.returns-in-Kept
 returns-in-Kept c =
     let old = c.args.self.now in
-    takes_same _ (λ (place : ℕ). admits_asking old.node old.state place c.args.head.now c.args.asking (admitted old.state.epoch old.state.seats c.args.head.now)) old old c.tell.result (λ place. ap (admits_asking old.node old.state place c.args.head.now c.args.asking) c.in-Kept.ensures.value) c.tell.ensures
+    takes_same _ (λ (place : ℕ). admits_asking old.node old.state place c.args.head.now c.args.asking (admitted old.state.epoch old.state.seats c.args.head.now)) old old c.tell_again.result (λ place. ap (admits_asking old.node old.state place c.args.head.now c.args.asking) c.in-Kept.ensures) c.tell_again.ensures
 
 pub returns-in-WrongBoot : goal.returns-in-WrongBoot
 returns-in-WrongBoot c =
     let old = c.args.self.now in
-    takes_same _ (λ (place : ℕ). admits_asking old.node old.state place c.args.head.now c.args.asking (admitted old.state.epoch old.state.seats c.args.head.now)) old old c.tell_boot.result (λ place. ap (admits_asking old.node old.state place c.args.head.now c.args.asking) c.in-WrongBoot.ensures.value) c.tell_boot.ensures
+    takes_same _ (λ (place : ℕ). admits_asking old.node old.state place c.args.head.now c.args.asking (admitted old.state.epoch old.state.seats c.args.head.now)) old old c.tell_boot.result (λ place. ap (admits_asking old.node old.state place c.args.head.now c.args.asking) c.in-WrongBoot.ensures) c.tell_boot.ensures

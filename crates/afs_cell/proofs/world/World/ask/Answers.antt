@@ -1,5 +1,6 @@
 use Rattle.std.proofs.Common.{None}
 use Rattle.afs_num.specs.declared.types.Node.TheVariants.{Client}
+use Rattle.afs_cell.proofs.Clocks.{clock_heard}
 use Rattle.afs_cell.proofs.Since.{asked_since, inside_since, keeps_heard, ready_since}
 use Rattle.afs_cell.proofs.world.World.ask.Goals as goal
 
@@ -15,3 +16,7 @@ returns-clause-stepped g c =
 pub returns-clause-keeps : goal.returns-clause-keeps
 returns-clause-keeps g c =
     keeps_heard _ c.args.self.now c.settle.new.self c.client_takes-happened.new.clients.items (Client c.args.client) None c.client_takes-happened.result c.settle.result c.self.view_is c.settle.ensures
+
+pub returns-clause-clock : goal.returns-clause-clock
+returns-clause-clock g c =
+    clock_heard _ c.args.self.now c.settle.new.self c.client_takes-happened.new.clients.items (Client c.args.client) None c.client_takes-happened.result c.settle.result c.self.view_is c.settle.ensures

@@ -1,6 +1,7 @@
 use Rattle.std.proofs.Common.{Some}
 use Rattle.afs_num.specs.declared.types.Node.TheVariants.{Client, Server}
 use Rattle.afs_history.specs.declared.lines.Line.TheVariants as lines
+use Rattle.afs_cell.proofs.Clocks.{clock_heard, clock_served, nothing_clock}
 use Rattle.afs_cell.proofs.Since.{admin_since, can_since, keeps_heard, keeps_served, keeps_skipped, loc_since, message_heard_since, message_served_since, nobody_since, ready_since}
 use Rattle.afs_cell.proofs.world.World.deliver.Goals as goal
 
@@ -52,3 +53,20 @@ returns-in-Loc-clause-keeps g c = keeps_skipped c.args.self.now c.skip-in-Loc.ne
 
 pub returns-in-Admin-clause-keeps : goal.returns-in-Admin-clause-keeps
 returns-in-Admin-clause-keeps g c = keeps_skipped c.args.self.now c.skip-in-Admin.new.self c.skip-in-Admin.result c.skip-in-Admin.ensures
+
+pub returns-in_default-clause-clock : goal.returns-in_default-clause-clock
+returns-in_default-clause-clock g c = nothing_clock c.args.self.now c.skip.new.self c.skip.result c.skip.ensures
+
+pub returns-in-Server-clause-clock : goal.returns-in-Server-clause-clock
+returns-in-Server-clause-clock g c =
+    clock_served _ c.args.self.now c.settle.new.self c.server_hears-happened.new.servers.items (Server c.in-Server.server) (Some (lines.Given c.args.place)) c.server_hears-happened.result c.settle.result c.self.view_is c.settle.ensures
+
+pub returns-in-Client-clause-clock : goal.returns-in-Client-clause-clock
+returns-in-Client-clause-clock g c =
+    clock_heard _ c.args.self.now c.settle-in-Client.new.self c.client_hears-happened.new.clients.items (Client c.in-Client.client) (Some (lines.Given c.args.place)) c.client_hears-happened.result c.settle-in-Client.result c.self.view_is c.settle-in-Client.ensures
+
+pub returns-in-Loc-clause-clock : goal.returns-in-Loc-clause-clock
+returns-in-Loc-clause-clock g c = nothing_clock c.args.self.now c.skip-in-Loc.new.self c.skip-in-Loc.result c.skip-in-Loc.ensures
+
+pub returns-in-Admin-clause-clock : goal.returns-in-Admin-clause-clock
+returns-in-Admin-clause-clock g c = nothing_clock c.args.self.now c.skip-in-Admin.new.self c.skip-in-Admin.result c.skip-in-Admin.ensures

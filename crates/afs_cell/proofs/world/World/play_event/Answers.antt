@@ -7,30 +7,42 @@ use Rattle.afs_cell.proofs.Meant.{as_client, as_message, as_server, as_ticks, cl
 use Rattle.afs_cell.proofs.Since.{as_nothing_since, keeps_skipped, kept_place}
 use Rattle.afs_cell.proofs.world.World.play_event.Goals as goal
 
-pub returns-in-Nothing-clause-stepped : goal.returns-in-Nothing-clause-stepped
-returns-in-Nothing-clause-stepped g c =
-    as_nothing_since g.D.Disk.seen g.D.Disk.may_leave g.D.Disk.faults g.D.Disk.limit c.args.self.now c.skip.new.self c.skip.result c.args.event c.requires.going c.requires.few c.in-Nothing.ensures.meant c.skip.ensures
-
-pub returns-in-Nothing-clause-clock : goal.returns-in-Nothing-clause-clock
-returns-in-Nothing-clause-clock g c = omega (arith, nothing_clock c.args.self.now c.skip.new.self c.skip.result c.skip.ensures)
+pub returns-in-Nothing-clause-plays : goal.returns-in-Nothing-clause-plays
+returns-in-Nothing-clause-plays g c = record {
+  stepped = as_nothing_since g.D.Disk.seen g.D.Disk.may_leave g.D.Disk.faults g.D.Disk.limit c.args.self.now c.skip.new.self c.skip.result c.args.event c.requires.going c.requires.few c.in-Nothing.ensures.meant c.skip.ensures;
+  keeps = keeps_skipped c.args.self.now c.skip.new.self c.skip.result c.skip.ensures;
+  clock = omega (arith, nothing_clock c.args.self.now c.skip.new.self c.skip.result c.skip.ensures);
+}
 
 pub ask-requires-clause-inside : goal.ask-requires-clause-inside
 ask-requires-clause-inside g c = c.in-Client.ensures.meant.inside (counts_of c.args.self.now.script) c.requires.fits
 
-pub returns-in-Client-clause-stepped : goal.returns-in-Client-clause-stepped
-returns-in-Client-clause-stepped g c =
-    λ before is safe. as_client g.D.Disk.seen g.D.Disk.may_leave g.D.Disk.faults g.D.Disk.limit (whole before c.args.self.now) (whole before c.ask.new.self) c.ask.result c.args.event c.in-Client.client c.in-Client.what c.in-Client.ensures.meant (c.ask.ensures.stepped before is safe)
+pub returns-in-Client-clause-plays : goal.returns-in-Client-clause-plays
+returns-in-Client-clause-plays g c = record {
+  stepped = λ before is safe. as_client g.D.Disk.seen g.D.Disk.may_leave g.D.Disk.faults g.D.Disk.limit (whole before c.args.self.now) (whole before c.ask.new.self) c.ask.result c.args.event c.in-Client.client c.in-Client.what c.in-Client.ensures.meant (c.ask.ensures.stepped before is safe);
+  keeps = c.ask.ensures.keeps;
+  clock = omega (arith, c.ask.ensures.clock);
+}
 
 pub serve-requires-clause-due : goal.serve-requires-clause-due
 serve-requires-clause-due g c = c.in-Server.ensures.meant.due (counts_of c.args.self.now.script) c.requires.fits
 
-pub returns-in-Server-clause-stepped : goal.returns-in-Server-clause-stepped
-returns-in-Server-clause-stepped g c =
-    λ before is safe. as_server g.D.Disk.seen g.D.Disk.may_leave g.D.Disk.faults g.D.Disk.limit (whole before c.args.self.now) (whole before c.serve.new.self) c.serve.result c.args.event c.in-Server.server c.in-Server.what c.in-Server.ensures.meant (c.serve.ensures.stepped before is safe)
+pub returns-in-Server-clause-plays : goal.returns-in-Server-clause-plays
+returns-in-Server-clause-plays g c = record {
+  stepped = λ before is safe. as_server g.D.Disk.seen g.D.Disk.may_leave g.D.Disk.faults g.D.Disk.limit (whole before c.args.self.now) (whole before c.serve.new.self) c.serve.result c.args.event c.in-Server.server c.in-Server.what c.in-Server.ensures.meant (c.serve.ensures.stepped before is safe);
+  keeps = c.serve.ensures.keeps;
+  clock = omega (arith, c.serve.ensures.clock);
+}
 
-pub returns-in-Message-clause-stepped : goal.returns-in-Message-clause-stepped
-returns-in-Message-clause-stepped g c =
-    λ before is safe. as_message g.D.Disk.seen g.D.Disk.may_leave g.D.Disk.faults g.D.Disk.limit (whole before c.args.self.now) (whole before c.deliver.new.self) c.deliver.result c.args.event c.in-Message.place c.in-Message.ensures.meant (c.deliver.ensures.stepped before is safe)
+pub deliver-requires-clause-kept : goal.deliver-requires-clause-kept
+deliver-requires-clause-kept g c = kept_place c.args.self.now c.args.event c.in-Message.place c.in-Message.ensures.meant c.requires.kept
+
+pub returns-in-Message-clause-plays : goal.returns-in-Message-clause-plays
+returns-in-Message-clause-plays g c = record {
+  stepped = λ before is safe. as_message g.D.Disk.seen g.D.Disk.may_leave g.D.Disk.faults g.D.Disk.limit (whole before c.args.self.now) (whole before c.deliver.new.self) c.deliver.result c.args.event c.in-Message.place c.in-Message.ensures.meant (c.deliver.ensures.stepped before is safe);
+  keeps = c.deliver.ensures.keeps;
+  clock = omega (arith, c.deliver.ensures.clock);
+}
 
 pub tick-requires-clause-some : goal.tick-requires-clause-some
 tick-requires-clause-some g c = some_ticks c.args.self.now c.args.event c.in-Ticks.ticks c.in-Ticks.ensures.meant c.requires.fits
@@ -38,12 +50,12 @@ tick-requires-clause-some g c = some_ticks c.args.self.now c.args.event c.in-Tic
 pub tick-requires-clause-within : goal.tick-requires-clause-within
 tick-requires-clause-within g c = ticks_within c.args.self.now c.args.event c.in-Ticks.ticks c.in-Ticks.ensures.meant c.requires.ticks
 
-pub returns-in-Ticks-clause-stepped : goal.returns-in-Ticks-clause-stepped
-returns-in-Ticks-clause-stepped g c =
-    λ before is safe. as_ticks g.D.Disk.seen g.D.Disk.may_leave g.D.Disk.faults g.D.Disk.limit (whole before c.args.self.now) (whole before c.tick.new.self) c.tick.result c.args.event c.in-Ticks.ticks c.in-Ticks.ensures.meant (c.tick.ensures.stepped before is safe)
-
-pub returns-in-Ticks-clause-clock : goal.returns-in-Ticks-clause-clock
-returns-in-Ticks-clause-clock g c = clock_ticks c.args.self.now c.tick.new.self c.args.event c.in-Ticks.ticks c.in-Ticks.ensures.meant c.tick.ensures.clock
+pub returns-in-Ticks-clause-plays : goal.returns-in-Ticks-clause-plays
+returns-in-Ticks-clause-plays g c = record {
+  stepped = λ before is safe. as_ticks g.D.Disk.seen g.D.Disk.may_leave g.D.Disk.faults g.D.Disk.limit (whole before c.args.self.now) (whole before c.tick.new.self) c.tick.result c.args.event c.in-Ticks.ticks c.in-Ticks.ensures.meant (c.tick.ensures.stepped before is safe);
+  keeps = c.tick.ensures.keeps;
+  clock = clock_ticks c.args.self.now c.tick.new.self c.args.event c.in-Ticks.ticks c.in-Ticks.ensures.meant c.tick.ensures.clock;
+}
 
 pub returns-in-Nothing-clause-picked : goal.returns-in-Nothing-clause-picked
 returns-in-Nothing-clause-picked g c = λ i pick e. absurd (cc (c.in-Nothing.is, c.meaning_of.ensures.picked i pick e))
@@ -60,9 +72,3 @@ returns-in-Ticks-clause-picked g c = λ i pick e. absurd (cc (c.in-Ticks.is, c.m
 pub returns-in-Server-clause-picked : goal.returns-in-Server-clause-picked
 returns-in-Server-clause-picked g c = λ i pick e.
     picked_as g.D.Disk.seen g.D.Disk.left_by i pick c.in-Server.server c.in-Server.what c.args.self.now.servers c.serve.new.self.servers c.serve.result (sym c.in-Server.is ∙ c.meaning_of.ensures.picked i pick e) c.serve.ensures.picked
-
-pub deliver-requires-clause-kept : goal.deliver-requires-clause-kept
-deliver-requires-clause-kept g c = kept_place c.args.self.now c.args.event c.in-Message.place c.in-Message.ensures.meant c.requires.kept
-
-pub returns-in-Nothing-clause-keeps : goal.returns-in-Nothing-clause-keeps
-returns-in-Nothing-clause-keeps g c = keeps_skipped c.args.self.now c.skip.new.self c.skip.result c.skip.ensures

@@ -1,5 +1,6 @@
 use Rattle.std.proofs.Common.{None}
 use Rattle.afs_num.specs.declared.types.Node.TheVariants.{Server}
+use Rattle.afs_cell.proofs.Clocks.{clock_served}
 use Rattle.afs_cell.proofs.Picked.{picked}
 use Rattle.afs_cell.proofs.Since.{can_since, keeps_served, served_since}
 use Rattle.afs_cell.proofs.world.World.serve.Goals as goal
@@ -20,3 +21,7 @@ returns-clause-picked g c = λ pick crash.
 pub returns-clause-keeps : goal.returns-clause-keeps
 returns-clause-keeps g c =
     keeps_served _ c.args.self.now c.settle.new.self c.server_takes-happened.new.servers.items (Server c.args.server) None c.server_takes-happened.result c.settle.result c.self.view_is c.settle.ensures
+
+pub returns-clause-clock : goal.returns-clause-clock
+returns-clause-clock g c =
+    clock_served _ c.args.self.now c.settle.new.self c.server_takes-happened.new.servers.items (Server c.args.server) None c.server_takes-happened.result c.settle.result c.self.view_is c.settle.ensures

@@ -14,10 +14,19 @@ play_event-requires-clause-safe g c = record { before = c.requires.world.before;
 pub returns-clause-world : goal.returns-clause-world
 returns-clause-world g c = λ before is world.
     is_world g.D.Disk.seen g.D.Disk.may_leave g.D.Disk.faults g.D.Disk.limit c.args.self.now.script _ (whole before c.args.self.now) (whole before c.play_event.new.self) c.play_event.result
-    (sym (ap (λ (w : WorldState g.row.D.Denot). w.is_lost) c.self.view_is) ∙ c.if-self.false) world (c.play_event.ensures.stepped before is world.safe)
+    (sym (ap (λ (w : WorldState g.row.D.Denot). w.is_lost) c.self.view_is) ∙ c.if-self.false) world (c.play_event.ensures.plays.stepped before is world.safe)
 
 pub returns-clause-steps : goal.returns-clause-steps
-returns-clause-steps g c = λ before is world. (c.play_event.ensures.stepped before is world.safe).steps
+returns-clause-steps g c = λ before is world. (c.play_event.ensures.plays.stepped before is world.safe).steps
 
 pub returns-clause-counts : goal.returns-clause-counts
-returns-clause-counts g c = (c.play_event.ensures.stepped c.requires.world.before c.requires.world.is c.requires.world.world.safe).counts
+returns-clause-counts g c = (c.play_event.ensures.plays.stepped c.requires.world.before c.requires.world.is c.requires.world.world.safe).counts
+
+pub returns-clause-keeps : goal.returns-clause-keeps
+returns-clause-keeps g c = c.play_event.ensures.plays.keeps
+
+pub returns-clause-tells : goal.returns-clause-tells
+returns-clause-tells g c = (c.play_event.ensures.plays.stepped c.requires.world.before c.requires.world.is c.requires.world.world.safe).tells
+
+pub returns-clause-clock : goal.returns-clause-clock
+returns-clause-clock g c = c.play_event.ensures.plays.clock

@@ -3,7 +3,6 @@ use Rattle.std.proofs.Common.{refl, ap, sym, subst, ◌∙◌}
 use Rattle.afs_num.specs.declared.faults.StoreFault.{StoreFault}
 use Rattle.afs_num.specs.declared.faults.StoreFault.TheVariants as refusals
 use Rattle.afs_num.specs.declared.types.Node.{Node}
-use Rattle.afs_num.specs.declared.types.Node.TheVariants.{Server}
 use Rattle.afs_history.specs.declared.lines.Line.{Line}
 use Rattle.afs_disk.specs.Disk.{Rose, Setting}
 use Rattle.afs_disk.specs.Fuses.{Fused}
@@ -21,8 +20,8 @@ returns-in-Ok-attach-clause-started g c =
     let e = c.in-Ok-attach.ensures in
     let b = c.boot.ensures in
     let is : old ≡ c.args.self = ap (λ (d : g.row.D.Denot). record { disk = d; mark = c.self.inside.mark }) (ap (λ (f : Fused g.row.D.Denot). f.disk) c.new.ensures) ∙ c.self.view_is in
-    subst (λ (x : Resting g.row.D.Denot). IsSome (g.D.Disk.seen x.disk) → IsStarted g.D.Disk.seen g.D.Disk.may_leave g.D.Disk.faults g.D.Disk.limit (Server c.args.server) c.args.now c.args.clients x c.boot.result) is
-    (taken_up g.D.Disk.seen g.D.Disk.may_leave g.D.Disk.faults g.D.Disk.limit (Server c.args.server) c.args.now c.args.clients old s c.in-Ok-attach.front c.boot.result (record {
+    subst (λ (x : Resting g.row.D.Denot). IsSome (g.D.Disk.seen x.disk) → IsStarted g.D.Disk.seen g.D.Disk.may_leave g.D.Disk.faults g.D.Disk.limit c.args.node c.args.now c.args.clients x c.boot.result) is
+    (taken_up g.D.Disk.seen g.D.Disk.may_leave g.D.Disk.faults g.D.Disk.limit c.args.node c.args.now c.args.clients old s c.in-Ok-attach.front c.boot.result (record {
       node = ap (λ (t : Store (Fused g.row.D.Denot)). t.node) e.rest;
       shows = λ d bytes told. g.met.D.Disk.leaves d 1 bytes (g.met.D.Disk.shows d ∙ told);
       stands = λ bytes told. e.stands bytes told;
@@ -44,8 +43,8 @@ returns-in-Err-clause-started g c =
     let e = c.in-Err.ensures in
     let is : old ≡ c.args.self = ap (λ (d : g.row.D.Denot). record { disk = d; mark = c.self.inside.mark }) (ap (λ (f : Fused g.row.D.Denot). f.disk) c.new.ensures) ∙ c.self.view_is in
     let inner : new.disk ≡ c.in-Err.fuse.disk = c.into_inner.ensures in
-    subst (λ (x : Resting g.row.D.Denot). IsSome (g.D.Disk.seen x.disk) → IsStarted g.D.Disk.seen g.D.Disk.may_leave g.D.Disk.faults g.D.Disk.limit (Server c.args.server) c.args.now c.args.clients x c.refused.result) is
-    (refused_so g.D.Disk.seen g.D.Disk.may_leave g.D.Disk.moment g.D.Disk.left_since g.met.D.Disk.counts_now g.D.Disk.faults g.D.Disk.limit c.in-Err.refusal (Server c.args.server) c.args.now c.args.clients old new
+    subst (λ (x : Resting g.row.D.Denot). IsSome (g.D.Disk.seen x.disk) → IsStarted g.D.Disk.seen g.D.Disk.may_leave g.D.Disk.faults g.D.Disk.limit c.args.node c.args.now c.args.clients x c.refused.result) is
+    (refused_so g.D.Disk.seen g.D.Disk.may_leave g.D.Disk.moment g.D.Disk.left_since g.met.D.Disk.counts_now g.D.Disk.faults g.D.Disk.limit c.in-Err.refusal c.args.node c.args.now c.args.clients old new
     (subst (λ (d : g.row.D.Denot). Refused g.D.Disk.seen g.D.Disk.may_leave g.D.Disk.moment g.D.Disk.left_since g.D.Disk.faults g.D.Disk.limit c.in-Err.refusal old (record { disk = d; mark = c.self.inside.mark })) (sym inner) (record {
       shows = λ bytes told. g.met.D.Disk.leaves old.disk 1 bytes (g.met.D.Disk.shows old.disk ∙ told);
       reads = λ bytes now told held. e.reads bytes now told held;
@@ -68,9 +67,9 @@ returns-in-Ok-attach-clause-over g c =
     let e = c.in-Ok-attach.ensures in
     let is : old ≡ c.args.self = ap (λ (d : g.row.D.Denot). record { disk = d; mark = c.self.inside.mark }) (ap (λ (f : Fused g.row.D.Denot). f.disk) c.new.ensures) ∙ c.self.view_is in
     let node = ap (λ (t : Store (Fused g.row.D.Denot)). t.node) e.rest in
-    subst (λ (x : Resting g.row.D.Denot). StartsOver g.D.Disk.seen g.D.Disk.faults g.D.Disk.limit (Server c.args.server) c.args.now c.args.clients x c.boot.result) is
-    (boots_over g.D.Disk.seen g.D.Disk.faults g.D.Disk.limit (Server c.args.server) c.args.now c.args.clients old s c.in-Ok-attach.front e.capacity c.boot.result
-    (subst (λ (before : ℕ). BootsOver g.D.Disk.faults s.durable c.in-Ok-attach.front (Server c.args.server) c.args.now c.args.clients before c.boot.result) e.quiet.1
+    subst (λ (x : Resting g.row.D.Denot). StartsOver g.D.Disk.seen g.D.Disk.faults g.D.Disk.limit c.args.node c.args.now c.args.clients x c.boot.result) is
+    (boots_over g.D.Disk.seen g.D.Disk.faults g.D.Disk.limit c.args.node c.args.now c.args.clients old s c.in-Ok-attach.front e.capacity c.boot.result
+    (subst (λ (before : ℕ). BootsOver g.D.Disk.faults s.durable c.in-Ok-attach.front c.args.node c.args.now c.args.clients before c.boot.result) e.quiet.1
     (subst (λ (n : Node). BootsOver g.D.Disk.faults s.durable c.in-Ok-attach.front n c.args.now c.args.clients (g.D.Disk.faults s.disk.disk) c.boot.result) node c.boot.ensures.over)))
 
 pub returns-in-Err-clause-over : goal.returns-in-Err-clause-over
@@ -81,8 +80,8 @@ returns-in-Err-clause-over g c =
     let e = c.in-Err.ensures in
     let is : old ≡ c.args.self = ap (λ (d : g.row.D.Denot). record { disk = d; mark = c.self.inside.mark }) (ap (λ (f : Fused g.row.D.Denot). f.disk) c.new.ensures) ∙ c.self.view_is in
     let inner : new.disk ≡ c.in-Err.fuse.disk = c.into_inner.ensures in
-    subst (λ (x : Resting g.row.D.Denot). StartsOver g.D.Disk.seen g.D.Disk.faults g.D.Disk.limit (Server c.args.server) c.args.now c.args.clients x c.refused.result) is
-    (refused_over g.D.Disk.seen g.D.Disk.faults g.D.Disk.limit (Server c.args.server) c.args.now c.args.clients old new c.in-Err.refusal refl e.refusals (λ number is bytes told. e.bad number is bytes told)
+    subst (λ (x : Resting g.row.D.Denot). StartsOver g.D.Disk.seen g.D.Disk.faults g.D.Disk.limit c.args.node c.args.now c.args.clients x c.refused.result) is
+    (refused_over g.D.Disk.seen g.D.Disk.faults g.D.Disk.limit c.args.node c.args.now c.args.clients old new c.in-Err.refusal refl e.refusals (λ number is bytes told. e.bad number is bytes told)
     (λ failed. subst (λ (d : g.row.D.Denot). Rose (g.D.Disk.faults old.disk) (g.D.Disk.faults d)) (sym inner)
     (own_cause (record { stop = fuse.stop; fail = fuse.fail }) c.in-Err.fuse.calls _ _ _ _ c.in-Err.refusal (ap (λ (f : Fused g.row.D.Denot). f.stop) c.new.ensures) (ap (λ (f : Fused g.row.D.Denot). f.fail) c.new.ensures) e.err.1 failed))
     (λ memory. ap g.D.Disk.faults inner ∙ own_quiet (record { stop = fuse.stop; fail = fuse.fail }) c.in-Err.fuse.calls _ _ _ _ c.in-Err.refusal e.err.1 memory)

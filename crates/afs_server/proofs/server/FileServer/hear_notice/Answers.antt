@@ -1,6 +1,7 @@
 use Rattle.std.proofs.Common.{◌≡◌, Option, refl, ap, sym, subst, ◌∙◌}
 use Rattle.afs_rows.specs.Callbacks as row
-use Rattle.afs_server_parts.specs.Called.{call_to, Called, IsGoodOrNone}
+use Rattle.afs_rows.specs.States.{BackCall}
+use Rattle.afs_server_parts.specs.Called.{call_to, IsGoodOrNone}
 use Rattle.afs_callbacks.specs.Hearing.{heard_by}
 use Rattle.afs_server.specs.Hearing.{noticed_turn, renewed_turn}
 use Rattle.afs_server.specs.Seen.{backs_seen}
@@ -14,7 +15,7 @@ renew_found-requires-clause-good g c =
     let head = c.args.head.now in
     let call = call_to c.args.self.now.callees head.from in
     let heard : c.in_ok-call.call ≡ heard_by store.node store.durable.boot head call = c.in_ok-call.ensures.call ∙ (λ i. heard_by (c.node.ensures i) (c.boot_number.ensures i) head (call_to (c.callbacks.ensures i).callees head.from)) in
-    subst (λ (o : Option Called). IsGoodOrNone store.node head.from o) (sym heard) (heard_good store.node store.durable.boot head call (c.requires.serves.calls head.from))
+    subst (λ (o : Option BackCall). IsGoodOrNone head.from o) (sym heard) (heard_good store.node store.durable.boot head call (c.requires.serves.calls head.from))
 
 pub returns : goal.returns
 returns g c =

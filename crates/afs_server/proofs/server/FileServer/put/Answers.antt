@@ -12,8 +12,8 @@ use Rattle.afs_callbacks.specs.States.{backs_at, CallbackState}
 use Rattle.afs_server.specs.Saving.{IsPut, IsTaken}
 use Rattle.afs_server.specs.Seen.{Memory}
 use Rattle.afs_volstore.specs.Stores.{Store}
-use Rattle.afs_server_parts.specs.Kept.{IsSpelling, Spells}
-use Rattle.afs_callbacks.specs.declared.ending.Ended.{Ended}
+use Rattle.afs_message.specs.Spelled.{IsSpelling, Spells}
+use Rattle.afs_server_parts.specs.declared.ending.Ended.{Ended}
 use Rattle.afs_server.specs.declared.faults.NodeFault.{NodeFault}
 use Rattle.afs_server.specs.declared.faults.NodeFault.TheVariants as nodes
 use Rattle.afs_promise.specs.Found.{without_found}

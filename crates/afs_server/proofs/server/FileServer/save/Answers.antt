@@ -5,6 +5,7 @@ use Rattle.afs_history.specs.declared.lines.Outs.{Outs}
 use Rattle.afs_num.specs.declared.records.RecordBody.{RecordBody}
 use Rattle.afs_num.specs.declared.records.StoreRecord.{StoreRecord}
 use Rattle.afs_num.specs.declared.types.Node.{Node}
+use Rattle.afs_server_parts.specs.declared.turns.Stand.{Stand}
 use Rattle.afs_num.specs.declared.volumes.Change.{Change}
 use Rattle.afs_records.specs.Durable.{Durable}
 use Rattle.afs_rows.specs.Callbacks as row
@@ -13,7 +14,8 @@ use Rattle.afs_rows.specs.ServerRow.{roomed}
 use Rattle.afs_breaks.specs.Promises.{lasting}
 use Rattle.afs_callbacks.specs.States.{CallbackState, IsPromiseToNode}
 use Rattle.afs_server.specs.Handling.{record_decided, server_seen}
-use Rattle.afs_callbacks.specs.Saving.{change_kept, fids_granted, hits_each, new_grants, reply_told}
+use Rattle.afs_callbacks.specs.Answering.{reply_told}
+use Rattle.afs_callbacks.specs.Saving.{change_kept, fids_granted, hits_each, new_grants}
 use Rattle.afs_server.specs.Seen.{Serves}
 use Rattle.afs_server.specs.declared.faults.NodeFault.{NodeFault}
 use Rattle.afs_server.specs.declared.faults.NodeFault.TheVariants as nodes
@@ -25,11 +27,12 @@ use Rattle.afs_server.proofs.Roomed.{disk_all}
 use Rattle.afs_server.proofs.Making.{to_nodes}
 use Rattle.afs_server.proofs.Saves.{does_all, is_besides, is_taken, planned_as, same_store, wanting, was_prepared}
 use Rattle.afs_server.proofs.Still.{is_still, out_of_memory, same_counts, same_disk, OfDisk}
+use Rattle.afs_callbacks.proofs.Planned.{answer_drawn}
 use Rattle.afs_callbacks.proofs.Withdrawn.{few_granted}
 use Rattle.afs_server.proofs.server.FileServer.save.Goals as goal
 
 pub plan_change-requires-clause-nodes : goal.plan_change-requires-clause-nodes
-plan_change-requires-clause-nodes g c = to_nodes c.args.store.now.node c.node.result c.args.self.now c.args.store.now.durable c.callbacks.result.now c.node.ensures c.callbacks.ensures c.requires.serves
+plan_change-requires-clause-nodes g c = to_nodes c.args.store.now c.args.self.now c.stand.result c.callbacks.result.now c.stand.ensures c.callbacks.ensures c.requires.serves
 
 pub plan_change-requires-clause-promised : goal.plan_change-requires-clause-promised
 plan_change-requires-clause-promised g c = subst (λ (k : CallbackState). All IsPromiseToNode k.lists.promises) (sym c.callbacks.ensures) c.requires.serves.promises
@@ -77,14 +80,14 @@ pub put_or_refuse-requires-clause-drawn : goal.put_or_refuse-requires-clause-dra
 put_or_refuse-requires-clause-drawn g c =
     let p = c.in_ok-planned.planned in
     let besides = is_besides p.rec c.args.store.now c.prepare.new.store c.in_ok-room.room c.in_ok-room.ensures.prepares in
-    subst (λ (n : ℕ). n ≤ p.ended.last) (c.last_number.ensures ∙ sym besides.1.1.0) c.in_ok-planned.ensures.drawn
+    subst (λ (n : ℕ). n ≤ p.ended.last) (ap (λ (s : Stand). s.last) c.stand.ensures ∙ sym besides.1.1.0) (answer_drawn _ _ _ _ _ _ _ _ c.in_ok-planned.ensures.replied)
 
 pub put_or_refuse-requires-clause-spelling : goal.put_or_refuse-requires-clause-spelling
 put_or_refuse-requires-clause-spelling g c =
     let s = c.args.store.now in
     let p = c.in_ok-planned.planned in
-    let plan = planned_as s c.args.now c.args.head.now c.args.id c.into_parts-change.result.0 c.args.change c.args.self.now p c.node.result c.boot_number.result c.last_number.result c.callbacks.result.now c.into_parts-change.ensures.change c.node.ensures c.boot_number.ensures c.last_number.ensures c.callbacks.ensures c.in_ok-planned.ensures in
-    (reply_told c.args.store.now.durable.boot c.args.head.now (c.args.now + 7200) c.args.change, plan.kept)
+    let plan = planned_as s c.args.now c.args.head.now c.args.id c.into_parts-change.result.0 c.args.change c.args.self.now p c.stand.result c.callbacks.result.now c.into_parts-change.ensures.change c.stand.ensures c.callbacks.ensures c.in_ok-planned.ensures in
+    (reply_told c.args.store.now.durable.boot c.args.head.now (c.args.now + 7200) c.args.change.reply, plan.replied.kept)
 
 pub put_or_refuse-requires-clause-up : goal.put_or_refuse-requires-clause-up
 put_or_refuse-requires-clause-up g c =
@@ -141,7 +144,7 @@ pub returns-clause-does : goal.returns-clause-does
 returns-clause-does g c =
     let s = c.args.store.now in
     let p = c.in_ok-planned.planned in
-    let plan = planned_as s c.args.now c.args.head.now c.args.id c.into_parts-change.result.0 c.args.change c.args.self.now p c.node.result c.boot_number.result c.last_number.result c.callbacks.result.now c.into_parts-change.ensures.change c.node.ensures c.boot_number.ensures c.last_number.ensures c.callbacks.ensures c.in_ok-planned.ensures in
+    let plan = planned_as s c.args.now c.args.head.now c.args.id c.into_parts-change.result.0 c.args.change c.args.self.now p c.stand.result c.callbacks.result.now c.into_parts-change.ensures.change c.stand.ensures c.callbacks.ensures c.in_ok-planned.ensures in
     λ k there made.
     let mid = c.prepare.new.store in
     let node = c.requires.head.0 in
@@ -153,7 +156,7 @@ pub returns-clause-disk : goal.returns-clause-disk
 returns-clause-disk g c =
     let s = c.args.store.now in
     let p = c.in_ok-planned.planned in
-    let plan = planned_as s c.args.now c.args.head.now c.args.id c.into_parts-change.result.0 c.args.change c.args.self.now p c.node.result c.boot_number.result c.last_number.result c.callbacks.result.now c.into_parts-change.ensures.change c.node.ensures c.boot_number.ensures c.last_number.ensures c.callbacks.ensures c.in_ok-planned.ensures in
+    let plan = planned_as s c.args.now c.args.head.now c.args.id c.into_parts-change.result.0 c.args.change c.args.self.now p c.stand.result c.callbacks.result.now c.into_parts-change.ensures.change c.stand.ensures c.callbacks.ensures c.in_ok-planned.ensures in
     λ k there made.
     let mid = c.prepare.new.store in
     let put = c.put_or_refuse.ensures in

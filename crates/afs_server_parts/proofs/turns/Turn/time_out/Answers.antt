@@ -1,11 +1,18 @@
-use Rattle.std.proofs.Common.{◌≡◌, true, nat_lt, rules}
-use Rattle.afs_server_parts.specs.Called.{call_seen}
+use Rattle.std.proofs.Common.{ap, sym, ◌∙◌}
+use Rattle.afs_model.specs.Calls.{is_sent_again}
+use Rattle.afs_rows.specs.States.{BackCall}
 use Rattle.afs_server_parts.specs.Turning.{backs_with}
-use Rattle.afs_server_parts.proofs.Turning.{timed_first}
+use Rattle.afs_server_parts.proofs.Turning.{timed_first, timed_last}
 use Rattle.afs_server_parts.proofs.turns.Turn.time_out.Goals as goal
 
-pub returns-in_ok-retry-clause-turn : goal.returns-in_ok-retry-clause-turn
-returns-in_ok-retry-clause-turn c l q =
-    let call = c.args.call.now in
-    let first : nat_lt call.tries 2 ≡ true = search rules in
-    timed_first call.server c.args.boot c.args.node (call_seen call) (backs_with l c.args.self.now.held c.args.self.now.calls) _ first (c.in_ok-retry.ensures.turn l q)
+pub returns-in_ok-retry-in-Again-clause-turn : goal.returns-in_ok-retry-in-Again-clause-turn
+returns-in_ok-retry-in-Again-clause-turn c l q =
+    let stand = c.args.self.now.stand in
+    let tries = sym (ap (λ (k : BackCall). is_sent_again k.tries) c.call.view_is) in
+    timed_first stand.node stand.boot c.args.node c.args.call.now (backs_with l c.args.self.now.held c.args.self.now.calls) _ (tries ∙ c.in-Again.ensures.0) (c.in_ok-retry-in-Again.ensures.turn l q)
+
+pub returns-in_ok-quit-in-Dead-clause-turn : goal.returns-in_ok-quit-in-Dead-clause-turn
+returns-in_ok-quit-in-Dead-clause-turn c l q =
+    let stand = c.args.self.now.stand in
+    let tries = sym (ap (λ (k : BackCall). is_sent_again k.tries) c.call.view_is) in
+    timed_last stand.node stand.boot c.args.node c.args.call.now (backs_with l c.args.self.now.held c.args.self.now.calls) _ (tries ∙ c.in-Dead.ensures) (c.in_ok-quit-in-Dead.ensures.turn l q)

@@ -1,0 +1,52 @@
+-- What a step plans is the turn of its row.
+use Rattle.std.proofs.Common.{◌≡◌, ◌≤◌, ℕ, List, refl, subst, ◌∙◌}
+use Rattle.afs_history.specs.declared.lines.Line.{Line}
+use Rattle.afs_num.specs.declared.messages.Message.{Message}
+use Rattle.afs_breaks.specs.Promises.{Lists}
+use Rattle.afs_breaks.specs.declared.types.OwedBreak.{OwedBreak}
+use Rattle.afs_rows.specs.Callbacks as row
+use Rattle.afs_rows.specs.Callbacks.{no_turn}
+use Rattle.afs_rows.specs.States.{Backs}
+use Rattle.afs_server_parts.specs.Ending.{IsPlan, IsPlanOf}
+use Rattle.afs_server_parts.specs.Turning.{backs_with, IsTurn}
+use Rattle.afs_server_parts.specs.declared.ending.Ended.{Ended}
+use Rattle.afs_server_parts.specs.declared.turns.Stand.{Stand}
+use Rattle.afs_server_parts.specs.declared.turns.Turn.{Turn}
+use Rattle.afs_server_parts.proofs.Turning.{turned}
+use Rattle.afs_callbacks.specs.Answering.{with_lists, IsReplied}
+use Rattle.afs_callbacks.specs.States.{CallbackState}
+use Rattle.afs_callbacks.proofs.Turned.{answered_with}
+
+-- what the end of this turn gives
+abbrev pub Plans : Turn → Ended → Type 0
+Plans t e = (v : row.Turn) → IsTurn v t → IsPlanOf t.stand v e
+
+-- a turn that does this was begun by a node that stands so
+pub planned : (f : Stand → Backs → row.Turn) (b : Backs) (s : Stand) (t u : Turn) (e : Ended) → IsTurn (no_turn b) t → t.stand ≡ s → u.stand ≡ t.stand →
+    ((l : Lists) → l.owed ≡ t.owed.items → IsTurn (f t.stand (backs_with l t.held t.calls)) u) → Plans u e → IsPlanOf s (f s b) e
+planned f b s t u e begun stands same does plans =
+    let plan : IsPlanOf t.stand (f t.stand b) e = subst (λ (x : Stand). IsPlanOf x (f t.stand b) e) same (plans (f t.stand b) (turned (f t.stand) b t u begun does)) in
+    subst (λ (x : Stand). IsPlanOf x (f x b) e) stands plan
+
+-- the same of a turn that is known whole
+pub planned_as : (v : row.Turn) (s : Stand) (u : Turn) (e : Ended) → u.stand ≡ s → IsTurn v u → Plans u e → IsPlanOf s v e
+planned_as v s u e stands is plans = subst (λ (x : Stand). IsPlanOf x v e) stands (plans v is)
+
+-- with any promises that owe what lasts
+pub answered : (f : Backs → row.Turn) (b : Backs) (s : Stand) (l : Lists) (t u : Turn) (e : Ended) → IsTurn (no_turn b) t → t.stand ≡ s → u.stand ≡ t.stand → l.owed ≡ b.lists.owed →
+    ((k : Lists) → k.owed ≡ t.owed.items → IsTurn (f (backs_with k t.held t.calls)) u) → Plans u e → IsPlanOf s (f (with_lists l b)) e
+answered f b s l t u e begun stands same owes does plans = planned_as (f (with_lists l b)) s u e (same ∙ stands) (answered_with f b l t u begun owes does) plans
+
+-- other lines take the place of the turn's
+pub retold : (s : Stand) (t : row.Turn) (ls ms told : List Line) (e : Ended) → told ≡ ms → IsPlan s t ls e → IsPlan s t ms (record e { outs = record e.outs { lines = told } })
+retold s t ls ms told e is plan = record {
+  ends = record { backs = plan.ends.backs; sent = plan.ends.sent };
+  lines = is;
+  drawn = plan.drawn;
+  owed = plan.owed;
+  calls = plan.calls;
+}
+
+-- numbers of calls are drawn behind the last one, whatever is promised
+pub answer_drawn : (s : Stand) (k : CallbackState) (reply : Message) (owed : List OwedBreak) (waits : List ℕ) (ls : List Line) (e : Ended) (bytes : List ℕ) → IsReplied s k reply owed waits ls e bytes → s.last ≤ e.last
+answer_drawn s k reply owed waits ls e bytes is = (is.answer (record k.lists { owed = owed }) refl).drawn

@@ -1,0 +1,4 @@
+mod DisksRead
+pub mod FirstSeated
+mod FirstStores
+mod GivenBack

@@ -1,0 +1,18 @@
+-- The disks of a cell's servers, as they are lent and go back.
+use Rattle.std.specs.Prelude.{◌≡◌, ◌+◌, ℕ, List, [], ◌∷◌, Option, IsSome}
+use Rattle.afs_disk.specs.declared.disks.Lent.{Lent}
+use Rattle.afs_clients.specs.Places.{Each}
+use Rattle.afs_host.specs.Seated.{seat_disk, ServerSeat}
+
+-- the disks of these servers, in order of number from this one on, each for so many bytes
+abbrev pub AreLent : {D : Type 0} → (D → ℕ) → ℕ → ℕ → List (Lent D) → Type 0
+AreLent {D} limit capacity i [] = Unit {0}
+AreLent {D} limit capacity i (l ∷ ls) = (l.node ≡ i) × ((limit l.disk ≡ capacity) × AreLent limit capacity (i + 1) ls)
+
+abbrev pub LentTell : {D : Type 0} → (D → Option (List ℕ)) → List (Lent D) → Type 0
+LentTell {D} seen lent = Each (λ (i : ℕ) (l : Lent D). IsSome (seen l.disk)) lent
+
+-- the disks of these servers, in order of number from this one on
+abbrev pub lent_from : {D : Type 0} → ℕ → List (ServerSeat D) → List (Lent D)
+lent_from {D} i [] = []
+lent_from {D} i (s ∷ ss) = record { node = i; disk = seat_disk s } ∷ lent_from (i + 1) ss

@@ -1,0 +1,5 @@
+pub mod Ends
+pub mod FirstSeats
+pub mod Lends
+pub mod Readable
+pub mod Refusing

@@ -1,0 +1,151 @@
+use Rattle.std.specs.Prelude.{◌≡◌, ℕ, ◌*◌, ◌-◌, [], ◌∷◌, Option, Some, Err, Ok, IsErrOf}
+use Rattle.std.proofs.Common.{refl, ap, sym, subst, ◌∙◌}
+use Rattle.afs_num.specs.declared.messages.Message.{Message}
+use Rattle.afs_num.specs.declared.records.Mark.{Mark}
+use Rattle.afs_num.specs.declared.records.StoreRecord.{StoreRecord}
+use Rattle.afs_history.specs.declared.lines.Line.TheVariants as lines
+use Rattle.afs_history.specs.declared.lines.Outs.{Outs}
+use Rattle.afs_disk.specs.Disk.{Setting}
+use Rattle.afs_model.specs.Messages.{received, received_by}
+use Rattle.afs_rows.specs.Hosts.{lowered}
+use Rattle.afs_rows.specs.ServerRow.{decides, device_calls, Decision}
+use Rattle.afs_rows.specs.ServerSteps.{server_row}
+use Rattle.afs_volstore.specs.Stores.{Store}
+use Rattle.afs_disk.specs.Fuses.{Fused}
+use Rattle.afs_server.specs.Handling.{calls_served, record_decided, server_seen, Handles, IsQuiet, IsWritten}
+use Rattle.afs_server.specs.declared.faults.NodeFault.{NodeFault}
+use Rattle.afs_server.specs.declared.faults.NodeFault.TheVariants as nodes
+use Rattle.afs_host.specs.Seats.{CanRun, ServerRunning}
+use Rattle.afs_host.specs.Serving.{IsBroken, IsHandled, RunsRow}
+use Rattle.afs_host.specs.Setting.{armed_seen}
+use Rattle.afs_host.proofs.Breaking.{ended_left, ended_lies, saves_calls, Ended}
+use Rattle.afs_host.proofs.Handled.{row_made, Passed, passed_goes_on, passed_step, quiet_then, same_goes_on}
+use Rattle.afs_host.proofs.Heard.{message_of, stands_there}
+use Rattle.afs_host.proofs.Stepping.{made_calls, same_row}
+use Rattle.afs_host.proofs.serving.Running+FileServer+VolStore+Fuse+D.handle.Goals as goal
+
+pub returns-in-Ok-clause-handled : goal.returns-in-Ok-clause-handled
+returns-in-Ok-clause-handled g c =
+    let inside = c.self.inside in
+    let old : ServerRunning g.row.D.Denot = record { memory = inside.memory; store = inside.store; armed = armed_seen inside.armed } in
+    let new : ServerRunning g.row.D.Denot = record { memory = c.handle.new.self; store = c.handle.new.store; armed = armed_seen c.lowered-self-inside.result } in
+    let can = subst CanRun (sym c.self.view_is) c.requires.can_run in
+    let e = c.in-Ok.ensures in
+    let d = decides inside.store.node (server_seen inside.memory inside.store) c.args.now (received_by calls_served c.args.bytes.now) in
+    let made : c.saturating_sub-made.result * 4 ≡ device_calls (server_seen inside.memory inside.store) c.args.now d = ap (λ (n : ℕ). n * 4) (c.saturating_sub-made.ensures ∙ (ap (λ (m : Mark). m.records - c.mark-before.result.records) c.mark.ensures.value ∙ ap (λ (m : Mark). new.store.count - m.records) c.mark-before.ensures.value))
+    ∙ made_calls (server_seen inside.memory inside.store) c.args.now d inside.store c.handle.new.store e.kept in
+    let passed : Passed c.args.now c.args.bytes.now old new c.in-Ok.outs = record {
+      step = e.step;
+      found = e.found;
+      serves = e.serves;
+      store = e.store;
+      drawn = e.draws.0;
+      owed = e.draws.1;
+      armed = c.lowered-self-inside.ensures ∙ ap (λ (n : ℕ). lowered n (armed_seen inside.armed)) made;
+      calls = e.calls;
+      most = e.most.1;
+      passes = e.ran.passed;
+      stop = ap (λ (s : Setting). s.stop) e.setting;
+      fail = ap (λ (s : Setting). s.fail) e.setting;
+    } in
+    subst (λ (x : ServerRunning g.row.D.Denot). IsHandled g.D.Disk.seen g.D.Disk.left_by g.D.Disk.size g.D.Disk.may_leave g.D.Disk.moment g.D.Disk.left_since g.D.Disk.faults g.D.Disk.limit x c.args.now (received c.args.bytes.now) new (Ok c.in-Ok.outs)) c.self.view_is
+    (passed_step c.args.now c.args.bytes.now old new c.in-Ok.outs can passed, passed_goes_on c.args.now c.args.bytes.now old new c.in-Ok.outs can passed)
+
+pub returns-in-Ok-clause-row : goal.returns-in-Ok-clause-row
+returns-in-Ok-clause-row g c =
+    let inside = c.self.inside in
+    let old : ServerRunning g.row.D.Denot = record { memory = inside.memory; store = inside.store; armed = armed_seen inside.armed } in
+    let new : ServerRunning g.row.D.Denot = record { memory = c.handle.new.self; store = c.handle.new.store; armed = armed_seen c.lowered-self-inside.result } in
+    let e = c.in-Ok.ensures in
+    let d = decides inside.store.node (server_seen inside.memory inside.store) c.args.now (received_by calls_served c.args.bytes.now) in
+    let made : c.saturating_sub-made.result * 4 ≡ device_calls (server_seen inside.memory inside.store) c.args.now d = ap (λ (n : ℕ). n * 4) (c.saturating_sub-made.ensures ∙ (ap (λ (m : Mark). m.records - c.mark-before.result.records) c.mark.ensures.value ∙ ap (λ (m : Mark). new.store.count - m.records) c.mark-before.ensures.value))
+    ∙ made_calls (server_seen inside.memory inside.store) c.args.now d inside.store c.handle.new.store e.kept in
+    subst (λ (x : ServerRunning g.row.D.Denot). RunsRow x c.args.now c.args.bytes.now new (Ok c.in-Ok.outs)) c.self.view_is
+    (row_made c.args.now c.args.bytes.now old new c.in-Ok.outs e.step (c.lowered-self-inside.ensures ∙ ap (λ (n : ℕ). lowered n (armed_seen inside.armed)) made))
+
+pub returns-in-Err-OutOfMemory-clause-handled : goal.returns-in-Err-OutOfMemory-clause-handled
+returns-in-Err-OutOfMemory-clause-handled g c =
+    let inside = c.self.inside in
+    let old : ServerRunning g.row.D.Denot = record { memory = inside.memory; store = inside.store; armed = armed_seen inside.armed } in
+    let new : ServerRunning g.row.D.Denot = record { memory = c.handle.new.self; store = c.handle.new.store; armed = armed_seen inside.armed } in
+    let can = subst CanRun (sym c.self.view_is) c.requires.can_run in
+    let s = server_seen inside.memory inside.store in
+    let found = received_by calls_served c.args.bytes.now in
+    let e = c.in-Err-OutOfMemory.ensures in
+    let same = subst (λ (f : NodeFault). Handles (server_row inside.store.node s c.args.now 0 found) (lines.Given 0 ∷ []) inside.memory c.handle.new.self inside.store c.handle.new.store (Err f)) c.in-Err-OutOfMemory.field-0-is (e.step 0) in
+    let decided = record_decided inside.store.durable.boot c.args.now (decides inside.store.node s c.args.now found) in
+    let quiet = e.quiet (subst (λ (f : NodeFault). IsQuiet decided (Err f)) (sym c.in-Err-OutOfMemory.field-0-is) (quiet_then Outs decided)) in
+    let stop = ap (λ (x : Setting). x.stop) quiet.1.same_setting in
+    let fail = ap (λ (x : Setting). x.fail) quiet.1.same_setting in
+    subst (λ (x : ServerRunning g.row.D.Denot). IsHandled g.D.Disk.seen g.D.Disk.left_by g.D.Disk.size g.D.Disk.may_leave g.D.Disk.moment g.D.Disk.left_since g.D.Disk.faults g.D.Disk.limit x c.args.now (received c.args.bytes.now) new (Err nodes.OutOfMemory)) c.self.view_is (
+      record {
+        memory = same.0;
+        armed = refl;
+        store = same.1;
+        calls = quiet.1.same_calls;
+        disk = record {
+          same_seen = quiet.0.same_seen;
+          same_picks = quiet.0.same_picks;
+          same_size = quiet.0.same_size;
+          leaves = quiet.0.leaves;
+          left = quiet.0.left;
+          same_moment = quiet.0.same_moment;
+          since = quiet.0.since;
+          was = quiet.0.was;
+        };
+      },
+      same_goes_on old new can same.0 refl same.1 stop fail quiet.1.same_calls,
+    )
+
+pub returns-in-Err-Down-clause-handled : goal.returns-in-Err-Down-clause-handled
+returns-in-Err-Down-clause-handled g c =
+    let inside = c.self.inside in
+    let old : ServerRunning g.row.D.Denot = record { memory = inside.memory; store = inside.store; armed = armed_seen inside.armed } in
+    let new : ServerRunning g.row.D.Denot = record { memory = c.handle.new.self; store = c.handle.new.store; armed = armed_seen inside.armed } in
+    let can = subst CanRun (sym c.self.view_is) c.requires.can_run in
+    let s = server_seen inside.memory inside.store in
+    let found = received_by calls_served c.args.bytes.now in
+    let e = c.in-Err-Down.ensures in
+    let is = c.in-Err-Down.field-0-is in
+    let closed = subst (λ (f : NodeFault). Handles (server_row inside.store.node s c.args.now 0 found) (lines.Given 0 ∷ []) inside.memory c.handle.new.self inside.store c.handle.new.store (Err f)) is (e.step 0) in
+    let decided = record_decided inside.store.durable.boot c.args.now (decides inside.store.node s c.args.now found) in
+    let written : (r : StoreRecord) → decided ≡ Some r → IsWritten {T = Outs} r decided (Err c.in-Err-Down.field-0) = λ r w. subst (λ (f : NodeFault). IsWritten {T = Outs} r decided (Err f)) (sym is) w in
+    let err : IsErrOf {T = Outs} {E = NodeFault} (Err c.in-Err-Down.field-0) nodes.Down = ap (λ (f : NodeFault). Err f) is in
+    let some = e.down err in
+    let ended : Ended g.D.Disk.seen g.D.Disk.may_leave g.D.Disk.moment g.D.Disk.left_since c.args.now found old inside.store.disk.disk c.handle.new.store.disk.disk = record {
+      kept = c.mark-before.ensures.kept can.up;
+      counted = c.mark-before.ensures.counted can.up;
+      some = some;
+      left = λ r w. e.interrupted err r w;
+      around = λ r w bytes seen.
+          let only = e.any_moment r (written r w) bytes seen in
+          record { later = only.later; each = only.each; before = only.before };
+      fits = λ r w. e.fits r (written r w);
+      effects = λ r w. e.effects r (written r w);
+      told = e.told.0;
+    } in
+    subst (λ (x : ServerRunning g.row.D.Denot). IsHandled g.D.Disk.seen g.D.Disk.left_by g.D.Disk.size g.D.Disk.may_leave g.D.Disk.moment g.D.Disk.left_since g.D.Disk.faults g.D.Disk.limit x c.args.now (received c.args.bytes.now) new (Err nodes.Down)) c.self.view_is
+    (record {
+      armed = refl;
+      closed = closed;
+      lies = λ m b whole told x left.
+          ended_lies g.D.Disk.seen g.D.Disk.may_leave g.D.Disk.moment g.D.Disk.left_since g.met.D.Disk.counts_now c.args.now found old inside.store.disk.disk c.handle.new.store.disk.disk ended m (e.found m whole) b told x left;
+      reached = e.reached err;
+      left = λ m b whole told trips pick x left.
+          ended_left g.D.Disk.seen g.D.Disk.left_by g.D.Disk.may_leave g.D.Disk.moment g.D.Disk.left_since g.met.D.Disk.counts_now g.met.D.Disk.leaves c.args.now found old inside.store.disk.disk c.handle.new.store.disk.disk ended m (e.found m whole) b told
+          (c.handle.new.store.disk.calls - inside.store.disk.calls) (λ r w bytes seen. e.left err r w bytes seen trips) pick x left;
+      saves = λ m whole. ap (device_calls s c.args.now) (sym (same_row inside.store.node s c.args.now m found (e.found m whole)).decision) ∙ saves_calls s c.args.now (decides inside.store.node s c.args.now found) some;
+      few = e.most.1;
+      stop = ap (λ (x : Setting). x.stop) e.setting;
+      fail = ap (λ (x : Setting). x.fail) e.setting;
+      cause = (e.ran.down err).1;
+      capacity = c.mark-before.ensures.capacity ∙ sym e.limit;
+    })
+
+pub returns-in-Err-Down-clause-row : goal.returns-in-Err-Down-clause-row
+returns-in-Err-Down-clause-row g c =
+    let inside = c.self.inside in
+    let e = c.in-Err-Down.ensures in
+    let err : IsErrOf {T = Outs} {E = NodeFault} (Err c.in-Err-Down.field-0) nodes.Down = ap (λ (f : NodeFault). Err f) c.in-Err-Down.field-0-is in
+    let of = message_of inside.store.node (server_seen inside.memory inside.store) inside.store.durable.boot c.args.now (received_by calls_served c.args.bytes.now) (e.down err) in
+    (of.0, stands_there c.args.bytes.now of.0 of.1)

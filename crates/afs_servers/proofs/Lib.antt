@@ -1,0 +1,4 @@
+mod Falling
+mod Lifted
+mod Picked
+mod Seats

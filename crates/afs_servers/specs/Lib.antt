@@ -1,0 +1,4 @@
+pub mod Happening
+pub mod Hearing
+pub mod Picks
+pub mod Ready

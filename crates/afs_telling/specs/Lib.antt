@@ -1,0 +1,3 @@
+pub mod Behind
+pub mod Outside
+pub mod Parts
