@@ -116,6 +116,25 @@ pub enum Line {
         client: Node,
         number: u32,
     },
+    /// The location database has locked the volume's entry under this stamp, for this operation.
+    Locked {
+        volume: u32,
+        stamp: u32,
+        operation: u32,
+    },
+    /// The volume's entry has no lock any more, or is gone.
+    Unlocked {
+        volume: u32,
+    },
+    /// A recovery of the volume is done: the lock that goes was taken by force.
+    Recovered {
+        volume: u32,
+    },
+    /// The location database says now that the read-write volume is at this server.
+    Located {
+        volume: u32,
+        server: Node,
+    },
     /// Nothing happened.
     Void,
 }

@@ -1,5 +1,5 @@
 -- What becomes of a cell with an input to one of its servers is that server's step, put into the cell.
-use Rattle.std.specs.Prelude.{◌≡◌, ℕ, Bool, true, Option, Some, None, cond}
+use Rattle.std.specs.Prelude.{◌≡◌, ℕ, zero, suc, Bool, true, Option, Some, None, cond}
 use Rattle.std.proofs.Common.{ap, ◌∙◌}
 use Rattle.afs_num.specs.declared.messages.Message.{Message}
 use Rattle.afs_num.specs.declared.types.Node.{Node}
@@ -34,21 +34,25 @@ moved_woken c i has up = there c i _ has ∙ ap (server_wakes c i) up
 -- it crashes
 pub moved_crashed : (c : Cell) (i : ℕ) → has_host c i ≡ true → (c.hosts i).down ≡ None → moved c (stops i) ≡ placed c i (crashed (server_kind (Server i)) (c.hosts i))
 unfolding moved
-moved_crashed c i has up = there c i _ has ∙ ap (server_stopped c i) up
+moved_crashed c zero has up = absurd cc
+moved_crashed c (suc i) has up = there c (suc i) _ has ∙ ap (server_stopped c (suc i)) up
 
 -- its disk is set
 pub moved_set_to_stop : (c : Cell) (i calls pick : ℕ) → has_host c i ≡ true → (c.hosts i).down ≡ None →
     moved c (sets_stop i calls pick) ≡ placed c i (set_to_stop (server_kind (Server i)) (c.hosts i) calls pick)
 unfolding moved
-moved_set_to_stop c i calls pick has up = there c i _ has ∙ ap (server_armed c i (set_to_stop (server_kind (Server i)) (c.hosts i) calls pick)) up
+moved_set_to_stop c zero calls pick has up = absurd cc
+moved_set_to_stop c (suc i) calls pick has up = there c (suc i) _ has ∙ ap (server_armed c (suc i) (set_to_stop (server_kind (Server (suc i))) (c.hosts (suc i)) calls pick)) up
 
 pub moved_set_to_fail : (c : Cell) (i call : ℕ) → has_host c i ≡ true → (c.hosts i).down ≡ None →
     moved c (sets_fail i call) ≡ placed c i (set_to_fail (server_kind (Server i)) (c.hosts i) call)
 unfolding moved
-moved_set_to_fail c i call has up = there c i _ has ∙ ap (server_armed c i (set_to_fail (server_kind (Server i)) (c.hosts i) call)) up
+moved_set_to_fail c zero call has up = absurd cc
+moved_set_to_fail c (suc i) call has up = there c (suc i) _ has ∙ ap (server_armed c (suc i) (set_to_fail (server_kind (Server (suc i))) (c.hosts (suc i)) call)) up
 
 -- it begins again
 pub moved_restarted : (c : Cell) (i : ℕ) (after : Bool) (outcome : Outcome) (fall : Fall) → has_host c i ≡ true → (c.hosts i).down ≡ Some fall →
     moved c (starts_again i after outcome) ≡ placed c i (restarted (server_kind (Server i)) (c.hosts i) c.clock c.count after outcome fall)
 unfolding moved
-moved_restarted c i after outcome fall has down = there c i _ has ∙ ap (server_restarted c i after outcome) down
+moved_restarted c zero after outcome fall has down = absurd cc
+moved_restarted c (suc i) after outcome fall has down = there c (suc i) _ has ∙ ap (server_restarted c (suc i) after outcome) down

@@ -319,6 +319,7 @@ homes_moves s = record {
   waited = λ c past n act h r. client_homes s c past n _ (h.0.0.0.0.1.table n) (h.0.0.0.0.1.acts n) h.1 (waits_acts n (c.clients n) act r) (waits_follow n (c.clients n) act (h.0.1 n).0);
   fallen = λ c past n h. client_homes s c past n _ (h.0.0.0.0.1.table n) (h.0.0.0.0.1.acts n) h.1 (falls_acts n (c.clients n)) (falls_follow n (c.clients n));
   risen = λ c past n h. client_homes s c past n _ (h.0.0.0.0.1.table n) (h.0.0.0.0.1.acts n) h.1 (rises_acts n (c.clients n)) (rises_follow n (c.clients n) (h.0.1 n).0);
+  loc = λ c past l ls h st. h.1;
   served = λ c past i place m armed h up at to. server_homes s c past _ h.1 (served_uncalled c past i place m h.0.0.0.0.0 at);
   cut = λ c past i place m t h up at to. h.1;
   stopped = λ c past i h up. h.1;

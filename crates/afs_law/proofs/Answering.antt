@@ -173,6 +173,7 @@ takes_moves s = record {
   waited = λ c past n act h r. ungiven_takes s n past (timeout_row (Client n) (c.clients n) act).lines (waited_ungiven (Client n) (c.clients n) act);
   fallen = λ c past n h. ungiven_takes s n past (lines.Crash (Client n) ∷ []) refl;
   risen = λ c past n h. ungiven_takes s n past (lines.Restart (Client n) (c.clients n).epoch ∷ []) refl;
+  loc = λ c past l ls h st. tt;
   served = λ c past i place m armed h up at to. tt;
   cut = λ c past i place m t h up at to. tt;
   stopped = λ c past i h up. tt;

@@ -1,6 +1,6 @@
 -- The versions of an object ascend, and its server holds the last one, however many servers a cell has.
 use Rattle.afs_law.proofs.Walking.{onto_last}
-use Rattle.afs_law.proofs.Ideals.{at_home, AreBlank, Held, IsCalled, VolumesIn, blank_by, blank_last, blow_blank, cut_by, cut_call, from_blank, held_kept, is_blank, of_blank, own_from, saved_at, volumes_first, volumes_moves}
+use Rattle.afs_law.proofs.Ideals.{at_home, AreBlank, Held, IsCalled, VolumesIn, blank_by, blank_last, blow_blank, cut_by, cut_call, from_blank, held_kept, is_blank, of_blank, own_from, saved_at, volumes_first, volumes_moves, loc_blank}
 use Rattle.afs_law.proofs.Loading.{onto_both}
 use Rattle.afs_history.specs.declared.lines.Line.{Line}
 use Rattle.afs_history.specs.declared.lines.Line.TheVariants as lines
@@ -112,6 +112,7 @@ ascend_moves s = record {
   waited = λ c past n act h r. acts_ascend past n (timeout_row (Client n) (c.clients n) act).lines h.1 (waits_acts n (c.clients n) act r).of;
   fallen = λ c past n h. blank_ascend (lines.Crash (Client n) ∷ []) (lines_of past) refl h.1;
   risen = λ c past n h. blank_ascend (lines.Restart (Client n) (c.clients n).epoch ∷ []) (lines_of past) refl h.1;
+  loc = λ c past l ls h st. blank_ascend ls (lines_of past) (loc_blank ls st.lines) h.1;
   served = λ c past i place m armed h up at to. works_ascend s c past i _ _ h (serves_works (IsCalled c.sent) (Server i) (c.hosts i).state c.clock place m (λ rest. each_at (IfCall (IsOne c.sent)) c.sent place m at h.0.0.1.ones));
   cut = λ c past i place m t h up at to. blank_ascend (lines.Given place ∷ blow_line i t.stops ∷ []) (lines_of past) (blow_blank i place t.stops) h.1;
   stopped = λ c past i h up. blank_ascend (lines.Crash (Server i) ∷ []) (lines_of past) refl h.1;

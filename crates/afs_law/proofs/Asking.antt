@@ -63,6 +63,7 @@ asks_moves s = record {
   waited = λ c past n act h r. client_now c n _ (waits_acts n (c.clients n) act r);
   fallen = λ c past n h. client_now c n _ (falls_acts n (c.clients n));
   risen = λ c past n h. client_now c n _ (rises_acts n (c.clients n));
+  loc = λ c past l ls h st. tt;
   served = λ c past i place m armed h up at to. none_now c _ (served_uncalled c past i place m h.0 at);
   cut = λ c past i place m t h up at to. tt;
   stopped = λ c past i h up. tt;

@@ -17,7 +17,7 @@ use Rattle.afs_law.proofs.Knowing.{Known, served_uncalled, started_uncalled, tim
 use Rattle.afs_law.proofs.Learning.{any_call}
 use Rattle.afs_law.proofs.Lives.{begun_alive, told_alive, versions_alive, waited_alive}
 use Rattle.afs_law.proofs.Moving.{EachMove, IsKept, each_moved}
-use Rattle.afs_law.proofs.Origins.{KnownAsked, any_cut, any_message, asked_first, asked_kept, blow_idle, idle_works, is_idle, of_client, other_node, server_apart}
+use Rattle.afs_law.proofs.Origins.{KnownAsked, any_cut, any_message, asked_first, asked_kept, blow_idle, idle_works, is_idle, of_client, other_node, server_apart, loc_idle}
 use Rattle.afs_law.proofs.SettingUp.{all_versions, given_first}
 use Rattle.afs_law.proofs.Timing.{given_has}
 use Rattle.afs_law.proofs.Unanswered.{IsApart, apart, one_client}
@@ -38,7 +38,7 @@ use Rattle.afs_num.specs.declared.types.Node.TheVariants.{Client, Server}
 use Rattle.afs_rows.specs.Callbacks.{put}
 use Rattle.afs_rows.specs.ClientRow.{awaits, begin_row, boot_of, boot_or_first, client_row, counts, hears, ignores, is_awaited, reborn, timeout_row, with_boot}
 use Rattle.afs_rows.specs.Going.{ClientState, Going}
-use Rattle.afs_law.proofs.Steps.{blow_line, server_falls, server_moves, server_rises, server_set, server_stays}
+use Rattle.afs_law.proofs.Steps.{blow_line, server_falls, server_moves, server_rises, server_set, server_stays, loc_becomes}
 use Rattle.afs_rows.specs.Runs.{Cell, Entry, Input, Moved, at_rest, begun_by_disk, in_boot, in_step, message_at, moved, start, ticked, voided}
 use Rattle.afs_rows.specs.ServerSteps.{back_timeout_row, server_row, wake_row}
 use Rattle.afs_rows.specs.States.{KnownBoot}
@@ -257,6 +257,7 @@ booted_moves s = record {
   fallen = λ c past n h d. client_booted s c past n (record { state = reborn (c.clients n); lines = lines.Crash (Client n) ∷ []; sent = [] }) _ h refl refl (falls_acts n (c.clients n)) (fallen_knows s c past n) tt d;
   risen = λ c past n h d. (let x : ClientState = c.clients n in let st : Step ClientState = record { state = x; lines = lines.Restart (Client n) x.epoch ∷ []; sent = [] } in
       client_booted s c past n st _ h refl refl (rises_acts n x) (unnoted_knows s n x x (of_client n st) past (ungiven_unnoted s n (of_client n st) past refl) refl (λ q. refl) (h.1 n)) tt d);
+  loc = λ c past l ls h st d. idle_booted s c past (loc_becomes c l ls) h refl (λ j e. absurd cc) (loc_idle ls st.lines) tt d;
   served = λ c past i place m armed h up at to d. idle_booted s c past (server_moves c i armed (server_row (Server i) (c.hosts i).state c.clock place (Whole m))) h refl (no_client i) (idle_works any_message i (c.hosts i).state _ _ (serves_works any_message (Server i) (c.hosts i).state c.clock place m (λ rest. tt))) (served_uncalled c past i place m h.0.0 at) d;
   cut = λ c past i place m t h up at to d. idle_booted s c past (server_falls c i (lines.Given place ∷ blow_line i t.stops ∷ []) (in_step m c.clock t)) h refl (no_client i) (blow_idle i t.stops) tt d;
   stopped = λ c past i h up d. idle_booted s c past (server_falls c i (lines.Crash (Server i) ∷ []) at_rest) h refl (no_client i) refl tt d;

@@ -21,7 +21,7 @@ use Rattle.afs_law.proofs.KeysOnce.{IsKnown, any_told, by_key}
 use Rattle.afs_law.proofs.Looking.{AreLooks, walked_looks}
 use Rattle.afs_law.proofs.Moving.{EachMove, IsKept, each_moved}
 use Rattle.afs_law.proofs.Nexts.{as_changed}
-use Rattle.afs_law.proofs.Origins.{any_cut, any_message, blow_idle, idle_works, is_idle, of_client, other_node, server_apart}
+use Rattle.afs_law.proofs.Origins.{any_cut, any_message, blow_idle, idle_works, is_idle, of_client, other_node, server_apart, loc_idle}
 use Rattle.afs_law.proofs.Sent.{call_is}
 use Rattle.afs_law.proofs.Walking.{looked_more, walked_found}
 use Rattle.afs_law.proofs.Words.{AreApart}
@@ -60,11 +60,11 @@ use Rattle.afs_num.specs.declared.types.Code.{Code}
 use Rattle.afs_num.specs.declared.types.Fid.{Fid}
 use Rattle.afs_num.specs.declared.types.Head.{Head}
 use Rattle.afs_num.specs.declared.types.Node.{Node}
-use Rattle.afs_num.specs.declared.types.Node.TheVariants.{Client, Server}
+use Rattle.afs_num.specs.declared.types.Node.TheVariants.{Client, Server, Loc}
 use Rattle.afs_rows.specs.Callbacks.{put}
 use Rattle.afs_rows.specs.ClientRow.{Look, Walked, admits_call, awaits, begin_row, begins_by, behind_batch, body_kept, body_seen, body_told, breaks, call_of, client_row, counts, dead_code, drop_line, dropped, dropped_after, ended, entries_told, entry_told, find_cached, gift_of, given, given_up_in, gives_by, gives_up, goes_by, hears, ignores, in_order, is_awaited, is_below, is_busy_code, is_named, is_older, is_spent, is_trusted, left_after, left_in, look_at, looked, most_busy, most_reads, put_entries, put_entry, read_lines, refreshed, runs_carried, shown_by, status_look, status_told, takes, takes_bulk, takes_data, takes_entries, takes_entry, takes_given, takes_list, takes_set, takes_shown, takes_status, timeout_line, timeout_row, tries_again, trusted_in, untrusted_in, walked, walks_on, whole, with_statuses, zero_code}
 use Rattle.afs_rows.specs.Going.{ClientState, Going, Need, answers, asked, asks_for, began, gives_back, next, reads, reads_rights, reads_status, reads_statuses, with_read}
-use Rattle.afs_law.proofs.Steps.{blow_line, server_falls, server_moves, server_rises, server_set, server_stays}
+use Rattle.afs_law.proofs.Steps.{blow_line, server_falls, server_moves, server_rises, server_set, server_stays, loc_becomes}
 use Rattle.afs_rows.specs.Runs.{Cell, Entry, Moved, at_rest, begun_by_disk, in_boot, in_step, message_at, start, ticked, voided}
 use Rattle.afs_rows.specs.Scopes.{is_in_scope}
 use Rattle.afs_rows.specs.ServerSteps.{back_timeout_row, server_row, wake_row}
@@ -814,6 +814,7 @@ brought_moves s = record {
   waited = λ c past n act h r. (let k = waits_carry s n (c.clients n) act past (now_at s c past n h) r in record { had = client_done s c past n _ h (waits_acts n (c.clients n) act r) k; told = k.told });
   fallen = λ c past n h. record { had = own_had s c past n _ h (falls_acts n (c.clients n)) (λ f e x. absurd cc); told = (tt, tt) };
   risen = λ c past n h. record { had = own_had s c past n _ h (rises_acts n (c.clients n)) (h.1 n); told = (tt, tt) };
+  loc = λ c past l ls h st. record { had = idle_had s c past (loc_becomes c l ls).entry h (loc_idle ls st.lines); told = idle_told s (actors.Node Loc) past [] ls (loc_idle ls st.lines) };
   served = λ c past i place m armed h up at to. (let z = idle_works any_message i (c.hosts i).state _ _ (serves_works any_message (Server i) (c.hosts i).state c.clock place m (λ rest. tt)) in record { had = idle_had s c past (server_moves c i armed (server_row (Server i) (c.hosts i).state c.clock place (Whole m))).entry h z; told = idle_told s (actors.Node (Server i)) past [] _ z });
   cut = λ c past i place m t h up at to. record { had = idle_had s c past (server_falls c i (lines.Given place ∷ blow_line i t.stops ∷ []) (in_step m c.clock t)).entry h (blow_idle i t.stops); told = idle_told s (actors.Node (Server i)) past [] (lines.Given place ∷ blow_line i t.stops ∷ []) (blow_idle i t.stops) };
   stopped = λ c past i h up. record { had = idle_had s c past (server_falls c i (lines.Crash (Server i) ∷ []) at_rest).entry h refl; told = (tt, tt) };

@@ -11,7 +11,7 @@ use Rattle.afs_law.proofs.Choosing.{Saves, Works, disk_works, is_from, risen_fro
 use Rattle.afs_law.proofs.Cutting.{CutOf, CutsIn, KnownCuts, comes_first, cuts_moves, now_up}
 use Rattle.afs_law.proofs.Edits.{on_top}
 use Rattle.afs_law.proofs.Words.{IsOne, Origin}
-use Rattle.afs_law.proofs.Ideals.{AreBlank, CutIs, Held, IsCalled, IsSent, Saved, blank_by, blank_key, blow_blank, cut_by, found_volume, from_blank, held_kept, is_blank, no_more, of_blank, of_this, own_from, saved_at, volumes_first}
+use Rattle.afs_law.proofs.Ideals.{AreBlank, CutIs, Held, IsCalled, IsSent, Saved, blank_by, blank_key, blow_blank, cut_by, found_volume, from_blank, held_kept, is_blank, no_more, of_blank, of_this, own_from, saved_at, volumes_first, loc_blank}
 use Rattle.afs_law.proofs.KeysOnce.{HasRun, IsKnown, any_told, by_key, latest_by, new_key, not_run}
 use Rattle.afs_law.proofs.SettingUp.{any_home}
 use Rattle.afs_law.proofs.Moving.{Behind, EachMove, IsKept, each_moved}
@@ -32,7 +32,7 @@ use Rattle.afs_num.specs.declared.messages.Message.{Message}
 use Rattle.afs_num.specs.declared.types.Head.{Head}
 use Rattle.afs_num.specs.declared.types.Key.{Key}
 use Rattle.afs_num.specs.declared.types.Node.{Node}
-use Rattle.afs_num.specs.declared.types.Node.TheVariants.{Server}
+use Rattle.afs_num.specs.declared.types.Node.TheVariants.{Server, Loc}
 use Rattle.afs_records.specs.Durable.{Stored}
 use Rattle.afs_law.proofs.Steps.{blow_line}
 use Rattle.afs_rows.specs.Steps.{Begun}
@@ -253,6 +253,7 @@ ideal_moves s = record {
   waited = λ c past n act h r. acts_ideal s c past n _ _ (waits_acts n (c.clients n) act r).of;
   fallen = λ c past n h. (tt, tt);
   risen = λ c past n h. (tt, tt);
+  loc = λ c past l ls h st. all_blank s (actors.Node Loc) past [] ls (loc_blank ls st.lines);
   served = λ c past i place m armed h up at to. works_ideal s c past i _ _ h.0 (serves_works (IsPlaced c past i) (Server i) (c.hosts i).state c.clock place m (λ rest. ((place, at), inl (record { place = place; front' = refl; at = at; up = up }))));
   cut = λ c past i place m t h up at to. all_blank s (actors.Node (Server i)) past [] (lines.Given place ∷ blow_line i t.stops ∷ []) (blow_blank i place t.stops);
   stopped = λ c past i h up. (tt, tt);

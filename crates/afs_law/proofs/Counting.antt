@@ -9,7 +9,7 @@ use Rattle.afs_law.proofs.Firm.{IsFirm}
 use Rattle.afs_law.proofs.Following.{Follows, begins_follow, falls_follow, given_follow, none_runs, rises_follow, waits_follow}
 use Rattle.afs_law.proofs.KeysOnce.{IsKnown, any_told, by_key}
 use Rattle.afs_law.proofs.Moving.{Behind, EachMove, IsKept, each_moved}
-use Rattle.afs_law.proofs.Origins.{any_cut, any_message, blow_idle, idle_leaves, idle_works, is_idle, of_client, other_leaves}
+use Rattle.afs_law.proofs.Origins.{any_cut, any_message, blow_idle, idle_leaves, idle_works, is_idle, of_client, other_leaves, loc_idle}
 use Rattle.afs_law.proofs.Timing.{GivenTimed, IsUntimed, Timed, begun_times, not_next, timed_first, timed_kept, told_times}
 use Rattle.afs_law.specs.Breaks.{HasTimeout}
 use Rattle.afs_law.specs.Ideal.{set_up}
@@ -22,7 +22,7 @@ use Rattle.afs_history.specs.declared.lines.Line.TheVariants as lines
 use Rattle.afs_rows.specs.Callbacks.{put}
 use Rattle.afs_rows.specs.ClientRow.{begin_row, call_of, client_row, gives_up, timeout_row, tries_again}
 use Rattle.afs_rows.specs.Going.{ClientState, Going}
-use Rattle.afs_law.proofs.Steps.{blow_line, server_falls, server_moves, server_rises, server_set, server_stays}
+use Rattle.afs_law.proofs.Steps.{blow_line, server_falls, server_moves, server_rises, server_set, server_stays, loc_becomes}
 use Rattle.afs_rows.specs.Runs.{Cell, Entry, at_rest, begun_by_disk, in_boot, in_step, start, ticked, voided}
 use Rattle.afs_rows.specs.ServerSteps.{back_timeout_row, server_row, wake_row}
 use Rattle.afs_rows.specs.Steps.{Step}
@@ -98,6 +98,7 @@ counted_moves s = record {
   waited = λ c past n act h r. client_counted s c past n _ h (waits_acts n (c.clients n) act r) (waits_follow n (c.clients n) act (h.0.0.0.0.1 n).0) (row_counts n (c.clients n) act);
   fallen = λ c past n h. client_counted s c past n _ h (falls_acts n (c.clients n)) (falls_follow n (c.clients n)) (λ q e k i o x. inl x);
   risen = λ c past n h. client_counted s c past n _ h (rises_acts n (c.clients n)) (rises_follow n (c.clients n) (h.0.0.0.0.1 n).0) (λ q e k i o x. inl x);
+  loc = λ c past l ls h st. idle_counted s c past (loc_becomes c l ls).entry h.1 (loc_idle ls st.lines);
   served = λ c past i place m armed h up at to. idle_counted s c past (server_moves c i armed (server_row (Server i) (c.hosts i).state c.clock place (Whole m))).entry h.1 (idle_works any_message i (c.hosts i).state _ _ (serves_works any_message (Server i) (c.hosts i).state c.clock place m (λ rest. tt)));
   cut = λ c past i place m t h up at to. idle_counted s c past (server_falls c i (lines.Given place ∷ blow_line i t.stops ∷ []) (in_step m c.clock t)).entry h.1 (blow_idle i t.stops);
   stopped = λ c past i h up. idle_counted s c past (server_falls c i (lines.Crash (Server i) ∷ []) at_rest).entry h.1 refl;

@@ -17,7 +17,7 @@ use Rattle.afs_model.specs.Calls.{admitted, call_seat}
 use Rattle.afs_num.specs.declared.histories.Actor.TheVariants as actors
 use Rattle.afs_num.specs.declared.messages.Message.{Message}
 use Rattle.afs_num.specs.declared.types.Node.{Node}
-use Rattle.afs_num.specs.declared.types.Node.TheVariants.{Client, Server}
+use Rattle.afs_num.specs.declared.types.Node.TheVariants.{Client, Server, Loc}
 use Rattle.afs_rows.specs.Callbacks.{put}
 use Rattle.afs_law.proofs.Steps.{blow_line, server_falls}
 use Rattle.afs_rows.specs.Runs.{Blow, Cell, Entry, Fall, in_step, message_at, ServerHost}
@@ -113,6 +113,9 @@ cut_here c past i place m t e K up at actor ls = record {
 abbrev pub KnownCuts : Cell → List Entry → Type 0
 KnownCuts c past = Known c past × CutsIn c past
 
+no_loc : (i : ℕ) → actors.Node Loc ≡ actors.Node (Server i) → ⊥
+no_loc i e = absurd cc
+
 pub cuts_moves : EachMove KnownCuts (Behind CutsIn)
 cuts_moves = record {
   void = λ c past h. other_cuts c.hosts past _ nobody h.1;
@@ -122,6 +125,7 @@ cuts_moves = record {
   waited = λ c past n act h r. other_cuts c.hosts past _ (no_client n) h.1;
   fallen = λ c past n h. other_cuts c.hosts past _ (no_client n) h.1;
   risen = λ c past n h. other_cuts c.hosts past _ (no_client n) h.1;
+  loc = λ c past l ls h st. other_cuts c.hosts past _ no_loc h.1;
   served = λ c past i place m armed h up at to. host_cuts c.hosts i _ past _ refl h.1 (λ k clock hit e. absurd cc);
   cut = λ c past i place m t h up at to. host_cuts c.hosts i _ past _ refl h.1 (λ k clock hit e. subst (λ (y : Message). CutOf i (c.hosts i).state y ((server_falls c i (lines.Given place ∷ blow_line i t.stops ∷ []) (in_step m c.clock t)).entry ∷ past)) (same_cut m k c.clock clock t hit e) (cut_here c past i place m t.stops (server_falls c i (lines.Given place ∷ blow_line i t.stops ∷ []) (in_step m c.clock t)).entry h.0 up at refl refl));
   stopped = λ c past i h up. host_cuts c.hosts i _ past _ refl h.1 (λ k clock hit e. absurd cc);

@@ -1,4 +1,5 @@
 -- What an entry of a run is given was sent before, to its node, however many servers a cell has.
+use Rattle.afs_law.proofs.LocLines.{is_of_loc}
 use Rattle.afs_breaks.specs.declared.types.OwedBreak.{OwedBreak}
 use Rattle.afs_history.specs.declared.acts.Act.{Act}
 use Rattle.afs_history.specs.declared.lines.Line.{Line}
@@ -26,7 +27,7 @@ use Rattle.afs_num.specs.declared.types.Node.TheVariants.{Client, Server}
 use Rattle.afs_rows.specs.Callbacks.{expired, owe_line, quit_line, quits, retries, risen_turn, still_owed}
 use Rattle.afs_rows.specs.ClientRow.{Look, Walked, begin_row, begins_by, call_of, client_row, dead_code, dropped, gift_of, given_up_in, gives_by, gives_up, goes_by, in_order, looked, most_reads, timeout_row, tries_again, trusted_in, untrusted_in, walked}
 use Rattle.afs_rows.specs.Going.{ClientState, Going, Need, answers, began, gives_back, next}
-use Rattle.afs_law.proofs.Steps.{blow_line, server_falls, server_moves, server_rises, server_set, server_stays}
+use Rattle.afs_law.proofs.Steps.{blow_line, server_falls, server_moves, server_rises, server_set, server_stays, loc_becomes}
 use Rattle.afs_rows.specs.Runs.{Cell, Entry, Fall, Moved, RunsTo, at_rest, begun_by_disk, client_falls, client_moves, client_rises, in_boot, message_at, start, ticked, voided}
 use Rattle.afs_rows.specs.ServerSteps.{back_timeout_row, server_row, start_row, wake_row}
 use Rattle.afs_rows.specs.States.{BackCall, Backs, CacheEntry, Gift, ServerState}
@@ -122,6 +123,11 @@ DeliveredStep c past m = IsDelivered m.entry.actor past m.entry.lines
 ungiven_step : (past : List Entry) (m : Moved) → Ungiven m.entry.lines → IsDelivered m.entry.actor past m.entry.lines
 ungiven_step past m none = ungiven_delivered m.entry.actor past m.entry.lines none
 
+loc_ungiven : (ls : List Line) → all_lines is_of_loc ls ≡ true → Ungiven ls
+loc_ungiven [] h = refl
+loc_ungiven (lines.Given place ∷ ls) h = absurd cc
+loc_ungiven (l ∷ ls) h = loc_ungiven ls (both (is_of_loc l) (all_lines is_of_loc ls) h).1
+
 pub delivered_moves : EachMove Known DeliveredStep
 delivered_moves = record {
   void = λ c past h. ungiven_step past (voided c) refl;
@@ -131,6 +137,7 @@ delivered_moves = record {
   waited = λ c past n act h r. ungiven_step past (client_moves c n (timeout_row (Client n) (c.clients n) act)) (waited_ungiven (Client n) (c.clients n) act);
   fallen = λ c past n h. ungiven_step past (client_falls c n) refl;
   risen = λ c past n h. ungiven_step past (client_rises c n) refl;
+  loc = λ c past l ls h st. ungiven_step past (loc_becomes c l ls) (loc_ungiven ls st.lines);
   served = λ c past i place m armed h up at to. given_delivered (Server i) past (server_row (Server i) (c.hosts i).state c.clock place (Whole m)).lines m (served_given i (c.hosts i).state c.clock place m (sent_of past) ∙ (ap (λ (ms : List Message). message_at ms place) h.hears.told ∙ at)) to;
   cut = λ c past i place m t h up at to. given_delivered (Server i) past (lines.Given place ∷ blow_line i t.stops ∷ []) m (ap (λ (ms : List Message). message_at ms place) h.hears.told ∙ at) to;
   stopped = λ c past i h up. ungiven_step past (server_falls c i (lines.Crash (Server i) ∷ []) at_rest) refl;

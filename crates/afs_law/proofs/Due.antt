@@ -18,7 +18,7 @@ use Rattle.afs_law.proofs.Firm.{IsFirm}
 use Rattle.afs_law.proofs.Following.{AreOpen}
 use Rattle.afs_law.proofs.Moving.{Behind, EachMove, IsKept, each_moved}
 use Rattle.afs_law.proofs.Nexts.{asks_change}
-use Rattle.afs_law.proofs.Origins.{AskedIn, any_cut, any_message, blow_idle, idle_works, is_idle}
+use Rattle.afs_law.proofs.Origins.{AskedIn, any_cut, any_message, blow_idle, idle_works, is_idle, loc_idle}
 use Rattle.afs_law.proofs.Ours.{AreNear, AreOurs, IsOurs, Ours, begins_our, given_our, near_all, none_trusted, trusted_ours', waits_our}
 use Rattle.afs_law.proofs.Passing.{sent_either}
 use Rattle.afs_law.proofs.Trying.{GivenWaits, Waits, waits_first, waits_kept}
@@ -60,7 +60,7 @@ use Rattle.afs_num.specs.declared.types.Fid.{Fid}
 use Rattle.afs_num.specs.declared.types.Head.{Head}
 use Rattle.afs_num.specs.declared.types.Key.{Key}
 use Rattle.afs_num.specs.declared.types.Node.{Node}
-use Rattle.afs_num.specs.declared.types.Node.TheVariants.{Client, Server}
+use Rattle.afs_num.specs.declared.types.Node.TheVariants.{Client, Server, Loc}
 use Rattle.afs_rows.specs.Callbacks.{put}
 use Rattle.afs_rows.specs.ClientRow.{Look, Walked, admits_call, awaits, begin_row, begins_by, behind_batch, body_seen, body_told, breaks, call_by, call_of, client_row, counts, dead_code, drop_line, dropped, dropped_after, entries_told, entry_told, find_cached, gift_of, given, given_up_in, gives_by, gives_up, goes_by, hears, ignores, in_order, is_awaited, is_below, is_busy_code, is_older, is_spent, is_trusted, look_at, looked, most_busy, most_reads, put_entries, put_entry, read_lines, reborn, runs_carried, server_at, shown_by, status_look, status_told, stays, takes, takes_bulk, takes_data, takes_entries, takes_entry, takes_given, takes_list, takes_set, takes_shown, takes_status, timeout_line, tries_again, trusted_in, untrusted_in, used_first, walked, walked_at, walked_by, walked_with, walks_on, whole, with_statuses, zero_code}
 use Rattle.afs_rows.specs.Going.{ClientState, Going, Need, answers, asks_for, began, call_for, gives_back, next, reads, reads_rights, reads_status, reads_statuses, with_read}
@@ -553,6 +553,7 @@ ours_moves s = record {
   waited = λ c past n act h r. client_ours s c past n _ h.1 (λ z. waits_our n (c.clients n) act (h.1 z n));
   fallen = λ c past n h. client_ours s c past n (reborn (c.clients n)) h.1 (λ z. record { cache = tt; callee = λ act e. absurd cc });
   risen = λ c past n h. client_ours s c past n (c.clients n) h.1 (λ z. h.1 z n);
+  loc = λ c past l ls h st. h.1;
   served = λ c past i place m armed h up at to. h.1;
   cut = λ c past i place m t h up at to. h.1;
   stopped = λ c past i h up. h.1;
@@ -604,6 +605,7 @@ due_moves s = record {
   waited = λ c past n act h r. waits_due s c past n act (nat_lt (c.clients n).tries 2) h.0.0.0.0.0.1 (h.0.1 n) r refl;
   fallen = λ c past n h. (tt, tt);
   risen = λ c past n h. (tt, tt);
+  loc = λ c past l ls h st. idle_due s (actors.Node Loc) past [] ls (loc_idle ls st.lines);
   served = λ c past i place m armed h up at to. works_due s i past _ (idle_works any_message i (c.hosts i).state _ _ (serves_works any_message (Server i) (c.hosts i).state c.clock place m (λ rest. tt)));
   cut = λ c past i place m t h up at to. works_due s i past (lines.Given place ∷ blow_line i t.stops ∷ []) (blow_idle i t.stops);
   stopped = λ c past i h up. (tt, tt);

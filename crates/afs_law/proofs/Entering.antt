@@ -40,6 +40,7 @@ none_laid = record {
   waited = λ c past n act h r. refl;
   fallen = λ c past n h. refl;
   risen = λ c past n h. refl;
+  loc = λ c past l ls h st. refl;
   served = λ c past i place m armed h up at to. refl;
   cut = λ c past i place m t h up at to. refl;
   stopped = λ c past i h up. refl;

@@ -11,7 +11,7 @@ use Rattle.afs_law.proofs.Firm.{IsFirm, IsSentBy}
 use Rattle.afs_law.proofs.Following.{Follows, IsSpared, begins_follow, falls_follow, given_follow, rises_follow, waits_follow}
 use Rattle.afs_law.proofs.KeysOnce.{IsKnown, any_told, by_key}
 use Rattle.afs_law.proofs.Moving.{Behind, EachMove, IsKept, each_moved}
-use Rattle.afs_law.proofs.Origins.{Leaves, any_cut, any_message, blow_idle, idle_leaves, idle_works, is_idle, of_client, other_leaves, the_calls}
+use Rattle.afs_law.proofs.Origins.{Leaves, any_cut, any_message, blow_idle, idle_leaves, idle_works, is_idle, of_client, other_leaves, the_calls, loc_idle}
 use Rattle.afs_law.proofs.Passing.{all_dropped_onto, own_gift}
 use Rattle.afs_law.proofs.Sending.{Posted, posted_first, posted_kept, rises_posts, served_posts, times_posts, wakes_posts}
 use Rattle.afs_law.specs.ClientParts.{GiftsAreDropped, IsFair}
@@ -31,7 +31,7 @@ use Rattle.afs_num.specs.declared.types.Node.{Node}
 use Rattle.afs_num.specs.declared.types.Node.TheVariants.{Client, Server}
 use Rattle.afs_rows.specs.Callbacks.{put}
 use Rattle.afs_rows.specs.Going.{ClientState}
-use Rattle.afs_law.proofs.Steps.{blow_line, server_falls, server_moves, server_rises, server_set, server_stays}
+use Rattle.afs_law.proofs.Steps.{blow_line, server_falls, server_moves, server_rises, server_set, server_stays, loc_becomes}
 use Rattle.afs_rows.specs.Runs.{Cell, Entry, Moved, at_rest, begun_by_disk, in_boot, in_step, start, ticked, voided}
 use Rattle.afs_rows.specs.ServerSteps.{back_timeout_row, server_row, wake_row}
 use Rattle.afs_rows.specs.Steps.{Step}
@@ -57,6 +57,7 @@ firm_moves s = record {
   waited = λ c past n act h r. firm_more (Client n) c.sent _ h.1 (waits_acts n (c.clients n) act r).from;
   fallen = λ c past n h. firm_more (Client n) c.sent [] h.1 tt;
   risen = λ c past n h. firm_more (Client n) c.sent [] h.1 tt;
+  loc = λ c past l ls h st. h.1;
   served = λ c past i place m armed h up at to. firm_more (Server i) c.sent _ h.1 (served_posts (Server i) (c.hosts i).state c.clock place m (h.0.1.0 i).seats (h.0.1.1 i)).0;
   cut = λ c past i place m t h up at to. h.1;
   stopped = λ c past i h up. h.1;
@@ -101,6 +102,7 @@ gift_moves s = record {
   waited = λ c past n act h r. client_gifts s c past n _ h.1 (waits_acts n (c.clients n) act r) (waits_follow n (c.clients n) act (h.1 n).0);
   fallen = λ c past n h. client_gifts s c past n _ h.1 (falls_acts n (c.clients n)) (falls_follow n (c.clients n));
   risen = λ c past n h. client_gifts s c past n _ h.1 (rises_acts n (c.clients n)) (rises_follow n (c.clients n) (h.1 n).0);
+  loc = λ c past l ls h st. idle_gifts s c.clients past (loc_becomes c l ls).entry h.1 (loc_idle ls st.lines);
   served = λ c past i place m armed h up at to. idle_gifts s c.clients past (server_moves c i armed (server_row (Server i) (c.hosts i).state c.clock place (Whole m))).entry h.1 (idle_works any_message i (c.hosts i).state _ _ (serves_works any_message (Server i) (c.hosts i).state c.clock place m (λ rest. tt)));
   cut = λ c past i place m t h up at to. idle_gifts s c.clients past (server_falls c i (lines.Given place ∷ blow_line i t.stops ∷ []) (in_step m c.clock t)).entry h.1 (blow_idle i t.stops);
   stopped = λ c past i h up. idle_gifts s c.clients past (server_falls c i (lines.Crash (Server i) ∷ []) at_rest).entry h.1 refl;
@@ -156,6 +158,7 @@ fair_moves s = record {
   waited = λ c past n act h r. acts_fair s c past n _ h (waits_acts n (c.clients n) act r) (waits_follow n (c.clients n) act (h.1 n).0);
   fallen = λ c past n h. tt;
   risen = λ c past n h. tt;
+  loc = λ c past l ls h st. tt;
   served = λ c past i place m armed h up at to. server_fair i ((server_moves c i armed (server_row (Server i) (c.hosts i).state c.clock place (Whole m))).entry ∷ past) _ (served_posts (Server i) (c.hosts i).state c.clock place m (h.0.0.1.0 i).seats (h.0.0.1.1 i)).0;
   cut = λ c past i place m t h up at to. tt;
   stopped = λ c past i h up. tt;

@@ -16,7 +16,7 @@ use Rattle.afs_law.proofs.SettingUp.{AreVersions, all_versions}
 use Rattle.afs_law.proofs.Using.{none_given}
 use Rattle.afs_law.specs.Breaks.{HasDrop, IsNamedIn}
 use Rattle.afs_law.specs.Ideal.{first_lines, set_up}
-use Rattle.afs_law.specs.Legal.{AreDroppedIn, DropsBroken, DropsGiven, HandlesBreaks, IsInPlace, IsOfServer, RunsHere}
+use Rattle.afs_law.specs.Legal.{AreDroppedIn, DropsBroken, DropsGiven, HandlesBreaks, IsInPlace, IsOfDisk, RunsHere}
 use Rattle.afs_law.specs.Parts.{EachEntry, EachLine}
 use Rattle.afs_law.specs.Past.{IsCall, IsCallFrom, IsCallUnder, IsToCome, called_key, given_message, lines_of, onto, risen, sent_of, server_boot}
 use Rattle.afs_model.specs.Calls as pairs
@@ -49,7 +49,7 @@ use Rattle.afs_num.specs.declared.histories.ReadBody.TheVariants as seen
 use Rattle.afs_num.specs.declared.histories.ReadSource.TheVariants.{Fetched}
 use Rattle.afs_rows.specs.ClientRow.{dropped, given, is_older, status_told, look_at, looked, put_entries, put_entry, read_lines, status_look, with_statuses, Walked, admits_call, awaits, begin_row, begins_by, behind_batch, breaks, call_of, calls_again, client_row, counts, done, drop_line, gift_of, gives_by, gives_up, goes_by, hears, ignores, in_order, is_awaited, is_below, is_busy_code, is_spent, is_trusted, most_busy, most_reads, refused_with, refuses, runs_carried, takes, takes_bulk, takes_bytes, takes_data, takes_entries, takes_entry, takes_given, takes_list, takes_plain, takes_rights, takes_set, takes_shown, takes_status, takes_stored, timeout_row, tries_again, trusted_in, untrusted_in, walked, walks_on, whole, entry_told, entries_told, body_told, find_cached, reborn}
 use Rattle.afs_rows.specs.Going.{ClientState, Going, Need, answers, began, gives_back, next, with_read}
-use Rattle.afs_law.proofs.Steps.{blow_line, server_falls, server_moves, server_rises, server_set, server_stays}
+use Rattle.afs_law.proofs.Steps.{blow_line, server_falls, server_moves, server_rises, server_set, server_stays, loc_becomes}
 use Rattle.afs_rows.specs.Runs.{Armed, Cell, Entry, Fall, Moved, RunsTo, at_rest, begun_by_disk, client_falls, client_moves, client_rises, in_boot, in_step, message_at, start, ticked, voided}
 use Rattle.afs_rows.specs.ServerRow.{not_served, replied, seat_for}
 use Rattle.afs_rows.specs.ServerSteps.{back_timeout_row, server_row, wake_row}
@@ -227,11 +227,11 @@ told_drops me c clock place m to is runs = row_drops (same_node m.head.to me) me
 
 -- ---- the epoch in which a client is, by its lines
 
-not_client : (who : Actor) (n : Node) (j : ℕ) → IsOfServer who n → same_node n (Client j) ≡ false
+not_client : (who : Actor) (n : Node) (j : ℕ) → IsOfDisk who n → same_node n (Client j) ≡ false
 not_client who (Server i) j of = refl
 not_client who (Client i) j of = absurd of
 not_client who (Admin i) j of = absurd of
-not_client who Loc j of = absurd of
+not_client who Loc j of = refl
 
 alive_boot : (s : Script) (who : Actor) (j : ℕ) (past : List Entry) (own ls o : List Line) → EachLine (IsInPlace s) who past own ls → Alive ls → server_boot (Client j) (onto o ls) ≡ server_boot (Client j) o
 alive_boot s who j past own [] o p h = refl
@@ -442,6 +442,7 @@ handled_moves s = (let q : EachMove (Placed s) (PlacedStep s) = placed_moves s i
       (none_given (timeout_row (Client n) (c.clients n) act).lines (sent_of past) (waited_ungiven (Client n) (c.clients n) act));
   fallen = λ c past n h. falls_handles s c past n h;
   risen = λ c past n h. rises_handles s c past n h;
+  loc = λ c past l ls h st. besides_handles s c past (loc_becomes c l ls) h (q.loc c past l ls h.0 st) (λ j e. absurd cc) refl;
   served = λ c past i place m armed h up at to. besides_handles s c past (server_moves c i armed (server_row (Server i) (c.hosts i).state c.clock place (Whole m))) h (q.served c past i place m armed h.0 up at to) (λ j e. absurd cc) refl;
   cut = λ c past i place m t h up at to. besides_handles s c past (server_falls c i (lines.Given place ∷ blow_line i t.stops ∷ []) (in_step m c.clock t)) h (q.cut c past i place m t h.0 up at to) (λ j e. absurd cc) refl;
   stopped = λ c past i h up. besides_handles s c past (server_falls c i (lines.Crash (Server i) ∷ []) at_rest) h (q.stopped c past i h.0 up) (λ j e. absurd cc) refl;

@@ -24,7 +24,7 @@ use Rattle.afs_num.specs.declared.types.Head.{Head}
 use Rattle.afs_num.specs.declared.types.Key.{Key}
 use Rattle.afs_num.specs.declared.types.Node.{Node}
 use Rattle.afs_num.specs.declared.types.Node.TheVariants.{Admin, Client, Loc, Server}
-use Rattle.afs_law.proofs.Steps.{server_falls, server_moves, server_set, server_stays}
+use Rattle.afs_law.proofs.Steps.{server_falls, server_moves, server_set, server_stays, loc_becomes}
 use Rattle.afs_rows.specs.Runs.{Blow, Armed, Cell, Entry, Fall, Moved, at_rest, begun_by_disk, client_moves, in_boot, in_step, moved, start, ticked, unarmed, voided, ServerHost}
 use Rattle.afs_rows.specs.Callbacks.{put}
 use Rattle.afs_history.specs.declared.lines.Line.{Line}
@@ -219,6 +219,7 @@ heard_moves s = record {
   waited = λ c past n act h r. client_heard s c past n _ h (waits_acts n (c.clients n) act r).from;
   fallen = λ c past n h. client_heard s c past n _ h tt;
   risen = λ c past n h. client_heard s c past n _ h tt;
+  loc = λ c past l ls h st. still_heard s c (loc_becomes c l ls).cell past (loc_becomes c l ls).entry [] h refl (none_sent c) tt;
   served = λ c past i place m armed h up at to. serves_heard s c past i armed _ h (served_posts (Server i) (c.hosts i).state c.clock place m (h.0.0.0.1.0 i).seats (h.0.0.0.1.1 i)).0;
   cut = λ c past i place m t h up at to. falls_heard s c past i _ (in_step m c.clock t) h;
   stopped = λ c past i h up. falls_heard s c past i _ at_rest h;

@@ -1,13 +1,15 @@
 -- What servers hear and answer, however many a cell has: what a server would run it never heard in that boot, and each of its
 -- replies to a client is that of the entry which ran the call.
+use Rattle.afs_law.proofs.Moving.{loc_armed_to, loc_restarted_to, loc_stopped_to, LocMoves}
+use Rattle.afs_law.proofs.LocLines.{all_of_loc, is_of_loc, told_gives, stop_step, fail_step}
 use Rattle.std.proofs.Math.Nat.{le_refl}
-use Rattle.afs_law.proofs.Booting.{standing_both, Boots, HasFront, blow_stops, disk_front, down_boots, notes_standing, rise_boots, serves_standing, started_lines, step_boots, still_boots, stop_boots, times_standing, wakes_standing, is_standing}
+use Rattle.afs_law.proofs.Booting.{standing_both, Boots, HasFront, blow_stops, disk_front, down_boots, notes_standing, rise_boots, serves_standing, started_lines, step_boots, still_boots, stop_boots, times_standing, wakes_standing, is_standing, is_server}
 use Rattle.afs_law.proofs.Passing.{to_come}
 use Rattle.afs_history.specs.declared.acts.Act.{Act}
 use Rattle.afs_history.specs.declared.lines.Line.{Line}
 use Rattle.afs_history.specs.declared.lines.Line.TheVariants as lines
 use Rattle.afs_law.proofs.Backing.{all_lines, is_unchanging}
-use Rattle.afs_law.proofs.Basics.{Above, ByClient, Each, IfCall, IfReply, OfCall, OfClient, OfNotice, OfReply, above_up, at_put, at_seat, below_not, below_up_to, by_client, each_at, each_map, each_more, if_call, if_reply, not_above, of_notice, own_seat, runs_admitted, same_node-refl, up_to_same}
+use Rattle.afs_law.proofs.Basics.{Above, ByClient, Each, IfCall, IfReply, OfCall, OfClient, OfNotice, OfReply, above_up, at_put, at_seat, below_not, below_up_to, by_client, each_at, each_map, each_more, if_call, if_reply, not_above, of_notice, own_seat, runs_admitted, same_node-refl, up_to_same, same_node-true}
 use Rattle.afs_law.proofs.Calling.{mild_standing, AreReplies, IsAnswer, IsCallOf, IsLastOf, Tame, answer_over, begins_tame, caller_at, falls_tame, given_tame, placed, rises_tame, uncalled_any, waits_tame}
 use Rattle.afs_law.proofs.Words.{up_boot, MayRun}
 use Rattle.afs_law.proofs.Hosting.{Begins, HasHead, HostStep, IsCutBy, IsDue, IsSound, Memory, decides_due, disk_begins, does_given, memory_of, served_head, serves_step, starts_step, times_step, wakes_step}
@@ -33,7 +35,7 @@ use Rattle.afs_num.specs.declared.types.Node.TheVariants.{Admin, Client, Loc, Se
 use Rattle.afs_rows.specs.Callbacks.{risen_turn, expired, put, replies_of, turned_in}
 use Rattle.afs_rows.specs.ClientRow.{boot_of, client_row}
 use Rattle.afs_rows.specs.Going.{ClientState, Going}
-use Rattle.afs_law.proofs.Steps.{blow_line, calls_at, server_falls, server_moves, falls_is, sets_is, stays_is}
+use Rattle.afs_law.proofs.Steps.{blow_line, calls_at, server_falls, server_moves, falls_is, sets_is, stays_is, loc_becomes}
 use Rattle.afs_rows.specs.Hosts.{sets}
 use Rattle.afs_rows.specs.ServerHosts.{can_start}
 use Rattle.afs_rows.specs.Runs.{is_away, Armed, Blow, Cell, Entry, Fall, Input, Leads, Luck, Moved, Outcome, RunsTo, at_rest, back_timed, begins, begun_by, begun_by_disk, client_moves, client_starts, client_stops, comes_up, fails_early, fails_midway, given_at, given_to, gives, has_host, in_boot, in_step, is_full, message_at, moved, nothing, server_armed, server_ends, server_given, server_restarted, server_served, server_stopped, server_timed, server_waits, server_wakes, sets_fail, sets_stop, settled, start, starts_again, stops, struck, ticks, unarmed, voided, waited_by, waits, wakes, ServerHost}
@@ -42,7 +44,7 @@ use Rattle.afs_rows.specs.ServerSteps.{back_timeout_row, server_row, start_row, 
 use Rattle.afs_rows.specs.States.{BackCall, Seat, ServerState}
 use Rattle.afs_rows.specs.Steps.{Step, Begun}
 use Rattle.std.proofs.Common.{zero, suc, ◌≡◌, ℕ, ◌+◌, ◌≤◌, ◌<◌, inl, inr, arith, eq-eqb, Bool, true, false, cond, List, [], ◌∷◌, ◌++◌, Option, Some, None, refl, sym, ap, subst, ◌∙◌}
-use Rattle.std.specs.Prelude.{⊤}
+use Rattle.std.specs.Prelude.{⊤, not}
 use Rattle.afs_law.proofs.KeysOnce.{EachChange, HasRun, StandsIn, admitted_latest, first_stands, moved_keeps, server_number}
 
 -- ---- boot numbers that were told, and replies that were made
@@ -653,6 +655,15 @@ waited_hears c past n (Some act) e H = client_hears c past n None _ H (waits_tam
 pub first_had : (c : Cell) (past : List Entry) → HearsIn c past → (q : Node) → IsHad c.hosts q 1
 first_had c past H q i e = H.first i
 
+loc_stands : (l : Line) → is_of_loc l ≡ true → is_standing l ≡ true
+loc_stands (lines.Crash n) h = ap (λ (q : Node). not (is_server q)) (same_node-true n Loc h)
+loc_stands (lines.Fault n) h = ap (λ (q : Node). not (is_server q)) (same_node-true n Loc h)
+loc_stands (lines.Restart n boot) h = ap (λ (q : Node). not (is_server q)) (same_node-true n Loc h)
+loc_stands l h = refl
+
+loc_hears : (c : Cell) (past : List Entry) → HearsIn c past → LocMoves (After past) c
+loc_hears c past H l ls st = still_hears c.clients c.hosts c.sent past (loc_becomes c l ls).entry H refl (told_gives ls (sent_of past) st.lines) (all_of_loc is_standing loc_stands ls st.lines)
+
 pub moved_hears : (c : Cell) (past : List Entry) (x : Input) → HearsIn c past → StandsIn c (lines_of past) → After past (moved c x)
 unfolding moved
 moved_hears c past (begins n act) H S = either_hears past (is_away c n) _ _ (void_hears c past H) (begun_hears c past n act (c.clients n).running H)
@@ -662,10 +673,14 @@ moved_hears c past (ticks zero) H S = void_hears c past H
 moved_hears c past (ticks (suc n)) H S = still_hears c.clients c.hosts c.sent past (record { actor = actors.Clock; lines = lines.Tick (suc n) ∷ []; sent = []; volumes = [] }) H refl refl refl
 moved_hears c past (client_stops n) H S = either_hears past (is_away c n) _ _ (void_hears c past H) (client_hears c past n None _ H (falls_tame _ (IsNoted c.hosts) (IsHad c.hosts) n (c.clients n) (first_had c past H)) tt)
 moved_hears c past (client_starts n) H S = either_hears past (c.away n) _ _ (client_hears c past n None _ H (rises_tame _ (IsNoted c.hosts) (IsHad c.hosts) n (c.clients n) (kept_on c past _ n H)) tt) (void_hears c past H)
-moved_hears c past (stops i) H S = either_hears past (has_host c i) _ _ (stopped_hears c past i (c.hosts i).down H) (void_hears c past H)
-moved_hears c past (starts_again i after out) H S = either_hears past (has_host c i) _ _ (restarted_hears c past i after out (c.hosts i).down H refl (H.falls i)) (void_hears c past H)
-moved_hears c past (sets_stop i calls pick) H S = either_hears past (has_host c i) _ _ (set_hears c past i (lines.Stop (Server i) calls pick) _ (c.hosts i).down (λ sent. refl) refl H) (void_hears c past H)
-moved_hears c past (sets_fail i call) H S = either_hears past (has_host c i) _ _ (set_hears c past i (lines.Fail (Server i) call) _ (c.hosts i).down (λ sent. refl) refl H) (void_hears c past H)
+moved_hears c past (stops zero) H S = loc_stopped_to (After past) c c.loc.down (void_hears c past H) (loc_hears c past H)
+moved_hears c past (stops (suc i)) H S = either_hears past (has_host c (suc i)) _ _ (stopped_hears c past (suc i) (c.hosts (suc i)).down H) (void_hears c past H)
+moved_hears c past (starts_again zero after out) H S = loc_restarted_to (After past) c after out c.loc.down (void_hears c past H) (loc_hears c past H)
+moved_hears c past (starts_again (suc i) after out) H S = either_hears past (has_host c (suc i)) _ _ (restarted_hears c past (suc i) after out (c.hosts (suc i)).down H refl (H.falls (suc i))) (void_hears c past H)
+moved_hears c past (sets_stop zero calls pick) H S = loc_armed_to (After past) c (lines.Stop Loc calls pick) _ c.loc.down (stop_step calls pick) (void_hears c past H) (loc_hears c past H)
+moved_hears c past (sets_stop (suc i) calls pick) H S = either_hears past (has_host c (suc i)) _ _ (set_hears c past (suc i) (lines.Stop (Server (suc i)) calls pick) _ (c.hosts (suc i)).down (λ sent. refl) refl H) (void_hears c past H)
+moved_hears c past (sets_fail zero call) H S = loc_armed_to (After past) c (lines.Fail Loc call) _ c.loc.down (fail_step call) (void_hears c past H) (loc_hears c past H)
+moved_hears c past (sets_fail (suc i) call) H S = either_hears past (has_host c (suc i)) _ _ (set_hears c past (suc i) (lines.Fail (Server (suc i)) call) _ (c.hosts (suc i)).down (λ sent. refl) refl H) (void_hears c past H)
 moved_hears c past (server_waits i n) H S = either_hears past (has_host c i) _ _ (timed_hears c past i n (c.hosts i).down H refl) (void_hears c past H)
 moved_hears c past (wakes i) H S = either_hears past (has_host c i) _ _ (woken_hears c past i (c.hosts i).down H refl) (void_hears c past H)
 moved_hears c past nothing H S = void_hears c past H

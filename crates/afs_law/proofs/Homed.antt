@@ -360,6 +360,7 @@ home_moves s = record {
   waited = λ c past n act h r. client_home s c past n _ h.1 (waits_follow n (c.clients n) act (h.0.0.1 n).0) (waits_home (IsAt s) n (c.clients n) act (h.1 n).homed);
   fallen = λ c past n h. client_home s c past n _ h.1 (falls_follow n (c.clients n)) (falls_home (IsAt s) (c.clients n));
   risen = λ c past n h. client_home s c past n _ h.1 (rises_follow n (c.clients n) (h.0.0.1 n).0) (h.1 n).homed;
+  loc = λ c past l ls h st. h.1;
   served = λ c past i place m armed h up at to. h.1;
   cut = λ c past i place m t h up at to. h.1;
   stopped = λ c past i h up. h.1;

@@ -15,7 +15,7 @@ use Rattle.afs_law.proofs.Placing.{Placed, PlacedStep, placed_first, placed_kept
 use Rattle.afs_law.proofs.SettingUp.{AreVersions, all_versions}
 use Rattle.afs_law.proofs.Words.{up_boot}
 use Rattle.afs_law.specs.Ideal.{first_lines, set_up}
-use Rattle.afs_law.specs.Legal.{IsInPlace, IsOfServer}
+use Rattle.afs_law.specs.Legal.{IsInPlace, IsOfDisk}
 use Rattle.afs_law.specs.Lives.{AreCalls, AreOwes, IsHostLived, IsStart, TellsNoStop, last_written, written_at}
 use Rattle.afs_law.specs.Parts.{EachEntry, EachLine}
 use Rattle.afs_law.specs.Past.{lines_of, onto, server_boot}
@@ -29,7 +29,7 @@ use Rattle.afs_num.specs.declared.types.Node.{Node}
 use Rattle.afs_num.specs.declared.types.Node.TheVariants.{Admin, Client, Loc, Server}
 use Rattle.afs_rows.specs.Callbacks.{Started, owe_line, put, risen_turn, starts, starts_by}
 use Rattle.afs_rows.specs.ClientRow.{begin_row, client_row, timeout_row}
-use Rattle.afs_law.proofs.Steps.{blow_line, server_falls, server_moves, server_set, server_stays}
+use Rattle.afs_law.proofs.Steps.{blow_line, server_falls, server_moves, server_set, server_stays, loc_becomes}
 use Rattle.afs_rows.specs.Runs.{Armed, Cell, Entry, Fall, Moved, RunsTo, at_rest, begun_by_disk, client_falls, client_moves, client_rises, in_boot, in_step, start, ticked, unarmed, voided, ServerHost}
 use Rattle.afs_rows.specs.ServerRow.{Decision, begun_after, decides, drops, made, refuses, repeats, saves, shows, tells_boot, versioned}
 use Rattle.afs_rows.specs.ServerSteps.{back_timeout_row, server_row, start_row, wake_row}
@@ -65,11 +65,11 @@ standing_written i (lines.Restart n boot ∷ ls) o h =
 standing_written i (l ∷ ls) o h = standing_written i ls (l ∷ o) (both (is_standing l) (all_lines is_standing ls) h).1
 
 -- those of other nodes' entries leave it
-other_server : (who : Actor) (n : Node) (i : ℕ) → (who ≡ actors.Node (Server i) → ⊥) → IsOfServer who n → same_node n (Server i) ≡ false
+other_server : (who : Actor) (n : Node) (i : ℕ) → (who ≡ actors.Node (Server i) → ⊥) → IsOfDisk who n → same_node n (Server i) ≡ false
 other_server who (Server k) i other of = node_apart (Server k) (Server i) (λ e. other (of ∙ ap actors.Node e))
 other_server who (Client k) i other of = absurd of
 other_server who (Admin k) i other of = absurd of
-other_server who Loc i other of = absurd of
+other_server who Loc i other of = refl
 
 others_written : (s : Script) (who : Actor) (i : ℕ) (past : List Entry) (own ls o : List Line) → (who ≡ actors.Node (Server i) → ⊥) → EachLine (IsInPlace s) who past own ls → last_written (Server i) (onto o ls) ≡ last_written (Server i) o
 others_written s who i past own [] o other p = refl
@@ -321,6 +321,7 @@ hosted_moves s = (let q : EachMove (Placed s) (PlacedStep s) = placed_moves s in
   waited = λ c past n act h r. besides_hosts s c past (client_moves c n (timeout_row (Client n) (c.clients n) act)) h (q.waited c past n act h.0 r) (λ i e. absurd cc) refl;
   fallen = λ c past n h. besides_hosts s c past (client_falls c n) h (q.fallen c past n h.0) (λ i e. absurd cc) refl;
   risen = λ c past n h. besides_hosts s c past (client_rises c n) h (q.risen c past n h.0) (λ i e. absurd cc) refl;
+  loc = λ c past l ls h st. besides_hosts s c past (loc_becomes c l ls) h (q.loc c past l ls h.0 st) (λ i e'. absurd cc) refl;
   served = λ c past i place m armed h up at to. serves_hosts s c past i armed (server_row (Server i) (c.hosts i).state c.clock place (Whole m)) h (q.served c past i place m armed h.0 up at to) up (served_boot i (c.hosts i).state c.clock place m) (serves_running (Server i) (c.hosts i).state c.clock place m);
   cut = λ c past i place m t h up at to. falls_hosts s c past i (lines.Given place ∷ blow_line i t.stops ∷ []) (in_step m c.clock t) h (q.cut c past i place m t h.0 up at to) (as_up s c past i _ [] h up (blow_lived i place (c.hosts i).state.lasting.boot (last_written (Server i) (lines_of past) + 1) t.stops)) (up_now c past i h.1 up) (blow_least i t.stops (lines.Given place ∷ lines_of past));
   stopped = λ c past i h up. falls_hosts s c past i (lines.Crash (Server i) ∷ []) at_rest h (q.stopped c past i h.0 up) (as_up s c past i _ [] h up (inr (tt, refl))) (up_now c past i h.1 up) (le_refl _);

@@ -1,4 +1,5 @@
 -- What each server holds of its volumes is what the lines tell, however many servers a cell has.
+use Rattle.afs_law.proofs.LocLines.{is_of_loc}
 use Rattle.afs_history.specs.declared.lines.Line.{Line}
 use Rattle.afs_history.specs.declared.lines.Line.TheVariants as lines
 use Rattle.afs_history.specs.declared.scripts.Script.{Script}
@@ -67,6 +68,14 @@ AreBlank ls = all_lines is_blank ls ≡ true
 pub blank_by : (q : Line → Bool) → ((l : Line) → q l ≡ true → is_blank l ≡ true) → (ls : List Line) → all_lines q ls ≡ true → AreBlank ls
 blank_by q w [] h = refl
 blank_by q w (l ∷ ls) h = let b = both (q l) (all_lines q ls) h in rw (w l b.0, blank_by q w ls b.1) refl
+
+of_loc_blank : (l : Line) → is_of_loc l ≡ true → is_blank l ≡ true
+of_loc_blank (lines.Change s k count) h = absurd cc
+of_loc_blank (lines.Version v) h = absurd cc
+of_loc_blank l h = refl
+
+pub loc_blank : (ls : List Line) → all_lines is_of_loc ls ≡ true → AreBlank ls
+loc_blank ls h = blank_by is_of_loc of_loc_blank ls h
 
 pub of_blank : (j : ℕ) (l : Line) → is_of j l ≡ true → is_blank l ≡ true
 of_blank j (lines.Change s k count) h = absurd cc
@@ -360,6 +369,7 @@ volumes_moves s = record {
   waited = λ c past n act h r. acts_volumes s c past n _ h.1 (waits_acts n (c.clients n) act r);
   fallen = λ c past n h. acts_volumes s c past n _ h.1 (falls_acts n (c.clients n));
   risen = λ c past n h. acts_volumes s c past n _ h.1 (rises_acts n (c.clients n));
+  loc = λ c past l ls h st. still_volumes s c.hosts c.sent c.sent past _ h.1 (same_grows c.sent) refl (loc_blank ls st.lines);
   served = λ c past i place m armed h up at to. done_volumes s c past i armed (server_row (Server i) (c.hosts i).state c.clock place (Whole m)) h (serves_works (IsCalled c.sent) (Server i) (c.hosts i).state c.clock place m (λ rest. each_at (IfCall (IsOne c.sent)) c.sent place m at h.0.1.ones));
   cut = λ c past i place m t h up at to. falls_volumes s c past i (Some (in_step m c.clock t)) unarmed _ h (blow_blank i place t.stops) (λ k clock hit e. (place, subst (λ (y : Message). message_at c.sent place ≡ Some y) (same_cut m k c.clock clock t hit e) at));
   stopped = λ c past i h up. falls_volumes s c past i (Some at_rest) unarmed _ h refl (λ m clock hit e. absurd cc);

@@ -295,6 +295,7 @@ turn_moves s = record {
   waited = λ c past n act h r. client_turns s c past n _ h (waits_acts n (c.clients n) act r) (λ other. absurd (other (waits_last n (c.clients n) act)));
   fallen = λ c past n h. tt;
   risen = λ c past n h. tt;
+  loc = λ c past l ls h st. tt;
   served = λ c past i place m armed h up at to. none_turn past (server_moves c i armed (server_row (Server i) (c.hosts i).state c.clock place (Whole m))) (served_uncalled c past i place m h.0.0.0.0 at);
   cut = λ c past i place m t h up at to. tt;
   stopped = λ c past i h up. tt;

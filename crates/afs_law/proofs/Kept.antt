@@ -16,7 +16,7 @@ use Rattle.afs_law.proofs.Following.{dropped_named, in_named}
 use Rattle.afs_law.proofs.Gifts.{Given, given_first, given_kept}
 use Rattle.afs_law.proofs.KeysOnce.{IsKnown, any_told, by_key}
 use Rattle.afs_law.proofs.Moving.{Behind, EachMove, IsKept, each_moved, run_keeps}
-use Rattle.afs_law.proofs.Origins.{Leaves, any_cut, any_message, blow_idle, idle_leaves, idle_works, is_idle, of_client, other_leaves}
+use Rattle.afs_law.proofs.Origins.{Leaves, any_cut, any_message, blow_idle, idle_leaves, idle_works, is_idle, of_client, other_leaves, loc_idle}
 use Rattle.afs_law.proofs.Walking.{walked_apart, walked_found}
 use Rattle.afs_law.specs.Breaks.{IsNamedIn}
 use Rattle.afs_law.specs.ClientParts.{CachedAreFetched, IsFetchedEntry, lines_since_fetch}
@@ -55,7 +55,7 @@ use Rattle.afs_num.specs.declared.types.Node.TheVariants.{Client, Server}
 use Rattle.afs_rows.specs.Callbacks.{put}
 use Rattle.afs_rows.specs.ClientRow.{Look, Walked, admits_call, awaits, begin_row, begins_by, behind_batch, body_told, breaks, call_of, calls_again, client_row, counts, dead_code, done, drop_line, dropped, dropped_after, ended, entries_told, entry_told, find_cached, gift_of, given, given_up_in, gives_by, goes_by, hears, ignores, in_order, is_awaited, is_below, is_busy_code, is_named, is_older, is_spent, is_trusted, left_after, left_in, look_at, looked, most_busy, most_reads, put_entries, put_entry, read_lines, refreshed, replies_step, runs_carried, status_look, status_told, takes, takes_bulk, takes_data, takes_entries, takes_entry, takes_given, takes_list, takes_set, takes_shown, takes_status, timeout_line, timeout_row, trusted_in, untrusted_in, walked, walks_on, whole, with_statuses, without_fids, without_server, zero_code}
 use Rattle.afs_rows.specs.Going.{ClientState, Going, Need, answers, began, gives_back, next, with_read}
-use Rattle.afs_law.proofs.Steps.{blow_line, server_falls, server_moves, server_rises, server_set, server_stays}
+use Rattle.afs_law.proofs.Steps.{blow_line, server_falls, server_moves, server_rises, server_set, server_stays, loc_becomes}
 use Rattle.afs_rows.specs.Runs.{Cell, Entry, at_rest, begun_by_disk, in_boot, in_step, message_at, start, ticked, voided}
 use Rattle.afs_rows.specs.Scopes.{is_in_scope}
 use Rattle.afs_rows.specs.ServerSteps.{back_timeout_row, server_row, wake_row}
@@ -571,6 +571,7 @@ kept_moves s = record {
   waited = λ c past n act h r. client_kept s c past n _ h.1 (waits_acts n (c.clients n) act r) (waits_keep n (c.clients n) act past (h.1 n).0);
   fallen = λ c past n h. client_kept s c past n _ h.1 (falls_acts n (c.clients n)) (record { apart = tt; each = λ f e found. absurd cc });
   risen = λ c past n h. client_kept s c past n _ h.1 (rises_acts n (c.clients n)) (record { apart = (h.1 n).0; each = λ f e found. same_entries n (c.clients n).cache past (lines.Restart (Client n) (c.clients n).epoch ∷ []) (record { fetched = λ g. refl; spares = λ q g o x. x }) f e found });
+  loc = λ c past l ls h st. idle_kept s c past (loc_becomes c l ls).entry h.1 (loc_idle ls st.lines);
   served = λ c past i place m armed h up at to. idle_kept s c past (server_moves c i armed (server_row (Server i) (c.hosts i).state c.clock place (Whole m))).entry h.1 (idle_works any_message i (c.hosts i).state _ _ (serves_works any_message (Server i) (c.hosts i).state c.clock place m (λ rest. tt)));
   cut = λ c past i place m t h up at to. idle_kept s c past (server_falls c i (lines.Given place ∷ blow_line i t.stops ∷ []) (in_step m c.clock t)).entry h.1 (blow_idle i t.stops);
   stopped = λ c past i h up. idle_kept s c past (server_falls c i (lines.Crash (Server i) ∷ []) at_rest).entry h.1 refl;

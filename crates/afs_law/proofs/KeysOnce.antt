@@ -1,5 +1,7 @@
 -- What holds of keys in a run, whatever servers a cell has: a client makes each call to one server, which runs it only above that
 -- caller's last one that changed something. So a key changes something at most once, and no call or reply has one to come.
+use Rattle.afs_law.proofs.Moving.{loc_armed_to, loc_restarted_to, loc_stopped_to, LocMoves}
+use Rattle.afs_law.proofs.LocLines.{all_of_loc, is_of_loc, stop_step, fail_step}
 use Rattle.afs_history.specs.declared.acts.Act.{Act}
 use Rattle.afs_law.proofs.Backing.{all_lines, is_unchanging}
 use Rattle.afs_law.proofs.Basics.{a_key, same_key-true, Above, Each, IfCall, IfReply, OfClient, OfReply, by_client, if_reply, runs_admitted, UpTo, at_put, below_not, below_up_to, client_number, each_at, each_map, each_more, if_call, node_apart, same_key-refl, up_to_below, up_to_same, below-true, below-false, some_of, OfNotice, OfCall, ByClient}
@@ -422,6 +424,25 @@ waited_keeps c o n (Some act) e S = client_keeps c o n _ _ S (waits_tame (by_key
 ticked_keeps : (c : Cell) (o : List Line) (n : ℕ) → StandsIn c o → Stands c.clients c.hosts c.sent (lines.Tick n ∷ o)
 ticked_keeps c o n S = record { callees = S.callees; own = S.own; calls = S.calls; answers = S.answers; replies = S.replies; sound = S.sound; held = S.held; falls = S.falls; ran = (tt, S.ran); once = S.once; stored = S.stored }
 
+loc_changes : (l : Line) → is_of_loc l ≡ true → is_unchanging l ≡ true
+loc_changes (lines.Change server k count) h = absurd cc
+loc_changes l h = refl
+
+loc_keeps : (c : Cell) (o : List Line) → StandsIn c o → LocMoves (Keeps o) c
+loc_keeps c o S l ls st = record {
+  callees = S.callees;
+  own = S.own;
+  calls = S.calls;
+  answers = S.answers;
+  replies = S.replies;
+  sound = S.sound;
+  held = S.held;
+  falls = S.falls;
+  ran = plain_each (HasRun S.callees c.clients c.hosts) ls o (all_of_loc is_unchanging loc_changes ls st.lines) S.ran;
+  once = plain_once ls o (all_of_loc is_unchanging loc_changes ls st.lines) S.once;
+  stored = λ i m seat e. let was = S.stored i m seat e in (by_onto (Server i) (seat_key m seat) ls o was.0, was.1);
+}
+
 pub moved_keeps : (c : Cell) (o : List Line) (x : Input) → StandsIn c o → Keeps o (moved c x)
 unfolding moved
 moved_keeps c o (begins n act) S = either_keeps o (is_away c n) _ _ (nothing_keeps c o S) (begun_keeps c o n act (c.clients n).running S)
@@ -431,10 +452,14 @@ moved_keeps c o (ticks zero) S = nothing_keeps c o S
 moved_keeps c o (ticks (suc n)) S = ticked_keeps c o (suc n) S
 moved_keeps c o (client_stops n) S = either_keeps o (is_away c n) _ _ (nothing_keeps c o S) (client_keeps c o n _ _ S (falls_tame (by_key (IsKnown S.callees c.clients)) any_told any_boot n (c.clients n) (λ q. tt)))
 moved_keeps c o (client_starts n) S = either_keeps o (c.away n) _ _ (client_keeps c o n _ _ S (rises_tame (by_key (IsKnown S.callees c.clients)) any_told any_boot n (c.clients n) (S.replies n))) (nothing_keeps c o S)
-moved_keeps c o (stops i) S = either_keeps o (has_host c i) _ _ (stopped_keeps c o i (c.hosts i).down S) (nothing_keeps c o S)
-moved_keeps c o (starts_again i after out) S = either_keeps o (has_host c i) _ _ (restarted_keeps c o i after out (c.hosts i).down S (S.falls i)) (nothing_keeps c o S)
-moved_keeps c o (sets_stop i calls pick) S = either_keeps o (has_host c i) _ _ (stop_keeps c o i calls pick _ (c.hosts i).down refl S) (nothing_keeps c o S)
-moved_keeps c o (sets_fail i call) S = either_keeps o (has_host c i) _ _ (fail_keeps c o i call _ (c.hosts i).down S) (nothing_keeps c o S)
+moved_keeps c o (stops zero) S = loc_stopped_to (Keeps o) c c.loc.down (nothing_keeps c o S) (loc_keeps c o S)
+moved_keeps c o (stops (suc i)) S = either_keeps o (has_host c (suc i)) _ _ (stopped_keeps c o (suc i) (c.hosts (suc i)).down S) (nothing_keeps c o S)
+moved_keeps c o (starts_again zero after out) S = loc_restarted_to (Keeps o) c after out c.loc.down (nothing_keeps c o S) (loc_keeps c o S)
+moved_keeps c o (starts_again (suc i) after out) S = either_keeps o (has_host c (suc i)) _ _ (restarted_keeps c o (suc i) after out (c.hosts (suc i)).down S (S.falls (suc i))) (nothing_keeps c o S)
+moved_keeps c o (sets_stop zero calls pick) S = loc_armed_to (Keeps o) c (lines.Stop Loc calls pick) _ c.loc.down (stop_step calls pick) (nothing_keeps c o S) (loc_keeps c o S)
+moved_keeps c o (sets_stop (suc i) calls pick) S = either_keeps o (has_host c (suc i)) _ _ (stop_keeps c o (suc i) calls pick _ (c.hosts (suc i)).down refl S) (nothing_keeps c o S)
+moved_keeps c o (sets_fail zero call) S = loc_armed_to (Keeps o) c (lines.Fail Loc call) _ c.loc.down (fail_step call) (nothing_keeps c o S) (loc_keeps c o S)
+moved_keeps c o (sets_fail (suc i) call) S = either_keeps o (has_host c (suc i)) _ _ (fail_keeps c o (suc i) call _ (c.hosts (suc i)).down S) (nothing_keeps c o S)
 moved_keeps c o (server_waits i n) S = either_keeps o (has_host c i) _ _ (timed_keeps c o i n (c.hosts i).down S) (nothing_keeps c o S)
 moved_keeps c o (wakes i) S = either_keeps o (has_host c i) _ _ (woken_keeps c o i (c.hosts i).down S) (nothing_keeps c o S)
 moved_keeps c o nothing S = nothing_keeps c o S

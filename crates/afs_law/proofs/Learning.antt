@@ -26,7 +26,7 @@ use Rattle.afs_num.specs.declared.types.Node.TheVariants.{Admin, Client, Loc, Se
 use Rattle.afs_rows.specs.Callbacks.{put, replies_of}
 use Rattle.afs_rows.specs.ClientRow.{begin_row, boot_of, client_row, reborn, timeout_row}
 use Rattle.afs_rows.specs.Going.{ClientState, Going}
-use Rattle.afs_law.proofs.Steps.{blow_line, server_moves}
+use Rattle.afs_law.proofs.Steps.{blow_line, server_moves, loc_becomes}
 use Rattle.afs_rows.specs.Runs.{Blow, Armed, Cell, Entry, Fall, at_rest, begun_by_disk, in_boot, in_step, message_at, start, ticked, unarmed, voided, ServerHost}
 use Rattle.afs_rows.specs.ServerRow.{boot_told, decides}
 use Rattle.afs_rows.specs.ServerSteps.{back_timeout_row, server_row, start_row, wake_row}
@@ -280,6 +280,7 @@ learnt_moves = record {
   waited = λ c past n act h r. (let s : Step ClientState = timeout_row (Client n) (c.clients n) act in let e : Entry = of_client n s in client_learnt c e past n None s h.1 (waits_tame any_told (Tells (e ∷ past)) (IsOf (e ∷ past)) n (c.clients n) act r (own_replies c e past n h.1)));
   fallen = λ c past n h. (let s : Step ClientState = record { state = reborn (c.clients n); lines = lines.Crash (Client n) ∷ []; sent = [] } in let e : Entry = of_client n s in client_learnt c e past n None s h.1 (falls_tame any_told (Tells (e ∷ past)) (IsOf (e ∷ past)) n (c.clients n) (first_of (e ∷ past))));
   risen = λ c past n h. (let s : Step ClientState = record { state = c.clients n; lines = lines.Restart (Client n) (c.clients n).epoch ∷ []; sent = [] } in let e : Entry = of_client n s in client_learnt c e past n None s h.1 (rises_tame any_told (Tells (e ∷ past)) (IsOf (e ∷ past)) n (c.clients n) (own_replies c e past n h.1)));
+  loc = λ c past l ls h st. still_learnt c (loc_becomes c l ls).entry past h.1;
   served = λ c past i place m armed h up at to. serves_learns c past i place m armed h up at;
   cut = λ c past i place m t h up at to. (let e : Entry = of_server i (lines.Given place ∷ blow_line i t.stops ∷ []) [] in same_learnt c e past i (Some (in_step m c.clock t)) unarmed h.1 (λ k clock hit is. boot_onto (Server i) (c.hosts i).state.lasting.boot e.lines (lines_of past) (now_has c past i h.0.hears up)));
   stopped = λ c past i h up. same_learnt c (of_server i (lines.Crash (Server i) ∷ []) []) past i (Some at_rest) unarmed h.1 (λ k clock hit is. absurd cc);

@@ -34,6 +34,7 @@ pub mod Hosting
 pub mod KeysOnce
 pub mod Hearing
 pub mod Members
+pub mod LocLines
 pub mod Moving
 pub mod Firm
 pub mod Seating

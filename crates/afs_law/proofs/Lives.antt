@@ -1,5 +1,7 @@
 -- A client that is down does nothing but begin again, in the epoch after its last, and one that is up tells its crash alone, however many
 -- servers a cell has.
+use Rattle.afs_rows.specs.LocSteps.{loc_kind}
+use Rattle.afs_rows.specs.LocRow.{LocState}
 use Rattle.afs_history.specs.declared.acts.Act.{Act}
 use Rattle.afs_history.specs.declared.lines.Line.{Line}
 use Rattle.afs_history.specs.declared.lines.Line.TheVariants as lines
@@ -48,9 +50,9 @@ use Rattle.afs_rows.specs.Callbacks.{put}
 use Rattle.afs_rows.specs.ClientRow.{Look, Walked, admits_call, answers_step, awaits, find_cached, is_below, put_entries, put_entry, takes_stored, begin_row, begins_by, behind_batch, body_told, breaks, call_of, calls_again, client_row, counts, dead_code, drop_line, dropped, dropped_after, entries_told, entry_told, gift_of, given, given_up_in, gives_by, gives_up, goes_by, hears, ignores, in_order, is_awaited, is_busy_code, is_older, is_spent, is_trusted, look_at, looked, most_busy, most_reads, read_lines, reborn, refuses, runs_carried, status_look, status_told, takes, takes_bulk, takes_bytes, takes_data, takes_entries, takes_entry, takes_given, takes_list, takes_plain, takes_rights, takes_set, takes_shown, takes_status, timeout_row, tries_again, trusted_in, untrusted_in, walked, walks_on, whole, with_statuses}
 use Rattle.afs_rows.specs.Going.{ClientState, Going, Need, answers, began, gives_back, next, with_read}
 use Rattle.afs_law.proofs.Steps.{calls_at}
-use Rattle.afs_rows.specs.Hosts.{sets}
+use Rattle.afs_rows.specs.Hosts.{sets, crashed, set_to_fail, set_to_stop, HostStep}
 use Rattle.afs_rows.specs.ServerHosts.{can_start}
-use Rattle.afs_rows.specs.Runs.{Armed, Blow, Cell, Entry, Fall, Input, Luck, Moved, Outcome, RunsTo, back_timed, begins, begun_by, begun_by_disk, client_falls, client_moves, client_rises, client_starts, client_stops, comes_up, fails_early, fails_midway, given_at, given_to, gives, has_client, has_host, is_full, message_at, moved, nothing, server_armed, server_ends, server_given, server_restarted, server_served, server_stopped, server_timed, server_waits, server_wakes, sets_fail, sets_stop, settled, start, starts_again, stops, struck, ticked, ticks, voided, waited_by, waits, wakes}
+use Rattle.afs_rows.specs.Runs.{Armed, Blow, Cell, Entry, Fall, Input, Luck, Moved, Outcome, RunsTo, back_timed, begins, begun_by, begun_by_disk, client_falls, client_moves, client_rises, client_starts, client_stops, comes_up, fails_early, fails_midway, given_at, given_to, gives, has_client, has_host, is_full, message_at, moved, nothing, server_armed, server_ends, server_given, server_restarted, server_served, server_stopped, server_timed, server_waits, server_wakes, sets_fail, sets_stop, settled, start, starts_again, stops, struck, ticked, ticks, voided, waited_by, waits, wakes, loc_restarted, loc_up}
 use Rattle.afs_rows.specs.States.{BackCall, CacheEntry, Gift, ServerState}
 use Rattle.afs_rows.specs.Steps.{Step, Begun}
 use Rattle.std.proofs.Common.{zero, suc, ◌+◌, ◌≡◌, ◌⊎◌, inl, inr, ℕ, Bool, true, false, cond, List, [], ◌∷◌, ◌++◌, map, Option, Some, None, refl, sym, ap, subst, ◌∙◌, filter, not}
@@ -355,6 +357,15 @@ waited_lives s c past n (Some act) h up r = up_lives s c past n _ h up (waited_a
 void_besides : (c : Cell) → Besides c (voided c)
 void_besides c = record { other = λ j e. absurd cc; away = refl; clients = refl }
 
+-- whatever the location database does
+loc_up_besides : (c : Cell) (st : HostStep LocState) (d : Option Fall) → Besides c (loc_up c st d)
+loc_up_besides c st None = record { other = λ j e. absurd cc; away = refl; clients = refl }
+loc_up_besides c st (Some fall) = void_besides c
+
+loc_restarted_besides : (c : Cell) (after : Bool) (out : Outcome) (d : Option Fall) → Besides c (loc_restarted c after out d)
+loc_restarted_besides c after out None = void_besides c
+loc_restarted_besides c after out (Some fall) = record { other = λ j e. absurd cc; away = refl; clients = refl }
+
 if_besides : (c : Cell) (t : Bool) (m : Moved) → Besides c m → Besides c (cond t m (voided c))
 if_besides c true m b = b
 if_besides c false m b = void_besides c
@@ -418,10 +429,14 @@ moved_lives s c past (ticks zero) h p = void_lives s c past h
 moved_lives s c past (ticks (suc n)) h p = besides_lives s c past (ticked c (suc n)) h p (record { other = λ j e. absurd cc; away = refl; clients = refl })
 moved_lives s c past (client_stops n) h p = unless_away s c past (has_client c.count n) (c.away n) _ h (λ up. falls_lives s c past n h up)
 moved_lives s c past (client_starts n) h p = if_down s c past (c.away n) _ h (λ down. rises_lives s c past n h down)
-moved_lives s c past (stops i) h p = besides_lives s c past _ h p (if_besides c (has_host c i) _ (stopped_besides c i (c.hosts i).down))
-moved_lives s c past (starts_again i after out) h p = besides_lives s c past _ h p (if_besides c (has_host c i) _ (restarted_besides c i after out (c.hosts i).down))
-moved_lives s c past (sets_stop i calls pick) h p = besides_lives s c past _ h p (if_besides c (has_host c i) _ (armed_besides c i (lines.Stop (Server i) calls pick) _ (c.hosts i).down))
-moved_lives s c past (sets_fail i call) h p = besides_lives s c past _ h p (if_besides c (has_host c i) _ (armed_besides c i (lines.Fail (Server i) call) _ (c.hosts i).down))
+moved_lives s c past (stops zero) h p = besides_lives s c past _ h p (loc_up_besides c (crashed loc_kind c.loc) c.loc.down)
+moved_lives s c past (stops (suc i)) h p = besides_lives s c past _ h p (if_besides c (has_host c (suc i)) _ (stopped_besides c (suc i) (c.hosts (suc i)).down))
+moved_lives s c past (starts_again zero after out) h p = besides_lives s c past _ h p (loc_restarted_besides c after out c.loc.down)
+moved_lives s c past (starts_again (suc i) after out) h p = besides_lives s c past _ h p (if_besides c (has_host c (suc i)) _ (restarted_besides c (suc i) after out (c.hosts (suc i)).down))
+moved_lives s c past (sets_stop zero calls pick) h p = besides_lives s c past _ h p (loc_up_besides c (set_to_stop loc_kind c.loc calls pick) c.loc.down)
+moved_lives s c past (sets_stop (suc i) calls pick) h p = besides_lives s c past _ h p (if_besides c (has_host c (suc i)) _ (armed_besides c (suc i) (lines.Stop (Server (suc i)) calls pick) _ (c.hosts (suc i)).down))
+moved_lives s c past (sets_fail zero call) h p = besides_lives s c past _ h p (loc_up_besides c (set_to_fail loc_kind c.loc call) c.loc.down)
+moved_lives s c past (sets_fail (suc i) call) h p = besides_lives s c past _ h p (if_besides c (has_host c (suc i)) _ (armed_besides c (suc i) (lines.Fail (Server (suc i)) call) _ (c.hosts (suc i)).down))
 moved_lives s c past (server_waits i n) h p = besides_lives s c past _ h p (if_besides c (has_host c i) _ (timed_besides c i n (c.hosts i).down))
 moved_lives s c past (wakes i) h p = besides_lives s c past _ h p (if_besides c (has_host c i) _ (woken_besides c i (c.hosts i).down))
 moved_lives s c past nothing h p = void_lives s c past h

@@ -17,7 +17,7 @@ use Rattle.afs_law.proofs.KeysOnce.{IsKnown, any_told, by_key, known_pair}
 use Rattle.afs_law.proofs.SettingUp.{first_passed}
 use Rattle.afs_law.proofs.Moving.{Behind, EachMove, IsKept, each_moved}
 use Rattle.afs_law.proofs.Ops.{changes_is}
-use Rattle.afs_law.proofs.Origins.{AskedIn, any_cut, any_message, blow_idle, idle_leaves, idle_works, is_idle, of_client, other_leaves, same_key_at, the_calls}
+use Rattle.afs_law.proofs.Origins.{AskedIn, any_cut, any_message, blow_idle, idle_leaves, idle_works, is_idle, of_client, other_leaves, same_key_at, the_calls, loc_idle}
 use Rattle.afs_law.proofs.Passing.{IsAmong, among, changing_back, changing_more, lone_at, lone_first, lone_more, no_change, was_sent}
 use Rattle.afs_law.proofs.Placing.{Placed, PlacedStep, placed_first, placed_kept, placed_moves}
 use Rattle.afs_law.proofs.Saving.{any_change, later_not}
@@ -44,7 +44,7 @@ use Rattle.afs_num.specs.declared.types.Node.TheVariants.{Admin, Client, Loc, Se
 use Rattle.afs_rows.specs.Callbacks.{put}
 use Rattle.afs_rows.specs.ClientRow.{call_of}
 use Rattle.afs_rows.specs.Going.{ClientState, Going, began, read_on}
-use Rattle.afs_law.proofs.Steps.{blow_line, server_falls, server_moves, server_rises, server_set, server_stays}
+use Rattle.afs_law.proofs.Steps.{blow_line, server_falls, server_moves, server_rises, server_set, server_stays, loc_becomes}
 use Rattle.afs_rows.specs.Runs.{Cell, Entry, at_rest, begun_by_disk, in_boot, in_step, locations, moved, start, ticked, voided}
 use Rattle.afs_rows.specs.ServerSteps.{back_timeout_row, server_row, wake_row}
 use Rattle.afs_rows.specs.ServerRow.{is_client, key_of}
@@ -247,6 +247,7 @@ lone_moves s = record {
   waited = λ c past n act h r. client_lones s c past n _ h.0.0.0.0.0.hears.told h.0.0.0.0.1 h.1 (waits_acts n (c.clients n) act r) (waits_follow n (c.clients n) act (h.0.1 n).0);
   fallen = λ c past n h. client_lones s c past n _ h.0.0.0.0.0.hears.told h.0.0.0.0.1 h.1 (falls_acts n (c.clients n)) (falls_follow n (c.clients n));
   risen = λ c past n h. client_lones s c past n _ h.0.0.0.0.0.hears.told h.0.0.0.0.1 h.1 (rises_acts n (c.clients n)) (rises_follow n (c.clients n) (h.0.1 n).0);
+  loc = λ c past l ls h st. aside_lones c.clients (loc_becomes c l ls).entry past (void_aside (loc_becomes c l ls).entry refl (λ j. (idle_leaves s j ls (lines_of past) (loc_idle ls st.lines)).begins)) h.1;
   served = λ c past i place m armed h up at to. aside_lones c.clients (server_moves c i armed (server_row (Server i) (c.hosts i).state c.clock place (Whole m))).entry past (server_aside s i (server_moves c i armed (server_row (Server i) (c.hosts i).state c.clock place (Whole m))).entry past (idle_works any_message i (c.hosts i).state _ _ (serves_works any_message (Server i) (c.hosts i).state c.clock place m (λ rest. tt))) (served_posts (Server i) (c.hosts i).state c.clock place m (h.0.0.0.1.0 i).seats (h.0.0.0.1.1 i)).0) h.1;
   cut = λ c past i place m t h up at to. aside_lones c.clients (server_falls c i (lines.Given place ∷ blow_line i t.stops ∷ []) (in_step m c.clock t)).entry past (server_aside s i (server_falls c i (lines.Given place ∷ blow_line i t.stops ∷ []) (in_step m c.clock t)).entry past (blow_idle i t.stops) tt) h.1;
   stopped = λ c past i h up. aside_lones c.clients (server_falls c i (lines.Crash (Server i) ∷ []) at_rest).entry past (void_aside (server_falls c i (lines.Crash (Server i) ∷ []) at_rest).entry refl (λ j. refl)) h.1;

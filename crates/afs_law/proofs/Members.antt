@@ -1,4 +1,6 @@
 -- Each entry of a run is of a node of its script, and no server begins a boot twice: so the runs are legal.
+use Rattle.afs_rows.specs.LocSteps.{loc_kind}
+use Rattle.afs_rows.specs.LocRow.{LocState}
 use Rattle.afs_law.proofs.Basics.{at_put}
 use Rattle.afs_law.proofs.Booting.{HaveRisen}
 use Rattle.afs_law.proofs.Hearing.{hears_at}
@@ -17,9 +19,9 @@ use Rattle.afs_rows.specs.Callbacks.{put}
 use Rattle.afs_rows.specs.Going.{Going}
 use Rattle.afs_law.proofs.Steps.{calls_at}
 use Rattle.afs_rows.specs.Steps.{Begun}
-use Rattle.afs_rows.specs.Hosts.{sets}
+use Rattle.afs_rows.specs.Hosts.{sets, crashed, restarted, set_to_fail, set_to_stop, HostStep}
 use Rattle.afs_rows.specs.ServerHosts.{can_start}
-use Rattle.afs_rows.specs.Runs.{Armed, Blow, Cell, Entry, Fall, Input, Leads, Luck, Moved, Outcome, RunsTo, back_timed, begins, begun_by, begun_by_disk, client_starts, client_stops, comes_up, fails_early, fails_midway, given_at, given_to, gives, has_client, has_host, is_away, is_full, message_at, moved, nothing, server_armed, server_ends, server_given, server_restarted, server_served, server_stopped, server_timed, server_waits, server_wakes, sets_fail, sets_stop, settled, start, starts_again, stops, struck, ticks, voided, waited_by, waits, wakes}
+use Rattle.afs_rows.specs.Runs.{Armed, Blow, Cell, Entry, Fall, Input, Leads, Luck, Moved, Outcome, RunsTo, back_timed, begins, begun_by, begun_by_disk, client_starts, client_stops, comes_up, fails_early, fails_midway, given_at, given_to, gives, has_client, has_host, is_away, is_full, message_at, moved, nothing, server_armed, server_ends, server_given, server_restarted, server_served, server_stopped, server_timed, server_waits, server_wakes, sets_fail, sets_stop, settled, start, starts_again, stops, struck, ticks, voided, waited_by, waits, wakes, loc_placed, loc_restarted, loc_up}
 use Rattle.afs_rows.specs.States.{BackCall, ServerState}
 use Rattle.std.proofs.Common.{zero, suc, ◌≡◌, ℕ, ◌<◌, ◌≤◌, arith, ltb-true, Bool, true, false, cond, List, [], ◌∷◌, Option, Some, None, refl, sym, subst, ◌∙◌}
 use Rattle.std.specs.Prelude.{not, ◌||◌}
@@ -80,6 +82,18 @@ served_stays s c i place m (Some b) H is = record { of = is; nodes = kept s c _ 
 received_stays : (s : Script) (c : Cell) (i place : ℕ) (luck : Luck) (m : Message) (d : Option Fall) → HasNodes s c → (1 ≤ i) × (i ≤ s.servers) → Stays s (server_given c i place luck m d)
 received_stays s c i place luck m None H is = served_stays s c i place m (struck (c.hosts i).armed luck (calls_at c i m)) H is
 received_stays s c i place luck m (Some fall) H is = void_stays s c H
+
+-- whatever the location database does
+loc_stays : (s : Script) (c : Cell) (st : HostStep LocState) → HasNodes s c → Stays s (loc_placed c st)
+loc_stays s c st H = record { of = tt; nodes = kept s c _ refl refl refl H }
+
+loc_up_stays : (s : Script) (c : Cell) (st : HostStep LocState) (d : Option Fall) → HasNodes s c → Stays s (loc_up c st d)
+loc_up_stays s c st None H = loc_stays s c st H
+loc_up_stays s c st (Some fall) H = void_stays s c H
+
+loc_restarted_stays : (s : Script) (c : Cell) (after : Bool) (out : Outcome) (d : Option Fall) → HasNodes s c → Stays s (loc_restarted c after out d)
+loc_restarted_stays s c after out None H = void_stays s c H
+loc_restarted_stays s c after out (Some fall) H = loc_stays s c (restarted loc_kind c.loc c.clock c.count after out fall) H
 
 to_stays : (s : Script) (c : Cell) (place : ℕ) (luck : Luck) (m : Message) (to : Node) → HasNodes s c → Stays s (given_to c place luck m to)
 to_stays s c place luck m (Server i) H = if_server s c i _ H (λ is. received_stays s c i place luck m (c.hosts i).down H is)
@@ -145,10 +159,14 @@ moved_stays s c (ticks zero) H = void_stays s c H
 moved_stays s c (ticks (suc n)) H = record { of = tt; nodes = kept s c _ refl refl refl H }
 moved_stays s c (client_stops n) H = if_client s c n _ H (λ is up. record { of = is; nodes = turned_nodes s c _ n true refl refl refl up H })
 moved_stays s c (client_starts n) H = if_there s c (c.away n) _ H (λ e. let up : has_client c.count n ≡ true = H.away n e in record { of = is_client s c n H up; nodes = turned_nodes s c _ n false refl refl refl up H })
-moved_stays s c (stops i) H = if_server s c i _ H (λ is. stopped_stays s c i (c.hosts i).down H is)
-moved_stays s c (starts_again i after out) H = if_server s c i _ H (λ is. restarted_stays s c i after out (c.hosts i).down H is)
-moved_stays s c (sets_stop i calls pick) H = if_server s c i _ H (λ is. armed_stays s c i (lines.Stop (Server i) calls pick) _ (c.hosts i).down H is)
-moved_stays s c (sets_fail i call) H = if_server s c i _ H (λ is. armed_stays s c i (lines.Fail (Server i) call) _ (c.hosts i).down H is)
+moved_stays s c (stops zero) H = loc_up_stays s c (crashed loc_kind c.loc) c.loc.down H
+moved_stays s c (stops (suc i)) H = if_server s c (suc i) _ H (λ is. stopped_stays s c (suc i) (c.hosts (suc i)).down H is)
+moved_stays s c (starts_again zero after out) H = loc_restarted_stays s c after out c.loc.down H
+moved_stays s c (starts_again (suc i) after out) H = if_server s c (suc i) _ H (λ is. restarted_stays s c (suc i) after out (c.hosts (suc i)).down H is)
+moved_stays s c (sets_stop zero calls pick) H = loc_up_stays s c (set_to_stop loc_kind c.loc calls pick) c.loc.down H
+moved_stays s c (sets_stop (suc i) calls pick) H = if_server s c (suc i) _ H (λ is. armed_stays s c (suc i) (lines.Stop (Server (suc i)) calls pick) _ (c.hosts (suc i)).down H is)
+moved_stays s c (sets_fail zero call) H = loc_up_stays s c (set_to_fail loc_kind c.loc call) c.loc.down H
+moved_stays s c (sets_fail (suc i) call) H = if_server s c (suc i) _ H (λ is. armed_stays s c (suc i) (lines.Fail (Server (suc i)) call) _ (c.hosts (suc i)).down H is)
 moved_stays s c (server_waits i n) H = if_server s c i _ H (λ is. timed_stays s c i n (c.hosts i).down H is)
 moved_stays s c (wakes i) H = if_server s c i _ H (λ is. woken_stays s c i (c.hosts i).down H is)
 moved_stays s c nothing H = void_stays s c H

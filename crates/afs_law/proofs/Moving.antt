@@ -6,15 +6,19 @@ use Rattle.afs_num.specs.declared.messages.Message.{Message}
 use Rattle.afs_num.specs.declared.messages.Received.TheVariants.{Whole}
 use Rattle.afs_num.specs.declared.types.Node.{Node}
 use Rattle.afs_num.specs.declared.types.Node.TheVariants.{Admin, Client, Loc, Server}
+use Rattle.afs_history.specs.declared.lines.Line.{Line}
 use Rattle.afs_rows.specs.ClientRow.{begin_row, client_row, timeout_row}
 use Rattle.afs_rows.specs.Going.{Going}
-use Rattle.afs_law.proofs.Steps.{blow_line, calls_at, server_falls, server_moves, server_rises, server_set, server_stays, falls_is, sets_is, stays_is}
-use Rattle.afs_rows.specs.Hosts.{sets}
+use Rattle.afs_law.proofs.LocLines.{begun_told, fail_step, stop_step, told_step, IsLocStep}
+use Rattle.afs_law.proofs.Steps.{loc_becomes, loc_is, blow_line, calls_at, server_falls, server_moves, server_rises, server_set, server_stays, falls_is, sets_is, stays_is}
+use Rattle.afs_rows.specs.Hosts.{begun_from, crashed, ends, sets}
+use Rattle.afs_rows.specs.LocRow.{loc_can_start, loc_revived}
+use Rattle.afs_rows.specs.LocSteps.{loc_kind, loc_start_row, LocHost}
 use Rattle.afs_rows.specs.ServerHosts.{can_start}
-use Rattle.afs_rows.specs.Runs.{Armed, Blow, Cell, Entry, Fall, Input, Leads, Luck, Moved, Outcome, at_rest, back_timed, begins, begun_by, begun_by_disk, client_falls, client_moves, client_rises, client_starts, client_stops, comes_up, fails_early, fails_midway, given_at, given_to, gives, has_host, in_boot, in_step, is_away, is_full, message_at, moved, nothing, server_armed, server_ends, server_given, server_restarted, server_served, server_stopped, server_timed, server_waits, server_wakes, sets_fail, sets_stop, settled, starts_again, stops, struck, ticked, ticks, voided, waited_by, waits, wakes}
+use Rattle.afs_rows.specs.Runs.{loc_placed, loc_restarted, loc_up, unarmed, Armed, Blow, Cell, Entry, Fall, Input, Leads, Luck, Moved, Outcome, at_rest, back_timed, begins, begun_by, begun_by_disk, client_falls, client_moves, client_rises, client_starts, client_stops, comes_up, fails_early, fails_midway, given_at, given_to, gives, has_host, in_boot, in_step, is_away, is_full, message_at, moved, nothing, server_armed, server_ends, server_given, server_restarted, server_served, server_stopped, server_timed, server_waits, server_wakes, sets_fail, sets_stop, settled, starts_again, stops, struck, ticked, ticks, voided, waited_by, waits, wakes}
 use Rattle.afs_rows.specs.ServerSteps.{back_timeout_row, server_row, wake_row}
 use Rattle.afs_rows.specs.States.{BackCall}
-use Rattle.std.proofs.Common.{zero, suc, ◌≡◌, ℕ, Bool, true, false, cond, List, [], ◌∷◌, Option, Some, None, refl, sym, subst}
+use Rattle.std.proofs.Common.{◌+◌, zero, suc, ◌≡◌, ℕ, Bool, true, false, cond, List, [], ◌∷◌, Option, Some, None, refl, sym, subst}
 
 -- ---- every kind of step
 
@@ -28,6 +32,8 @@ pub record EachMove (Q : Cell → List Entry → Type 0) (M : Cell → List Entr
   pub waited : (c : Cell) (past : List Entry) (n : ℕ) (act : Going) → Q c past → (c.clients n).running ≡ Some act → M c past (client_moves c n (timeout_row (Client n) (c.clients n) act))
   pub fallen : (c : Cell) (past : List Entry) (n : ℕ) → Q c past → M c past (client_falls c n)
   pub risen : (c : Cell) (past : List Entry) (n : ℕ) → Q c past → M c past (client_rises c n)
+  -- of the location database: it stops, its disk is set, it begins again or its disk fails in that
+  pub loc : (c : Cell) (past : List Entry) (l : LocHost) (ls : List Line) → Q c past → IsLocStep ls → M c past (loc_becomes c l ls)
   -- of a server that is up: it serves a message or is cut short in that, it stops, its disk is set, a call of its own is timed out, time passes
   pub served : (c : Cell) (past : List Entry) (i place : ℕ) (m : Message) (armed : Armed) → Q c past → (c.hosts i).down ≡ None → message_at c.sent place ≡ Some m → m.head.to ≡ Server i → M c past (server_moves c i armed (server_row (Server i) (c.hosts i).state c.clock place (Whole m)))
   pub cut : (c : Cell) (past : List Entry) (i place : ℕ) (m : Message) (t : Blow) → Q c past → (c.hosts i).down ≡ None → message_at c.sent place ≡ Some m → m.head.to ≡ Server i → M c past (server_falls c i (lines.Given place ∷ blow_line i t.stops ∷ []) (in_step m c.clock t))
@@ -108,6 +114,39 @@ woken_by : (Q : Cell → List Entry → Type 0) (M : Cell → List Entry → Mov
 woken_by Q M E c past i None h up = E.woken c past i _ h up
 woken_by Q M E c past i (Some fall) h up = E.void c past h
 
+-- ---- the location database, whatever is asked of its steps
+
+abbrev pub LocMoves : (Moved → Type 0) → Cell → Type 0
+LocMoves R c = (l : LocHost) (ls : List Line) → IsLocStep ls → R (loc_becomes c l ls)
+
+pub loc_stopped_to : (R : Moved → Type 0) (c : Cell) (d : Option Fall) → R (voided c) → LocMoves R c → R (loc_up c (crashed loc_kind c.loc) d)
+loc_stopped_to R c None v w = loc_is R c (record c.loc { down = Some at_rest; armed = unarmed }) (lines.Crash Loc ∷ []) (w _ (lines.Crash Loc ∷ []) (told_step (lines.Crash Loc ∷ []) refl))
+loc_stopped_to R c (Some fall) v w = v
+
+pub loc_armed_to : (R : Moved → Type 0) (c : Cell) (l : Line) (armed : Armed) (d : Option Fall) → IsLocStep (l ∷ []) → R (voided c) → LocMoves R c → R (loc_up c (sets c.loc l armed) d)
+loc_armed_to R c l armed None e v w = loc_is R c (record c.loc { armed = armed }) (l ∷ []) (w _ (l ∷ []) e)
+loc_armed_to R c l armed (Some fall) e v w = v
+
+loc_ends_to : (R : Moved → Type 0) (c : Cell) (after : Bool) (fall : Fall) (out : Outcome) → LocMoves R c → R (loc_placed c (ends loc_kind c.loc c.clock c.count (begun_from loc_kind c.loc.state after fall) fall out))
+unfolding loc_start_row
+loc_ends_to R c after fall comes_up w =
+    let f = begun_from loc_kind c.loc.state after fall in
+    let ls : List Line = f.before (lines.Restart Loc (f.state.lasting.boot + 1) ∷ []) in
+    loc_is R c (record { state = loc_revived f.state; down = None; armed = unarmed }) ls (w _ ls (told_step ls (begun_told c.loc.state after fall (lines.Restart Loc (f.state.lasting.boot + 1) ∷ []) refl)))
+loc_ends_to R c after fall fails_early w = loc_is R c (record c.loc { down = Some fall; armed = unarmed }) (lines.Fault Loc ∷ []) (w _ (lines.Fault Loc ∷ []) (told_step (lines.Fault Loc ∷ []) refl))
+loc_ends_to R c after fall fails_midway w =
+    let f = begun_from loc_kind c.loc.state after fall in
+    loc_is R c (record { state = f.state; down = Some in_boot; armed = unarmed }) (f.before (lines.Fault Loc ∷ [])) (w _ _ (told_step (f.before (lines.Fault Loc ∷ [])) (begun_told c.loc.state after fall (lines.Fault Loc ∷ []) refl)))
+loc_ends_to R c after fall is_full w =
+    let f = begun_from loc_kind c.loc.state after fall in
+    loc_is R c (record { state = f.state; down = Some at_rest; armed = unarmed }) (f.before (lines.Full Loc ∷ [])) (w _ _ (told_step (f.before (lines.Full Loc ∷ [])) (begun_told c.loc.state after fall (lines.Full Loc ∷ []) refl)))
+
+pub loc_restarted_to : (R : Moved → Type 0) (c : Cell) (after : Bool) (out : Outcome) (d : Option Fall) → R (voided c) → LocMoves R c → R (loc_restarted c after out d)
+loc_restarted_to R c after out None v w = v
+loc_restarted_to R c after out (Some fall) v w = loc_ends_to R c after fall (settled (loc_can_start (begun_from loc_kind c.loc.state after fall).state) out) w
+
+-- ---- any step
+
 pub each_moved : (Q : Cell → List Entry → Type 0) (M : Cell → List Entry → Moved → Type 0) (E : EachMove Q M) (c : Cell) (past : List Entry) (x : Input) → Q c past → M c past (moved c x)
 unfolding moved
 each_moved Q M E c past (begins n act) h = either Q M c past (is_away c n) _ _ (E.void c past h) (begun_by' Q M E c past n act (c.clients n).running h refl)
@@ -117,10 +156,14 @@ each_moved Q M E c past (ticks zero) h = E.void c past h
 each_moved Q M E c past (ticks (suc n)) h = E.ticked c past n h
 each_moved Q M E c past (client_stops n) h = either Q M c past (is_away c n) _ _ (E.void c past h) (E.fallen c past n h)
 each_moved Q M E c past (client_starts n) h = either Q M c past (c.away n) _ _ (E.risen c past n h) (E.void c past h)
-each_moved Q M E c past (stops i) h = either Q M c past (has_host c i) _ _ (stopped_by Q M E c past i (c.hosts i).down h refl) (E.void c past h)
-each_moved Q M E c past (starts_again i after out) h = either Q M c past (has_host c i) _ _ (restarted_by Q M E c past i after out (c.hosts i).down h refl) (E.void c past h)
-each_moved Q M E c past (sets_stop i calls pick) h = either Q M c past (has_host c i) _ _ (stop_by Q M E c past i calls pick _ (c.hosts i).down h refl) (E.void c past h)
-each_moved Q M E c past (sets_fail i call) h = either Q M c past (has_host c i) _ _ (fail_by Q M E c past i call _ (c.hosts i).down h refl) (E.void c past h)
+each_moved Q M E c past (stops zero) h = loc_stopped_to (M c past) c c.loc.down (E.void c past h) (λ l ls st. E.loc c past l ls h st)
+each_moved Q M E c past (stops (suc i)) h = either Q M c past (has_host c (suc i)) _ _ (stopped_by Q M E c past (suc i) (c.hosts (suc i)).down h refl) (E.void c past h)
+each_moved Q M E c past (starts_again zero after out) h = loc_restarted_to (M c past) c after out c.loc.down (E.void c past h) (λ l ls st. E.loc c past l ls h st)
+each_moved Q M E c past (starts_again (suc i) after out) h = either Q M c past (has_host c (suc i)) _ _ (restarted_by Q M E c past (suc i) after out (c.hosts (suc i)).down h refl) (E.void c past h)
+each_moved Q M E c past (sets_stop zero calls pick) h = loc_armed_to (M c past) c (lines.Stop Loc calls pick) _ c.loc.down (stop_step calls pick) (E.void c past h) (λ l ls st. E.loc c past l ls h st)
+each_moved Q M E c past (sets_stop (suc i) calls pick) h = either Q M c past (has_host c (suc i)) _ _ (stop_by Q M E c past (suc i) calls pick _ (c.hosts (suc i)).down h refl) (E.void c past h)
+each_moved Q M E c past (sets_fail zero call) h = loc_armed_to (M c past) c (lines.Fail Loc call) _ c.loc.down (fail_step call) (E.void c past h) (λ l ls st. E.loc c past l ls h st)
+each_moved Q M E c past (sets_fail (suc i) call) h = either Q M c past (has_host c (suc i)) _ _ (fail_by Q M E c past (suc i) call _ (c.hosts (suc i)).down h refl) (E.void c past h)
 each_moved Q M E c past (server_waits i n) h = either Q M c past (has_host c i) _ _ (timed_by Q M E c past i n (c.hosts i).down h refl) (E.void c past h)
 each_moved Q M E c past (wakes i) h = either Q M c past (has_host c i) _ _ (woken_by Q M E c past i (c.hosts i).down h refl) (E.void c past h)
 each_moved Q M E c past nothing h = E.void c past h

@@ -101,6 +101,7 @@ notice_moves s = record {
   waited = λ c past n act h r. client_told s c past n None (timeout_row (Client n) (c.clients n) act) h (waited_alive (Client n) (c.clients n) act) (waits_tame any_told (OfEpoch (c.clients n).epoch) AnyBoot n (c.clients n) act r (seated s c past n h));
   fallen = λ c past n h j is. tt;
   risen = λ c past n h j is. tt;
+  loc = λ c past l ls h st j is. absurd cc;
   served = λ c past i place m armed h up at to j is. absurd cc;
   cut = λ c past i place m t h up at to j is. tt;
   stopped = λ c past i h up j is. tt;

@@ -85,6 +85,7 @@ numbers_moves s = record {
   waited = λ c past n act h r. client_numbered c past n _ h.1 (waits_acts n (c.clients n) act r);
   fallen = λ c past n h. client_numbered c past n _ h.1 (falls_acts n (c.clients n));
   risen = λ c past n h. client_numbered c past n _ h.1 (rises_acts n (c.clients n));
+  loc = λ c past l ls h st. h.1;
   served = λ c past i place m armed h up at to. server_numbered c past _ h.1;
   cut = λ c past i place m t h up at to. h.1;
   stopped = λ c past i h up. h.1;

@@ -1,5 +1,6 @@
 -- What the lines and the messages of a run tell of its acts and calls, however many servers its cell has: which act runs at each
 -- client; and each call of a client is the one under its key, which that sent while the act ran that asks for it.
+use Rattle.afs_law.proofs.LocLines.{is_of_loc, all_of_loc}
 use Rattle.afs_history.specs.declared.lines.Line.{Line}
 use Rattle.afs_history.specs.declared.lines.Line.TheVariants as lines
 use Rattle.afs_history.specs.declared.scripts.Script.{Script}
@@ -7,7 +8,7 @@ use Rattle.afs_law.proofs.Acting.{Acts, Asks, IsTheCall, Rests, Stops, begins_ac
 use Rattle.afs_law.proofs.Sent.{call_is, under_last, unsent_late, late_by}
 use Rattle.afs_law.proofs.Backing.{all_lines}
 use Rattle.afs_law.proofs.Basics.{ByClient, Each, IfCall, OfCall, OfClient, UpTo, at_put, both, by_client, client_number, each_at, each_map, each_more, if_call, node_apart, a_key, next_not, of_client as of_client_node, same_key-refl, same_key-true, same_node-true, some_of}
-use Rattle.afs_law.proofs.Booting.{is_server}
+use Rattle.afs_rows.specs.ServerRow.{is_client}
 use Rattle.afs_law.proofs.Calling.{IsUncalled, uncalled_any}
 use Rattle.afs_ideal.specs.Tables.{Table}
 use Rattle.afs_law.proofs.Choosing.{AreFrom, IfCut, Works, is_from, one_from, risen_from, risen_lines, serves_works, starts_works, disk_works, times_works, wakes_works}
@@ -44,14 +45,14 @@ use Rattle.afs_num.specs.declared.types.Node.TheVariants.{Admin, Client, Loc, Se
 use Rattle.afs_rows.specs.Callbacks.{put}
 use Rattle.afs_rows.specs.ClientRow.{call_by, call_message, call_of}
 use Rattle.afs_rows.specs.Going.{ClientState, Going, began, next, read_on}
-use Rattle.afs_law.proofs.Steps.{blow_line, server_moves}
+use Rattle.afs_law.proofs.Steps.{blow_line, server_moves, loc_becomes}
 use Rattle.afs_rows.specs.Runs.{Armed, Cell, Entry, Fall, at_rest, in_boot, in_step, RunsTo, begun_by_disk, locations, start, unarmed, user_at}
 use Rattle.afs_rows.specs.ServerRow.{key_of, made, versioned}
 use Rattle.afs_rows.specs.ServerSteps.{back_timeout_row, server_row, start_row, wake_row}
 use Rattle.afs_rows.specs.States.{Gift, ServerState}
 use Rattle.afs_rows.specs.Steps.{Step}
 use Rattle.std.proofs.Common.{◌≡◌, ℕ, ◌+◌, ◌⊎◌, inl, inr, Bool, true, false, cond, List, [], ◌∷◌, ◌++◌, Option, Some, None, refl, sym, ap, subst, ◌∙◌}
-use Rattle.std.specs.Prelude.{⊤, ◌&&◌}
+use Rattle.std.specs.Prelude.{⊤, ◌&&◌, not}
 use Rattle.afs_law.proofs.Following.{none_runs}
 use Rattle.afs_law.proofs.Passing.{late_kept}
 
@@ -61,17 +62,17 @@ abbrev pub is_idle : Line → Bool
 is_idle (lines.Begin n act) = false
 is_idle (lines.Read n f index source body) = false
 is_idle (lines.Answer n code) = false
-is_idle (lines.Timeout n callee epoch number count) = is_server n
-is_idle (lines.Crash n) = is_server n
-is_idle (lines.Drop n f) = is_server n
-is_idle (lines.DropAll n q) = is_server n
+is_idle (lines.Timeout n callee epoch number count) = not (is_client n)
+is_idle (lines.Crash n) = not (is_client n)
+is_idle (lines.Drop n f) = not (is_client n)
+is_idle (lines.DropAll n q) = not (is_client n)
 is_idle l = true
 
-pub server_apart : (n : Node) (j : ℕ) → is_server n ≡ true → same_node n (Client j) ≡ false
+pub server_apart : (n : Node) (j : ℕ) → not (is_client n) ≡ true → same_node n (Client j) ≡ false
 server_apart (Server i) j h = refl
 server_apart (Client i) j h = absurd cc
-server_apart (Admin i) j h = absurd cc
-server_apart Loc j h = absurd cc
+server_apart (Admin i) j h = refl
+server_apart Loc j h = refl
 
 -- the act of a client, and what it began, fetched and dropped
 pub record Leaves (s : Script) (j : ℕ) (ls o : List Line) : Type 0 where
@@ -96,8 +97,8 @@ idle_fetched : (j : ℕ) (f : Fid) (l : Line) (ls : List Line) → is_idle l ≡
 idle_fetched j f (lines.Read n g index source body) ls h = absurd cc
 idle_fetched j f l ls h = refl
 
-no_server : (n : Node) (j : ℕ) → is_server n ≡ true → n ≡ Client j → ⊥
-no_server n j h e = let no_ : is_server (Client j) ≡ true = ap is_server (sym e) ∙ h in absurd cc
+no_server : (n : Node) (j : ℕ) → not (is_client n) ≡ true → n ≡ Client j → ⊥
+no_server n j h e = let no_ : not (is_client (Client j)) ≡ true = ap (λ (q : Node). not (is_client q)) (sym e) ∙ h in absurd cc
 
 idle_dropped : (q : Node) (j : ℕ) (f : Fid) (l : Line) (o : List Line) → is_idle l ≡ true → IsDropped q (Client j) f (l ∷ o) → IsDropped q (Client j) f o
 idle_dropped q j f (lines.Drop n g) o h (inl e) = absurd (no_server n j h e.0)
@@ -168,8 +169,8 @@ other_leaves s i j (l ∷ ls) o h ne =
     record { runs = r.runs ∙ other_line s i j l o q.0 ne; begins = other_begins i j l ls q.0 ne ∙ r.begins; fetched = λ f. other_fetched i j f l ls q.0 ne ∙ r.fetched f; dropped = λ s f x. other_dropped s i j f l o q.0 ne (r.dropped s f x); timed = λ s d k m x. other_timed s i j d k m l o q.0 ne (r.timed s d k m x) }
 
 -- a server's
-from_server : (n : Node) (i : ℕ) → same_node n (Server i) ≡ true → is_server n ≡ true
-from_server n i h = ap is_server (same_node-true n (Server i) h)
+from_server : (n : Node) (i : ℕ) → same_node n (Server i) ≡ true → not (is_client n) ≡ true
+from_server n i h = ap (λ (q : Node). not (is_client q)) (same_node-true n (Server i) h)
 
 from_idle : (i : ℕ) (l : Line) → is_from (Server i) l ≡ true → is_idle l ≡ true
 from_idle i (lines.Begin n act) h = absurd cc
@@ -408,6 +409,19 @@ moves_asked s c past i armed st A idle none = idle_asked s c.clients c.sent (c.s
 still_asked : (s : Script) (c : Cell) (past : List Entry) (e : Entry) → AskedIn s c past → e.sent ≡ [] → all_lines is_idle e.lines ≡ true → Asked s c.clients c.sent (e ∷ past)
 still_asked s c past e A none idle = idle_asked s c.clients c.sent c.sent past e A (λ P a b. a) (λ k x z. z) idle (subst (Each IsUncalled) (sym none) tt)
 
+of_loc_idle : (l : Line) → is_of_loc l ≡ true → is_idle l ≡ true
+of_loc_idle (lines.Crash n) h = ap (λ (q : Node). not (is_client q)) (same_node-true n Loc h)
+of_loc_idle (lines.Begin n act) h = absurd cc
+of_loc_idle (lines.Read n f index source body) h = absurd cc
+of_loc_idle (lines.Answer n code) h = absurd cc
+of_loc_idle (lines.Timeout n callee epoch number count) h = absurd cc
+of_loc_idle (lines.Drop n f) h = absurd cc
+of_loc_idle (lines.DropAll n q) h = absurd cc
+of_loc_idle l h = refl
+
+pub loc_idle : (ls : List Line) → all_lines is_of_loc ls ≡ true → all_lines is_idle ls ≡ true
+loc_idle ls h = all_of_loc is_idle of_loc_idle ls h
+
 asked_moves : (s : Script) → EachMove (KnownAsked s) (Behind (AskedIn s))
 asked_moves s = record {
   void = λ c past h. still_asked s c past _ h.1 refl refl;
@@ -417,6 +431,7 @@ asked_moves s = record {
   waited = λ c past n act h r. client_asked s c past n _ h.0 h.1 (waits_acts n (c.clients n) act r);
   fallen = λ c past n h. client_asked s c past n _ h.0 h.1 (falls_acts n (c.clients n));
   risen = λ c past n h. client_asked s c past n _ h.0 h.1 (rises_acts n (c.clients n));
+  loc = λ c past l ls h st. still_asked s c past (loc_becomes c l ls).entry h.1 refl (loc_idle ls st.lines);
   served = λ c past i place m armed h up at to. moves_asked s c past i armed (server_row (Server i) (c.hosts i).state c.clock place (Whole m)) h.1 (idle_works any_message i (c.hosts i).state _ _ (serves_works any_message (Server i) (c.hosts i).state c.clock place m (λ rest. tt))) (served_uncalled c past i place m h.0 at);
   cut = λ c past i place m t h up at to. still_asked s c past _ h.1 refl (blow_idle i t.stops);
   stopped = λ c past i h up. still_asked s c past _ h.1 refl refl;

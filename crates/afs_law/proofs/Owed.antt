@@ -1,4 +1,5 @@
 -- The breaks of each server of a run are good, and its replies wait for them, however many servers a cell has.
+use Rattle.afs_law.proofs.LocLines.{is_of_loc, all_of_loc}
 use Rattle.afs_law.proofs.Loading.{clock_back, IsHit, alls_good, all_hits, down_later, filtered, has_owe, hits_hit, is_tickless, numbers_good, quits_good, rise_loaded, IsReplied, settles_good, touched_hit, two_all, owes_tickless, onto_both}
 use Rattle.afs_breaks.specs.declared.types.Promise.{Promise}
 use Rattle.afs_breaks.specs.Promises.{owes_from}
@@ -8,8 +9,8 @@ use Rattle.afs_history.specs.declared.scripts.Script.{Script}
 use Rattle.afs_ideal.specs.Operations.{Found}
 use Rattle.afs_ideal.specs.Tables.{Table}
 use Rattle.afs_law.proofs.Acting.{Acts, begins_acts, falls_acts, given_acts, is_of, rises_acts, waits_acts, who_at, Who, IsTheCall}
-use Rattle.afs_law.proofs.Backing.{Plain, all_lines, backed_fall, backed_plain, change_back, is_oweless, is_still, is_unchanging, plain_step, seated_over, before_own, live_back, live_given, no_owe, rising_back, zero_back}
-use Rattle.afs_law.proofs.Basics.{Above, Below, ByServer, Each, IfBack, IfCall, IfDone, IfReply, LastSeat, OfCall, OfClient, OfReply, OfServer, at_put, both, by_client, by_server, each_at, each_map, each_more, node_apart, of_call, runs_admitted, same_node-refl}
+use Rattle.afs_law.proofs.Backing.{Plain, all_lines, backed_fall, backed_plain, change_back, is_oweless, is_still, is_unchanging, plain_step, seated_over, before_own, live_back, live_given, no_owe, rising_back, zero_back, is_up}
+use Rattle.afs_law.proofs.Basics.{Above, Below, ByServer, Each, IfBack, IfCall, IfDone, IfReply, LastSeat, OfCall, OfClient, OfReply, OfServer, at_put, both, by_client, by_server, each_at, each_map, each_more, node_apart, of_call, runs_admitted, same_node-refl, same_node-true}
 use Rattle.afs_law.proofs.Booting.{HasFront, all_same, disk_front, serves_standing, times_standing, owes_standing}
 use Rattle.afs_law.proofs.Breaking.{Facing, IsKept, IsMessage, Loads, Runtime, answered_loads, does_loads, none_loads, noticed_loads, of_server, repeated_lines, timed_loads, saves_lines}
 use Rattle.afs_law.proofs.Changing.{run_each}
@@ -54,12 +55,12 @@ use Rattle.afs_num.specs.declared.types.Fid.{Fid}
 use Rattle.afs_num.specs.declared.types.Head.{Head}
 use Rattle.afs_num.specs.declared.types.Key.{Key}
 use Rattle.afs_num.specs.declared.types.Node.{Node}
-use Rattle.afs_num.specs.declared.types.Node.TheVariants.{Client, Server}
+use Rattle.afs_num.specs.declared.types.Node.TheVariants.{Client, Server, Loc}
 use Rattle.afs_records.specs.Durable.{Stored}
 use Rattle.afs_rows.specs.Callbacks.{Turn, expired, is_back_awaited, is_seat_of, key_answered, no_turn, owe_line, pumped, put, quits, replies_of, retries, settles, settles_by, still_owed, turn_for, turned_by, held_under, if_to, quit_line, renews, renews_by, settle_line}
 use Rattle.afs_rows.specs.ClientRow.{begin_row, client_row, reborn, timeout_row}
 use Rattle.afs_rows.specs.Going.{ClientState}
-use Rattle.afs_law.proofs.Steps.{blow_line, server_falls, server_moves, server_set, server_stays}
+use Rattle.afs_law.proofs.Steps.{blow_line, server_falls, server_moves, server_set, server_stays, loc_becomes}
 use Rattle.afs_rows.specs.Runs.{Armed, Cell, Entry, Fall, Moved, at_rest, begun_by_disk, client_moves, in_boot, in_step, message_at, start, unarmed, first_client, first_host, ServerHost}
 use Rattle.afs_rows.specs.ServerRow.{Change, Decision, begun_after, decides, does, drops, granted, granted_in, hears, key_of, made, promise_ticks, refuses, repeats, saves, shows, tells_boot, versioned}
 use Rattle.afs_rows.specs.ServerSteps.{back_timeout_row, server_row, start_row, wake_row}
@@ -73,7 +74,7 @@ use Rattle.afs_law.proofs.SettingUp.{AreVersions, all_versions, first_oweless, f
 use Rattle.std.proofs.Common.{suc, ◌≡◌, ℕ, ◌+◌, ◌<◌, ◌≤◌, ◌⊎◌, inl, inr, Bool, true, false, cond, nat_eq, nat_lt, List, [], ◌∷◌, ◌++◌, map, length, Option, Some, None, refl, sym, ap, subst, ◌∙◌, arith, append-nil, le_of_eq, ltb-true, eqb-true}
 use Rattle.std.proofs.Math.Nat.{le_refl}
 use Rattle.std.proofs.lemmas.List.{append_assoc}
-use Rattle.std.specs.Prelude.{⊤}
+use Rattle.std.specs.Prelude.{⊤, not}
 
 -- ---- what holds after every entry
 
@@ -841,6 +842,38 @@ server_steps : (s : Script) (c : Cell) (past : List Entry) (i : ℕ) (armed : Ar
     → EachLine (IsBreakGood s) (actors.Node (Server i)) past [] st.lines → Steps s c past (server_moves c i armed st)
 server_steps s c past i armed st B w h r = record { backed = moves_backed s c past i armed st B w h.0; rules = r; replies = replies_good (of_server (Server i) st.lines st.sent ∷ past) st.sent h.1 }
 
+loc_up : (i : ℕ) (l : Line) → is_of_loc l ≡ true → is_up (Server i) l ≡ true
+loc_up i (lines.Crash n) h = subst (λ (q : Node). not (same_node q (Server i)) ≡ true) (sym (same_node-true n Loc h)) refl
+loc_up i (lines.Fault n) h = subst (λ (q : Node). not (same_node q (Server i)) ≡ true) (sym (same_node-true n Loc h)) refl
+loc_up i l h = refl
+
+loc_still : (l : Line) → is_of_loc l ≡ true → is_still l ≡ true
+loc_still (lines.Grant s c f index expiry) h = absurd cc
+loc_still l h = refl
+
+loc_oweless : (l : Line) → is_of_loc l ≡ true → is_oweless l ≡ true
+loc_oweless (lines.Owe s c what n) h = absurd cc
+loc_oweless l h = refl
+
+loc_changes : (l : Line) → is_of_loc l ≡ true → is_unchanging l ≡ true
+loc_changes (lines.Change server k count) h = absurd cc
+loc_changes l h = refl
+
+loc_free : (l : Line) → is_of_loc l ≡ true → is_free l ≡ true
+loc_free (lines.Change server k count) h = absurd cc
+loc_free (lines.Owe server c what n) h = absurd cc
+loc_free (lines.Settle server c n) h = absurd cc
+loc_free (lines.Quit server c n) h = absurd cc
+loc_free l h = refl
+
+loc_plain : (i : ℕ) (ls : List Line) → all_lines is_of_loc ls ≡ true → Plain (Server i) ls
+loc_plain i ls h = record {
+  up = all_of_loc (is_up (Server i)) (loc_up i) ls h;
+  still = all_of_loc is_still loc_still ls h;
+  oweless = all_of_loc is_oweless loc_oweless ls h;
+  unchanging = all_of_loc is_unchanging loc_changes ls h;
+}
+
 break_moves : (s : Script) → EachMove (Breaks s) (Steps s)
 break_moves s = record {
   void = λ c past B. record { backed = record { count = B.backed.count; fair = B.backed.fair; all = still_all s c past _ c.clock (λ i. record { up = refl; still = refl; oweless = refl; unchanging = refl }) (le_refl _) B.backed }; rules = (tt, tt); replies = tt };
@@ -854,6 +887,7 @@ break_moves s = record {
   waited = λ c past n act B r. speaks_steps s c past n (timeout_row (Client n) (c.clients n) act) B (waits_acts n (c.clients n) act r) (waits_speaks (Client n) (c.clients n) act);
   fallen = λ c past n B. let k = client_steps s c past n (record { state = reborn (c.clients n); lines = lines.Crash (Client n) ∷ []; sent = [] }) B (falls_acts n (c.clients n)) (falls_all c past n) in record { backed = record { count = k.backed.count; fair = k.backed.fair; all = k.backed.all }; rules = k.rules; replies = k.replies };
   risen = λ c past n B. let k = speaks_steps s c past n (record { state = c.clients n; lines = lines.Restart (Client n) (c.clients n).epoch ∷ []; sent = [] }) B (rises_acts n (c.clients n)) (record { calls = tt; seats' = refl }) in record { backed = record { count = k.backed.count; fair = k.backed.fair; all = k.backed.all }; rules = k.rules; replies = k.replies };
+  loc = λ c past l ls B st. record { backed = record { count = B.backed.count; fair = B.backed.fair; all = still_all s c past (loc_becomes c l ls).entry c.clock (λ i. loc_plain i ls st.lines) (le_refl _) B.backed }; rules = free_rules s (actors.Node Loc) past [] ls (all_of_loc is_free loc_free ls st.lines); replies = tt };
   served = λ c past i place m armed B up at to. server_steps s c past i armed (server_row (Server i) (c.hosts i).state c.clock place (Whole m)) B (serves_works (KnownIn c B.held.0.0.0.keys.callees) (Server i) (c.hosts i).state c.clock place m (λ rest. each_at (KnownBy c B.held.0.0.0.keys.callees) c.sent place m at B.held.0.0.0.keys.calls)) (served_step s c past i place m B up at to) (served_rules s c past i place m B up at to);
   cut = λ c past i place m t B up at to. falls_steps s c past i (lines.Given place ∷ blow_line i t.stops ∷ []) (in_step m c.clock t) B (blow_from i place t.stops) (blow_free i place t.stops) (blow_oweless i place t.stops) (blow_still i place t.stops) (blow_stopped i place t.stops);
   stopped = λ c past i B up. falls_steps s c past i (lines.Crash (Server i) ∷ []) at_rest B (rw (own_from i) refl) refl refl refl (λ o. inl refl);

@@ -15,7 +15,7 @@ use Rattle.afs_law.proofs.Origins.{KnownAsked, asked_first, asked_kept}
 use Rattle.afs_law.proofs.Promising.{owes_all, risen_is}
 use Rattle.afs_law.specs.Breaks.{HasOwe}
 use Rattle.afs_law.specs.Ideal.{set_up}
-use Rattle.afs_law.specs.Legal.{GoodRestart, IsInPlace, IsOfServer, IsUnderChange}
+use Rattle.afs_law.specs.Legal.{GoodRestart, IsInPlace, IsOfDisk, IsOfServer, IsUnderChange}
 use Rattle.afs_law.specs.Parts.{EachLine, LinesAreInPlace}
 use Rattle.afs_law.specs.Past.{has_begun, has_given}
 use Rattle.afs_model.specs.Calls.{call_seat}
@@ -59,14 +59,17 @@ AreCalm me ls = all_lines (is_calm me) ls ≡ true
 abbrev InPlace : Script → ℕ → List Entry → List Line → List Line → Type 0
 InPlace S i past own ls = EachLine (IsInPlace S) (actors.Node (Server i)) past own ls
 
+of_disk : (i : ℕ) (n : Node) → same_node n (Server i) ≡ true → IsOfDisk (actors.Node (Server i)) n
+of_disk i n e = subst (IsOfDisk (actors.Node (Server i))) (sym (same_node-true n (Server i) e)) refl
+
 of_server : (i : ℕ) (n : Node) → same_node n (Server i) ≡ true → IsOfServer (actors.Node (Server i)) n
 of_server i n e = subst (IsOfServer (actors.Node (Server i))) (sym (same_node-true n (Server i) e)) refl
 
 calm_line : (S : Script) (i : ℕ) (l : Line) (past : List Entry) (own next : List Line) → is_calm (Server i) l ≡ true → IsInPlace S (actors.Node (Server i)) l past own next
 calm_line S i (lines.Grant n c f index expiry) past own next h = of_server i n h
 calm_line S i (lines.Crash n) past own next h = ap actors.Node (sym (same_node-true n (Server i) h))
-calm_line S i (lines.Fault n) past own next h = of_server i n h
-calm_line S i (lines.Full n) past own next h = of_server i n h
+calm_line S i (lines.Fault n) past own next h = of_disk i n h
+calm_line S i (lines.Full n) past own next h = of_disk i n h
 calm_line S i (lines.Owe n c what k) past own next h = of_server i n h
 calm_line S i (lines.Settle n c k) past own next h = of_server i n h
 calm_line S i (lines.Quit n c k) past own next h = of_server i n h
@@ -215,6 +218,7 @@ counts_moves s = record {
   waited = λ c past n act h r. h;
   fallen = λ c past n h. h;
   risen = λ c past n h. h;
+  loc = λ c past l ls h st. h;
   served = λ c past i place m armed h up at to. h;
   cut = λ c past i place m t h up at to. h;
   stopped = λ c past i h up. h;
@@ -253,6 +257,7 @@ placed_moves s = record {
   waited = λ c past n act h r. (waits_acts n (c.clients n) act r).each s past (h.0.1.table n) (h.0.1.acts n);
   fallen = λ c past n h. (falls_acts n (c.clients n)).each s past (h.0.1.table n) (h.0.1.acts n);
   risen = λ c past n h. (rises_acts n (c.clients n)).each s past (h.0.1.table n) (h.0.1.acts n);
+  loc = λ c past l ls h st. st.places s past;
   served = λ c past i place m armed h up at to. serves_each s i past (c.hosts i).state c.clock place m;
   cut = λ c past i place m t h up at to. blow_each s i place past t.stops;
   stopped = λ c past i h up. (refl, tt);

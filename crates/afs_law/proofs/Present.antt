@@ -35,7 +35,7 @@ use Rattle.afs_num.specs.declared.types.Node.{Node}
 use Rattle.afs_num.specs.declared.types.Node.TheVariants.{Admin, Client, Loc, Server}
 use Rattle.afs_rows.specs.Callbacks.{Started, put, replies_of, risen_turn, starts, starts_by}
 use Rattle.afs_rows.specs.ClientRow.{begin_row, client_row, timeout_row}
-use Rattle.afs_law.proofs.Steps.{blow_line, server_falls, server_moves, server_rises, server_set, server_stays}
+use Rattle.afs_law.proofs.Steps.{blow_line, server_falls, server_moves, server_rises, server_set, server_stays, loc_becomes}
 use Rattle.afs_rows.specs.Runs.{Armed, Cell, Entry, Fall, Moved, RunsTo, at_rest, begun_by_disk, client_falls, client_moves, client_rises, in_boot, in_step, message_at, moved, start, ticked, unarmed, voided, ServerHost}
 use Rattle.afs_rows.specs.ServerRow.{reply_head}
 use Rattle.afs_rows.specs.ServerSteps.{back_timeout_row, server_row, start_row, wake_row}
@@ -261,6 +261,7 @@ present_moves = record {
   waited = λ c past n act h r K. besides_present c past (client_moves c n (timeout_row (Client n) (c.clients n) act)) h (λ i e. absurd cc) refl;
   fallen = λ c past n h K. besides_present c past (client_falls c n) h (λ i e. absurd cc) refl;
   risen = λ c past n h K. besides_present c past (client_rises c n) h (λ i e. absurd cc) refl;
+  loc = λ c past l ls h st K. besides_present c past (loc_becomes c l ls) h (λ i e'. absurd cc) refl;
   served = λ c past i place m armed h up at to K. up_present c past i (Some place) armed (server_row (Server i) (c.hosts i).state c.clock place (Whole m)) h (served_boot i (c.hosts i).state c.clock place m) (serves_now c past i place m h up at) K;
   cut = λ c past i place m t h up at to K. quiet_present c past i (record (c.hosts i) { down = Some (in_step m c.clock t); armed = unarmed }) (server_falls c i (lines.Given place ∷ blow_line i t.stops ∷ []) (in_step m c.clock t)) h refl refl (no_fall (in_step m c.clock t) _);
   stopped = λ c past i h up K. quiet_present c past i (record (c.hosts i) { down = Some at_rest; armed = unarmed }) (server_falls c i (lines.Crash (Server i) ∷ []) at_rest) h refl refl (no_fall at_rest _);

@@ -1,4 +1,5 @@
 -- Each promise of a run is good, however many servers a cell has: it is made where a call runs whose reply promises that.
+use Rattle.afs_law.proofs.LocLines.{is_of_loc, all_of_loc}
 use Rattle.afs_breaks.specs.declared.types.OwedBreak.{OwedBreak}
 use Rattle.afs_history.specs.declared.lines.Line.{Line}
 use Rattle.afs_history.specs.declared.lines.Line.TheVariants as lines
@@ -40,7 +41,7 @@ use Rattle.afs_num.specs.declared.types.Fid.{Fid}
 use Rattle.afs_num.specs.declared.types.Head.{Head}
 use Rattle.afs_num.specs.declared.types.Key.{Key}
 use Rattle.afs_num.specs.declared.types.Node.{Node}
-use Rattle.afs_num.specs.declared.types.Node.TheVariants.{Client, Server}
+use Rattle.afs_num.specs.declared.types.Node.TheVariants.{Client, Server, Loc}
 use Rattle.afs_rows.specs.Callbacks.{Turn, expired, held_under, is_back_awaited, is_ready, is_seat_of, key_answered, new_owes, owe_line, quit_line, renews_by, repeats_by, risen_turn, settle_line, settles_by, still_owed, turn_for, turned_by}
 use Rattle.afs_rows.specs.ClientRow.{begin_row, client_row, timeout_row}
 use Rattle.afs_law.proofs.Steps.{blow_line}
@@ -326,6 +327,10 @@ started_rules me who x clock count past after fall = all_still who past [] _ (di
 acts_rules : (past : List Entry) (n : ℕ) (ls : List Line) → all_lines (is_of n) ls ≡ true → EachLine IsGrantGood (actors.Node (Client n)) past [] ls
 acts_rules past n ls h = all_still (actors.Node (Client n)) past [] ls (of_still n ls h)
 
+loc_still : (l : Line) → is_of_loc l ≡ true → is_still l ≡ true
+loc_still (lines.Grant s c f index expiry) h = absurd cc
+loc_still l h = refl
+
 grant_moves : (s : Script) → EachMove (HeldTicks s) GrantStep
 grant_moves s = record {
   void = λ c past h. (tt, tt);
@@ -335,6 +340,7 @@ grant_moves s = record {
   waited = λ c past n act h r. acts_rules past n (timeout_row (Client n) (c.clients n) act).lines (waits_acts n (c.clients n) act r).of;
   fallen = λ c past n h. (tt, tt);
   risen = λ c past n h. (tt, tt);
+  loc = λ c past l ls h st. all_still (actors.Node Loc) past [] ls (all_of_loc is_still loc_still ls st.lines);
   served = λ c past i place m armed h up at to. served_rules s c past i place m h up at;
   cut = λ c past i place m t h up at to. all_still (actors.Node (Server i)) past [] (lines.Given place ∷ blow_line i t.stops ∷ []) (blow_still i place t.stops);
   stopped = λ c past i h up. (tt, tt);

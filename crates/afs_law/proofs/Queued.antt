@@ -24,7 +24,7 @@ use Rattle.afs_num.specs.declared.types.Node.TheVariants.{Client, Server}
 use Rattle.afs_history.specs.declared.lines.Line.TheVariants as lines
 use Rattle.afs_rows.specs.ServerSteps.{back_timeout_row, server_row, wake_row}
 use Rattle.afs_rows.specs.Going.{ClientState}
-use Rattle.afs_law.proofs.Steps.{blow_line, server_falls, server_moves, server_rises, server_set, server_stays}
+use Rattle.afs_law.proofs.Steps.{blow_line, server_falls, server_moves, server_rises, server_set, server_stays, loc_becomes}
 use Rattle.afs_rows.specs.Runs.{Cell, Entry, at_rest, begun_by_disk, in_boot, in_step, message_at, start, ticked, voided}
 use Rattle.afs_rows.specs.ServerRow.{key_of}
 use Rattle.afs_rows.specs.Steps.{Step}
@@ -160,6 +160,7 @@ queued_moves s = record {
   waited = λ c past n act h r. client_queued s c past n _ h (waits_acts n (c.clients n) act r);
   fallen = λ c past n h. client_queued s c past n _ h (falls_acts n (c.clients n));
   risen = λ c past n h. client_queued s c past n _ h (rises_acts n (c.clients n));
+  loc = λ c past l ls h st. quiet_queued past (loc_becomes c l ls).entry refl h.1.0;
   served = λ c past i place m armed h up at to. served_queued past (server_moves c i armed (server_row (Server i) (c.hosts i).state c.clock place (Whole m))).entry (served_uncalled c past i place m (known_of s c past h) at) h.1.0;
   cut = λ c past i place m t h up at to. quiet_queued past (server_falls c i (lines.Given place ∷ blow_line i t.stops ∷ []) (in_step m c.clock t)).entry refl h.1.0;
   stopped = λ c past i h up. quiet_queued past (server_falls c i (lines.Crash (Server i) ∷ []) at_rest).entry refl h.1.0;

@@ -12,7 +12,7 @@ use Rattle.afs_law.proofs.Choosing.{AreFrom, Works, disk_works, is_from, risen_f
 use Rattle.afs_law.proofs.Edits.{Grow, SoundIn, edits_told, sound_same}
 use Rattle.afs_law.proofs.Words.{IsFine}
 use Rattle.afs_law.proofs.Housed.{IsPlaced as IsPlaced', placed}
-use Rattle.afs_law.proofs.Ideals.{AreBlank, Changes, Held, VolumesIn, blank_by, blank_last, blow_blank, changes_all, cut_by, from_blank, of_blank, own_from}
+use Rattle.afs_law.proofs.Ideals.{AreBlank, Changes, Held, VolumesIn, blank_by, blank_last, blow_blank, changes_all, cut_by, from_blank, of_blank, own_from, loc_blank}
 use Rattle.afs_law.proofs.KeysOnce.{IsKnown, any_told, by_key}
 use Rattle.afs_law.proofs.Moving.{EachMove, IsKept, each_moved}
 use Rattle.afs_law.proofs.Saving.{first_on}
@@ -133,6 +133,7 @@ told_moves s = record {
   waited = λ c past n act h r. acts_told s past n _ (waits_acts n (c.clients n) act r).of;
   fallen = λ c past n h. inl refl;
   risen = λ c past n h. inl refl;
+  loc = λ c past l ls h st. inl (loc_blank ls st.lines);
   served = λ c past i place m armed h up at to. works_saved s c past i _ _ h.0 refl refl (serves_works (IsPlaced c past i) (Server i) (c.hosts i).state c.clock place m (λ rest. ((place, at), inl (record { place = place; front' = refl; at = at; up = up }))));
   cut = λ c past i place m t h up at to. inl (blow_blank i place t.stops);
   stopped = λ c past i h up. inl refl;

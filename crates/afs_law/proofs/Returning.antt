@@ -14,7 +14,7 @@ use Rattle.afs_law.proofs.Choosing.{disk_works, one_from, risen_from, risen_line
 use Rattle.afs_law.proofs.Due.{DueFacts, due_first, due_kept}
 use Rattle.afs_law.proofs.KeysOnce.{IsKnown, any_told, by_key}
 use Rattle.afs_law.proofs.Moving.{Behind, EachMove, IsKept, each_moved}
-use Rattle.afs_law.proofs.Origins.{any_cut, any_message, blow_idle, idle_leaves, idle_works, is_idle, of_client, other_leaves}
+use Rattle.afs_law.proofs.Origins.{any_cut, any_message, blow_idle, idle_leaves, idle_works, is_idle, of_client, other_leaves, loc_idle}
 use Rattle.afs_law.proofs.Ours.{AreOurs, IsOurs, trusted_ours'}
 use Rattle.afs_law.proofs.Silent.{GivenSilent}
 use Rattle.afs_law.proofs.Words.{fids_of_gifts}
@@ -57,7 +57,7 @@ use Rattle.afs_num.specs.declared.types.Node.TheVariants.{Admin, Client, Loc, Se
 use Rattle.afs_rows.specs.Callbacks.{put}
 use Rattle.afs_rows.specs.ClientRow.{Look, Walked, admits_call, answers_step, awaits, batch, batch_to, begin_row, begins_by, behind_batch, body_told, breaks, call_by, call_of, calls_again, client_row, counts, dead_code, drop_line, dropped, dropped_after, entries_told, entry_told, find_cached, gift_call, gift_of, gifts_to, given, given_promise, given_up_in, gives_by, gives_up, goes_by, hears, ignores, in_order, is_awaited, is_below, is_busy_code, is_older, is_spent, is_trusted, look_at, looked, most_busy, most_given, most_reads, put_entries, put_entry, read_lines, reborn, refuses, runs_carried, status_look, status_told, takes, takes_bulk, takes_bytes, takes_data, takes_entries, takes_entry, takes_given, takes_list, takes_plain, takes_rights, takes_set, takes_shown, takes_status, takes_stored, timeout_row, tries_again, trusted_in, untrusted_in, walked, walked_at, walked_by, walked_with, walks_on, whole, with_statuses, zero_code}
 use Rattle.afs_rows.specs.Going.{ClientState, Going, Need, answers, began, gives_back, next, read_on, reads, reads_status, with_read}
-use Rattle.afs_law.proofs.Steps.{blow_line, server_falls, server_moves, server_rises, server_set, server_stays}
+use Rattle.afs_law.proofs.Steps.{blow_line, server_falls, server_moves, server_rises, server_set, server_stays, loc_becomes}
 use Rattle.afs_rows.specs.Runs.{Cell, Entry, Moved, RunsTo, at_rest, begun_by_disk, in_boot, in_step, locations, message_at, start, ticked, voided}
 use Rattle.afs_rows.specs.ServerSteps.{back_timeout_row, server_row, wake_row}
 use Rattle.afs_rows.specs.States.{CacheEntry, Gift}
@@ -467,6 +467,7 @@ returns_moves s = record {
   waited = λ c past n act h r. client_returns s c past n _ h (waits_acts n (c.clients n) act r).of (λ cell. waited_returns s n (c.clients n) act past _ (nat_lt (c.clients n).tries 2) (waited_begins n (c.clients n) act (nat_lt (c.clients n).tries 2)) (h.1 cell n));
   fallen = λ c past n h. client_returns s c past n _ h (falls_acts n (c.clients n)).of (λ cell. ended_returns s n (reborn (c.clients n)) _ refl);
   risen = λ c past n h. client_returns s c past n _ h (rises_acts n (c.clients n)).of (λ cell. other_returns s n (c.clients n) _ past refl (h.1 cell n));
+  loc = λ c past l ls h st. idle_returns s c past (loc_becomes c l ls).entry h (loc_idle ls st.lines);
   served = λ c past i place m armed h up at to. idle_returns s c past (server_moves c i armed (server_row (Server i) (c.hosts i).state c.clock place (Whole m))).entry h (idle_works any_message i (c.hosts i).state _ _ (serves_works any_message (Server i) (c.hosts i).state c.clock place m (λ rest. tt)));
   cut = λ c past i place m t h up at to. idle_returns s c past (server_falls c i (lines.Given place ∷ blow_line i t.stops ∷ []) (in_step m c.clock t)).entry h (blow_idle i t.stops);
   stopped = λ c past i h up. idle_returns s c past (server_falls c i (lines.Crash (Server i) ∷ []) at_rest).entry h refl;
@@ -676,6 +677,7 @@ answers_moves s = record {
   waited = λ c past n act h r cell j z. back_lines s (actors.Node (Client n)) n past [] (timeout_row (Client n) (c.clients n) act).lines (waits_acts n (c.clients n) act r).of (λ code has zero_told give f named. absurd (waited_answer n (c.clients n) act (nat_lt (c.clients n).tries 2) code has zero_told)) (some_back s c past n cell h);
   fallen = λ c past n h cell j z. (tt, tt);
   risen = λ c past n h cell j z. (tt, tt);
+  loc = λ c past l ls h st. server_apart s past (loc_becomes c l ls).entry (λ j z. absurd cc);
   served = λ c past i place m armed h up at to. server_apart s past (server_moves c i armed (server_row (Server i) (c.hosts i).state c.clock place (Whole m))).entry (λ j z. absurd cc);
   cut = λ c past i place m t h up at to. server_apart s past (server_falls c i (lines.Given place ∷ blow_line i t.stops ∷ []) (in_step m c.clock t)).entry (λ j z. absurd cc);
   stopped = λ c past i h up. server_apart s past (server_falls c i (lines.Crash (Server i) ∷ []) at_rest).entry (λ j z. absurd cc);

@@ -211,6 +211,7 @@ sits_moves = record {
   waited = λ c past n act h r. h;
   fallen = λ c past n h. h;
   risen = λ c past n h. h;
+  loc = λ c past l ls h st. h;
   served = λ c past i place m armed h up at to. host_sits c.hosts i _ h (served_sits i (c.hosts i).state c.clock place m (h i));
   cut = λ c past i place m t h up at to. host_sits c.hosts i _ h (h i);
   stopped = λ c past i h up. host_sits c.hosts i _ h (h i);

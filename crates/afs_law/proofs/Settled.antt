@@ -25,7 +25,7 @@ use Rattle.afs_law.proofs.Kept.{Keeps, KeptIn, begins_keep, given_keep, heard_no
 use Rattle.afs_law.proofs.KeysOnce.{IsKnown, any_told, by_key}
 use Rattle.afs_law.proofs.Knowing.{Known, served_uncalled, started_uncalled, timed_uncalled, woken_uncalled}
 use Rattle.afs_law.proofs.Moving.{Behind, EachMove, IsKept, each_moved}
-use Rattle.afs_law.proofs.Origins.{AskedIn, Leaves, any_cut, any_message, blow_idle, idle_leaves, idle_works, is_idle, next_key, of_client, other_leaves, same_key_at, the_calls, unsent}
+use Rattle.afs_law.proofs.Origins.{AskedIn, Leaves, any_cut, any_message, blow_idle, idle_leaves, idle_works, is_idle, next_key, of_client, other_leaves, same_key_at, the_calls, unsent, loc_idle}
 use Rattle.afs_law.proofs.Queued.{IsIn, in_at, in_front}
 use Rattle.afs_law.proofs.Timing.{GivenTimed, IsUntimed, Timed, Times, begun_times, none_times, row_times, timed_first, timed_kept, told_times}
 use Rattle.afs_law.proofs.Trying.{WaitsIn, waits_first, waits_kept}
@@ -56,7 +56,7 @@ use Rattle.afs_rows.specs.ClientRow.{admits_call, awaits, begin_row, breaks, cal
 use Rattle.afs_rows.specs.Going.{ClientState, Going}
 use Rattle.afs_history.specs.declared.acts.Act.{Act}
 use Rattle.afs_num.specs.declared.histories.Actor.TheVariants as actors
-use Rattle.afs_law.proofs.Steps.{blow_line, server_falls, server_moves, server_rises, server_set, server_stays}
+use Rattle.afs_law.proofs.Steps.{blow_line, server_falls, server_moves, server_rises, server_set, server_stays, loc_becomes}
 use Rattle.afs_rows.specs.Runs.{Cell, Entry, at_rest, begun_by_disk, client_moves, in_boot, in_step, locations, message_at, start, ticked, voided}
 use Rattle.afs_rows.specs.ServerRow.{key_of}
 use Rattle.afs_rows.specs.ServerSteps.{back_timeout_row, server_row, start_row, wake_row}
@@ -549,6 +549,7 @@ settled_moves s = record {
   fallen = λ c past n h. client_settled s c past n (record { state = reborn (c.clients n); lines = lines.Crash (Client n) ∷ []; sent = [] }) h (falls_acts n (c.clients n)) (falls_follow n (c.clients n)) (record { apart = tt; each = λ f e found. absurd cc }) (λ act run. inr (inr (λ f e is found. absurd cc))) (λ q e k i o x. inl x) (λ f m has given. absurd cc);
   risen = λ c past n h. client_settled s c past n (record { state = c.clients n; lines = lines.Restart (Client n) (c.clients n).epoch ∷ []; sent = [] }) h (rises_acts n (c.clients n)) (rises_follow n (c.clients n) ((given_of s c past h.0).1 n).0)
       (record { apart = (h.0.kept n).0; each = λ f e found. same_entries n (c.clients n).cache past (lines.Restart (Client n) (c.clients n).epoch ∷ []) (record { fetched = λ g. refl; spares = λ q g o x. x }) f e found }) (λ act run. inl (stays_here (c.clients n))) (λ q e k i o x. inl x) (λ f m has given. absurd cc);
+  loc = λ c past l ls h st. quiet_settled s c past (loc_becomes c l ls).entry h (loc_idle ls st.lines);
   served = λ c past i place m armed h up at to. idle_settled s c past (server_moves c i armed (server_row (Server i) (c.hosts i).state c.clock place (Whole m))).entry (server_row (Server i) (c.hosts i).state c.clock place (Whole m)).sent h (idle_works any_message i (c.hosts i).state _ _ (serves_works any_message (Server i) (c.hosts i).state c.clock place m (λ rest. tt))) (served_uncalled c past i place m (known_of s c past h.0) at);
   cut = λ c past i place m t h up at to. quiet_settled s c past (server_falls c i (lines.Given place ∷ blow_line i t.stops ∷ []) (in_step m c.clock t)).entry h (blow_idle i t.stops);
   stopped = λ c past i h up. quiet_settled s c past (server_falls c i (lines.Crash (Server i) ∷ []) at_rest).entry h refl;

@@ -12,7 +12,7 @@ use Rattle.afs_law.proofs.Firm.{IsFirm}
 use Rattle.afs_law.proofs.Gifts.{Given, given_first, given_kept}
 use Rattle.afs_law.proofs.KeysOnce.{IsKnown, any_told, by_key}
 use Rattle.afs_law.proofs.Moving.{Behind, EachMove, IsKept, each_moved, run_keeps}
-use Rattle.afs_law.proofs.Origins.{AskedIn, any_cut, any_message, blow_idle, idle_leaves, idle_works, is_idle, next_key, of_client, other_leaves, same_key_at, unsent}
+use Rattle.afs_law.proofs.Origins.{AskedIn, any_cut, any_message, blow_idle, idle_leaves, idle_works, is_idle, next_key, of_client, other_leaves, same_key_at, unsent, loc_idle}
 use Rattle.afs_law.proofs.Knowing.{Known}
 use Rattle.afs_law.specs.ClientParts.{IsUnspoiled, WaitsAreSilent, is_silent}
 use Rattle.afs_law.specs.Grants.{IsDropped}
@@ -28,7 +28,7 @@ use Rattle.afs_num.specs.declared.types.Node.TheVariants.{Client, Server}
 use Rattle.afs_rows.specs.Callbacks.{put}
 use Rattle.afs_rows.specs.ClientRow.{call_by, call_of, names_call}
 use Rattle.afs_rows.specs.Going.{ClientState, Going, next}
-use Rattle.afs_law.proofs.Steps.{blow_line, server_falls, server_moves, server_rises, server_set, server_stays}
+use Rattle.afs_law.proofs.Steps.{blow_line, server_falls, server_moves, server_rises, server_set, server_stays, loc_becomes}
 use Rattle.afs_rows.specs.Runs.{Cell, Entry, at_rest, begun_by_disk, in_boot, in_step, start, ticked, voided}
 use Rattle.afs_rows.specs.ServerSteps.{back_timeout_row, server_row, wake_row}
 use Rattle.afs_rows.specs.States.{Gift}
@@ -121,6 +121,7 @@ silent_moves s = record {
   waited = λ c past n act h r. client_silent s c past n _ h (waits_acts n (c.clients n) act r) (waits_follow n (c.clients n) act (h.0.1 n).0);
   fallen = λ c past n h. client_silent s c past n _ h (falls_acts n (c.clients n)) (falls_follow n (c.clients n));
   risen = λ c past n h. client_silent s c past n _ h (rises_acts n (c.clients n)) (rises_follow n (c.clients n) (h.0.1 n).0);
+  loc = λ c past l ls h st. idle_silent s c past (loc_becomes c l ls).entry h.1 (λ j z. absurd cc) (loc_idle ls st.lines);
   served = λ c past i place m armed h up at to. idle_silent s c past (server_moves c i armed (server_row (Server i) (c.hosts i).state c.clock place (Whole m))).entry h.1 (λ j z. absurd cc) (idle_works any_message i (c.hosts i).state _ _ (serves_works any_message (Server i) (c.hosts i).state c.clock place m (λ rest. tt)));
   cut = λ c past i place m t h up at to. idle_silent s c past (server_falls c i (lines.Given place ∷ blow_line i t.stops ∷ []) (in_step m c.clock t)).entry h.1 (λ j z. absurd cc) (blow_idle i t.stops);
   stopped = λ c past i h up. idle_silent s c past (server_falls c i (lines.Crash (Server i) ∷ []) at_rest).entry h.1 (λ j z. absurd cc) refl;

@@ -38,7 +38,7 @@ use Rattle.afs_num.specs.declared.types.Node.{Node}
 use Rattle.afs_num.specs.declared.types.Node.TheVariants.{Admin, Client, Loc, Server}
 use Rattle.afs_rows.specs.Callbacks.{Started, Turn, asked_again, carries_for, expired, fids_found, first_of, held_after, held_under, is_back_awaited, is_for, is_ready, is_seat_of, key_answered, most_breaks, no_turn, owe_line, pumped, put, put_at, quit_line, quits, renews, renews_by, repeats_by, retries, risen_turn, settle_line, settles, settles_by, started_call, starts, starts_by, still_owed, timed, turn_for, turned_by, turned_in}
 use Rattle.afs_rows.specs.ClientRow.{begin_row, client_row, timeout_row}
-use Rattle.afs_law.proofs.Steps.{blow_line, server_falls, server_moves, server_set, server_stays}
+use Rattle.afs_law.proofs.Steps.{blow_line, server_falls, server_moves, server_set, server_stays, loc_becomes}
 use Rattle.afs_rows.specs.Runs.{Armed, Cell, Entry, Fall, Moved, at_rest, begun_by_disk, client_falls, client_moves, client_rises, in_boot, in_step, start, ticked, unarmed, voided, ServerHost}
 use Rattle.afs_rows.specs.ServerRow.{Change, Decision, Reading, begun_after, decides, does, drops, granted, granted_in, made, promise_ticks, refuses, repeats, revived, saves, shows, tells_boot, versioned}
 use Rattle.afs_rows.specs.ServerSteps.{back_timeout_row, server_row, start_row, wake_row}
@@ -795,6 +795,7 @@ singly_moves s = (let q : EachMove (Placed s) (PlacedStep s) = placed_moves s in
   waited = λ c past n act h r. besides_single s c past (client_moves c n (timeout_row (Client n) (c.clients n) act)) h (q.waited c past n act h.0 r) (λ i e. absurd cc) refl;
   fallen = λ c past n h. besides_single s c past (client_falls c n) h (q.fallen c past n h.0) (λ i e. absurd cc) refl;
   risen = λ c past n h. besides_single s c past (client_rises c n) h (q.risen c past n h.0) (λ i e. absurd cc) refl;
+  loc = λ c past l ls h st. besides_single s c past (loc_becomes c l ls) h (q.loc c past l ls h.0 st) (λ i e'. absurd cc) refl;
   served = λ c past i place m armed h up at to. up_single s c past i armed (server_row (Server i) (c.hosts i).state c.clock place (Whole m)) h (q.served c past i place m armed h.0 up at to) (served_ends (Server i) (c.hosts i).state c.clock place m past (up_now c past i h.1 up));
   cut = λ c past i place m t h up at to. falls_single s c past i (lines.Given place ∷ blow_line i t.stops ∷ []) (in_step m c.clock t) h (q.cut c past i place m t h.0 up at to) (blow_breakless i t.stops) (blow_none i t.stops (lines.Given place ∷ lines_of past));
   stopped = λ c past i h up. falls_single s c past i (lines.Crash (Server i) ∷ []) at_rest h (q.stopped c past i h.0 up) refl (blow_none i true (lines_of past));

@@ -1,14 +1,15 @@
--- The steps of a server, as walks over the runs of a cell name them. A step that sends nothing adds no message to those that were sent.
+-- The steps of a server and of the location database, as walks over the runs of a cell name them. A step that sends nothing adds no message to those that were sent.
 use Rattle.std.proofs.Common.{ℕ, Bool, List, [], ◌∷◌, Some, sym, subst}
 use Rattle.std.proofs.lemmas.List.{append-nil}
 use Rattle.afs_num.specs.declared.histories.Actor.TheVariants as actors
 use Rattle.afs_num.specs.declared.messages.Message.{Message}
 use Rattle.afs_num.specs.declared.messages.Received.TheVariants.{Whole}
-use Rattle.afs_num.specs.declared.types.Node.TheVariants.{Server}
+use Rattle.afs_num.specs.declared.types.Node.TheVariants.{Loc, Server}
 use Rattle.afs_history.specs.declared.lines.Line.{Line}
 use Rattle.afs_rows.specs.Callbacks.{put}
 use Rattle.afs_rows.specs.Hosts.{fall_line, falls, goes, sets, stays, HostStep}
-use Rattle.afs_rows.specs.Runs.{placed, unarmed, Armed, Cell, Fall, Moved, ServerHost}
+use Rattle.afs_rows.specs.LocSteps.{LocHost}
+use Rattle.afs_rows.specs.Runs.{loc_placed, placed, unarmed, Armed, Cell, Fall, Moved, ServerHost}
 use Rattle.afs_rows.specs.ServerRow.{decides, device_calls}
 use Rattle.afs_rows.specs.ServerSteps.{start_row}
 use Rattle.afs_rows.specs.States.{ServerState}
@@ -61,3 +62,16 @@ sets_is M c i l armed m = quiet_is M c i (record (c.hosts i) { armed = armed }) 
 
 pub stays_is : (M : Moved → Type 0) (c : Cell) (i : ℕ) (f : Begun ServerState) (l : Line) (fall : Fall) → M (server_stays c i f l fall) → M (placed c i (stays f l fall))
 stays_is M c i f l fall m = quiet_is M c i (record { state = f.state; down = Some fall; armed = unarmed }) (f.before (l ∷ [])) m
+
+-- ---- the location database, which sends nothing
+
+-- it is this then, and the messages are those that were
+abbrev pub loc_becomes : Cell → LocHost → List Line → Moved
+loc_becomes c l ls = record {
+  entry = record { actor = actors.Node Loc; lines = ls; sent = []; volumes = [] };
+  cell = record c { loc = l };
+}
+
+pub loc_is : (M : Moved → Type 0) (c : Cell) (l : LocHost) (ls : List Line) → M (loc_becomes c l ls) → M (loc_placed c (record { host = l; lines = ls; sent = [] }))
+loc_is M c l ls m =
+    subst (λ (ms : List Message). M (record { entry = record { actor = actors.Node Loc; lines = ls; sent = []; volumes = [] }; cell = record c { loc = l; sent = ms } })) (sym (append-nil c.sent)) m

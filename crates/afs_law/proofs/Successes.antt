@@ -38,7 +38,7 @@ use Rattle.afs_num.specs.declared.types.Node.TheVariants.{Client, Server}
 use Rattle.afs_records.specs.Durable.{time_in}
 use Rattle.afs_rows.specs.Callbacks.{put, replies_of}
 use Rattle.afs_rows.specs.ClientRow.{begin_row, client_row, timeout_row}
-use Rattle.afs_law.proofs.Steps.{blow_line, server_falls, server_moves, server_rises, server_set, server_stays}
+use Rattle.afs_law.proofs.Steps.{blow_line, server_falls, server_moves, server_rises, server_set, server_stays, loc_becomes}
 use Rattle.afs_rows.specs.Runs.{Armed, Cell, Entry, Fall, Moved, RunsTo, at_rest, begun_by_disk, client_falls, client_moves, client_rises, in_boot, in_step, message_at, moved, start, ticked, unarmed, voided, ServerHost}
 use Rattle.afs_rows.specs.ServerRow.{Change, Decision, begun_after, carried_by, change_reply_to, decides, does, drops, promise_ticks, refuses, repeats, result, saves, seat_for, shows, stored_by, tells_boot}
 use Rattle.afs_rows.specs.ServerSteps.{back_timeout_row, server_row, start_row, wake_row}
@@ -208,6 +208,7 @@ coded_moves s = record {
   waited = λ c past n act h r. besides_coded c past (client_moves c n (timeout_row (Client n) (c.clients n) act)) h.1 (λ i e. absurd cc) refl;
   fallen = λ c past n h. besides_coded c past (client_falls c n) h.1 (λ i e. absurd cc) refl;
   risen = λ c past n h. besides_coded c past (client_rises c n) h.1 (λ i e. absurd cc) refl;
+  loc = λ c past l ls h st. besides_coded c past (loc_becomes c l ls) h.1 (λ i e'. absurd cc) refl;
   served = λ c past i place m armed h up at to. served_coded s c past i place m armed h up at;
   cut = λ c past i place m t h up at to. down_coded c past i (c.hosts i).state (in_step m c.clock t) unarmed (server_falls c i (lines.Given place ∷ blow_line i t.stops ∷ []) (in_step m c.clock t)) h.1 refl refl refl (h.1 i).kept;
   stopped = λ c past i h up. down_coded c past i (c.hosts i).state at_rest unarmed (server_falls c i (lines.Crash (Server i) ∷ []) at_rest) h.1 refl refl refl (h.1 i).kept;

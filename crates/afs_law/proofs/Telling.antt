@@ -608,6 +608,7 @@ told_moves s = record {
   waited = λ c past n act h r. acts_told c past n (timeout_row (Client n) (c.clients n) act) h.1 (waits_acts n (c.clients n) act r).from;
   fallen = λ c past n h. acts_told c past n (record { state = reborn (c.clients n); lines = lines.Crash (Client n) ∷ []; sent = [] }) h.1 tt;
   risen = λ c past n h. acts_told c past n (record { state = c.clients n; lines = lines.Restart (Client n) (c.clients n).epoch ∷ []; sent = [] }) h.1 tt;
+  loc = λ c past l ls h st. others_told c.hosts c.sent c.sent past _ h.1 (all_later _ past c.sent h.1.sends);
   served = λ c past i place m armed h up at to. served_told s c past i place m armed h up at;
   cut = λ c past i place m t h up at to. falls_told c past i _ (server_falls c i (lines.Given place ∷ blow_line i t.stops ∷ []) (in_step m c.clock t)).entry h.1 refl
       (λ k clock hit d. subst (λ (y : Message). CutHeld i (c.hosts i).state y ((server_falls c i (lines.Given place ∷ blow_line i t.stops ∷ []) (in_step m c.clock t)).entry ∷ past)) (same_cut m k c.clock clock t hit d) (cut_here s c past i place m t.stops (server_falls c i (lines.Given place ∷ blow_line i t.stops ∷ []) (in_step m c.clock t)).entry h.0.0 up at refl refl));

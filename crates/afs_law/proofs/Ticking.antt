@@ -1,4 +1,5 @@
 -- The clock of a cell is what the lines tell, however many servers it has.
+use Rattle.afs_law.proofs.LocLines.{is_of_loc, all_of_loc}
 use Rattle.afs_history.specs.declared.lines.Line.{Line}
 use Rattle.afs_history.specs.declared.lines.Line.TheVariants as lines
 use Rattle.afs_history.specs.declared.scripts.Script.{Script}
@@ -95,6 +96,10 @@ blow_stands : (c : Cell) (past : List Entry) (i place : ℕ) (t : Bool) → Tick
 blow_stands c past i place true h = h
 blow_stands c past i place false h = h
 
+loc_tickless : (l : Line) → is_of_loc l ≡ true → is_tickless l ≡ true
+loc_tickless (lines.Tick n) h = absurd cc
+loc_tickless l h = refl
+
 ticks_moves : (s : Script) → EachMove (HeldTicks s) (Behind TicksIn)
 ticks_moves s = record {
   void = λ c past h. h.1;
@@ -104,6 +109,7 @@ ticks_moves s = record {
   waited = λ c past n act h r. acts_stand c past n (timeout_row (Client n) (c.clients n) act).lines h.1 (waits_acts n (c.clients n) act r).of;
   fallen = λ c past n h. h.1;
   risen = λ c past n h. h.1;
+  loc = λ c past l ls h st. stands c past ls h.1 (all_of_loc is_tickless loc_tickless ls st.lines);
   served = λ c past i place m armed h up at to. works_stand c past i _ _ h.1 (serves_works AnyCall (Server i) (c.hosts i).state c.clock place m (λ rest. tt));
   cut = λ c past i place m t h up at to. blow_stands c past i place t.stops h.1;
   stopped = λ c past i h up. h.1;

@@ -1,4 +1,5 @@
 -- Each timeout of a run is of a call that was sent before, and the one below it was told, however many servers a cell has.
+use Rattle.afs_law.proofs.LocLines.{is_of_loc, all_of_loc}
 use Rattle.afs_breaks.specs.declared.types.OwedBreak.{OwedBreak}
 use Rattle.afs_history.specs.declared.lines.Line.{Line}
 use Rattle.afs_history.specs.declared.lines.Line.TheVariants as lines
@@ -36,7 +37,7 @@ use Rattle.afs_num.specs.declared.messages.Received.TheVariants.{Whole}
 use Rattle.afs_num.specs.declared.types.Code.{Code}
 use Rattle.afs_num.specs.declared.types.Key.{Key}
 use Rattle.afs_num.specs.declared.types.Node.{Node}
-use Rattle.afs_num.specs.declared.types.Node.TheVariants.{Client, Server}
+use Rattle.afs_num.specs.declared.types.Node.TheVariants.{Client, Server, Loc}
 use Rattle.afs_rows.specs.Callbacks.{expired, owe_line, quit_line, quits, retries, risen_turn, still_owed}
 use Rattle.afs_rows.specs.ClientRow.{call_of, client_row, dead_code, dropped, given_up_in, gives_up, tries_again}
 use Rattle.afs_rows.specs.Going.{ClientState, Going}
@@ -232,6 +233,10 @@ TimedFacts s c past = Breaks s c past × (GivenWaits s c past × UnansweredFacts
 abbrev TimelyStep : Script → Cell → List Entry → Moved → Type 0
 TimelyStep s c past m = Timely s m.entry.actor past [] m.entry.lines
 
+loc_timeless : (l : Line) → is_of_loc l ≡ true → is_timeless l ≡ true
+loc_timeless (lines.Timeout n callee epoch number count) h = absurd cc
+loc_timeless l h = refl
+
 timely_moves : (s : Script) → EachMove (TimedFacts s) (TimelyStep s)
 timely_moves s = record {
   void = λ c past h. (tt, tt);
@@ -243,6 +248,7 @@ timely_moves s = record {
   waited = λ c past n act h r. waits_timely s c past n act (nat_lt (c.clients n).tries 2) (h.1.0.1 n) h.1.1 r refl;
   fallen = λ c past n h. (tt, tt);
   risen = λ c past n h. (tt, tt);
+  loc = λ c past l ls h st. timeless s (actors.Node Loc) past [] ls (all_of_loc is_timeless loc_timeless ls st.lines);
   served = λ c past i place m armed h up at to. given_timely s (actors.Node (Server i)) past [] _ (serves_each s i past (c.hosts i).state c.clock place m) (inr (row_given (Server i) (c.hosts i).state c.clock place m));
   cut = λ c past i place m t h up at to. blow_timely s past i place t.stops;
   stopped = λ c past i h up. (tt, tt);

@@ -12,7 +12,7 @@ use Rattle.afs_law.proofs.Hearing.{client_given}
 use Rattle.afs_law.proofs.KeysOnce.{IsKnown, any_told, by_key}
 use Rattle.afs_law.proofs.SettingUp.{first_passed}
 use Rattle.afs_law.proofs.Moving.{Behind, EachMove, IsKept, each_moved}
-use Rattle.afs_law.proofs.Origins.{any_cut, any_message, blow_idle, idle_leaves, idle_works, is_idle, of_client, other_leaves}
+use Rattle.afs_law.proofs.Origins.{any_cut, any_message, blow_idle, idle_leaves, idle_works, is_idle, of_client, other_leaves, loc_idle}
 use Rattle.afs_law.proofs.Queued.{GivenQueued, later_pair, queued_first, queued_kept}
 use Rattle.afs_law.specs.Breaks.{HasTimeout}
 use Rattle.afs_law.specs.Ideal.{set_up}
@@ -30,7 +30,7 @@ use Rattle.afs_num.specs.declared.types.Node.TheVariants.{Client, Server}
 use Rattle.afs_rows.specs.Callbacks.{put}
 use Rattle.afs_rows.specs.ClientRow.{Walked, begin_row, begins_by, client_row, dead_code, dropped, gift_of, given_up_in, gives_by, gives_up, goes_by, in_order, most_reads, timeout_line, timeout_row, tries_again, trusted_in, untrusted_in, walked, call_of}
 use Rattle.afs_rows.specs.Going.{ClientState, Going, Need, began, gives_back, answers, next}
-use Rattle.afs_law.proofs.Steps.{blow_line, server_falls, server_moves, server_rises, server_set, server_stays}
+use Rattle.afs_law.proofs.Steps.{blow_line, server_falls, server_moves, server_rises, server_set, server_stays, loc_becomes}
 use Rattle.afs_rows.specs.Runs.{Cell, Entry, at_rest, begun_by_disk, in_boot, in_step, message_at, start, ticked, voided}
 use Rattle.afs_rows.specs.ServerSteps.{back_timeout_row, server_row, wake_row}
 use Rattle.afs_rows.specs.States.{CacheEntry, Gift}
@@ -237,6 +237,7 @@ timed_moves s = record {
   waited = λ c past n act h r. client_timed s c past n _ h.1 (waits_acts n (c.clients n) act r) (row_times n (c.clients n) act r);
   fallen = λ c past n h. client_timed s c past n _ h.1 (falls_acts n (c.clients n)) (λ q e k i o x. inl x);
   risen = λ c past n h. client_timed s c past n _ h.1 (rises_acts n (c.clients n)) (λ q e k i o x. inl x);
+  loc = λ c past l ls h st. idle_timed s c past (loc_becomes c l ls).entry h.1 (loc_idle ls st.lines);
   served = λ c past i place m armed h up at to. idle_timed s c past (server_moves c i armed (server_row (Server i) (c.hosts i).state c.clock place (Whole m))).entry h.1 (idle_works any_message i (c.hosts i).state _ _ (serves_works any_message (Server i) (c.hosts i).state c.clock place m (λ rest. tt)));
   cut = λ c past i place m t h up at to. idle_timed s c past (server_falls c i (lines.Given place ∷ blow_line i t.stops ∷ []) (in_step m c.clock t)).entry h.1 (blow_idle i t.stops);
   stopped = λ c past i h up. idle_timed s c past (server_falls c i (lines.Crash (Server i) ∷ []) at_rest).entry h.1 refl;

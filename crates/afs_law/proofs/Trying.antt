@@ -23,7 +23,7 @@ use Rattle.afs_num.specs.declared.types.Node.TheVariants.{Client, Server}
 use Rattle.afs_rows.specs.Callbacks.{put}
 use Rattle.afs_rows.specs.ClientRow.{call_by, call_of}
 use Rattle.afs_rows.specs.Going.{ClientState, Going, next}
-use Rattle.afs_law.proofs.Steps.{blow_line, server_falls, server_moves, server_rises, server_set, server_stays}
+use Rattle.afs_law.proofs.Steps.{blow_line, server_falls, server_moves, server_rises, server_set, server_stays, loc_becomes}
 use Rattle.afs_rows.specs.Runs.{Cell, Entry, at_rest, begun_by_disk, in_boot, in_step, start, ticked, voided}
 use Rattle.afs_rows.specs.ServerSteps.{back_timeout_row, server_row, wake_row}
 use Rattle.afs_rows.specs.States.{Gift}
@@ -125,6 +125,7 @@ waits_moves s = record {
   waited = λ c past n act h r. client_waits c past n _ h.1 (waits_acts n (c.clients n) act r) (waits_follow n (c.clients n) act (h.0.1 n).0);
   fallen = λ c past n h. client_waits c past n _ h.1 (falls_acts n (c.clients n)) (falls_follow n (c.clients n));
   risen = λ c past n h. client_waits c past n _ h.1 (rises_acts n (c.clients n)) (rises_follow n (c.clients n) (h.0.1 n).0);
+  loc = λ c past l ls h st j. other_waits j (c.clients j) (loc_becomes c l ls).entry past (h.1 j);
   served = λ c past i place m armed h up at to j. other_waits j (c.clients j) (server_moves c i armed (server_row (Server i) (c.hosts i).state c.clock place (Whole m))).entry past (h.1 j);
   cut = λ c past i place m t h up at to j. other_waits j (c.clients j) (server_falls c i (lines.Given place ∷ blow_line i t.stops ∷ []) (in_step m c.clock t)).entry past (h.1 j);
   stopped = λ c past i h up j. other_waits j (c.clients j) (server_falls c i (lines.Crash (Server i) ∷ []) at_rest).entry past (h.1 j);

@@ -48,7 +48,7 @@ use Rattle.afs_num.specs.declared.types.Node.TheVariants.{Client, Server}
 use Rattle.afs_rows.specs.Callbacks.{put}
 use Rattle.afs_rows.specs.ClientRow.{Walked, awaits, begin_row, behind_batch, body_told, call_by, call_of, client_row, counts, dropped, entries_told, entry_told, find_cached, given, gives_by, goes_by, hears, ignores, is_awaited, is_below, is_busy_code, is_older, is_spent, is_trusted, look_at, looked, most_busy, most_reads, opcode_of, put_entries, put_entry, read_lines, reborn, refuses, status_look, status_told, takes, takes_bulk, takes_data, takes_entries, takes_entry, takes_given, takes_list, takes_set, takes_shown, takes_status, timeout_row, walked, walks_on, with_statuses}
 use Rattle.afs_rows.specs.Going.{ClientState, Going, Need, answers, next, with_read}
-use Rattle.afs_law.proofs.Steps.{blow_line, server_falls, server_moves, server_rises, server_set, server_stays}
+use Rattle.afs_law.proofs.Steps.{blow_line, server_falls, server_moves, server_rises, server_set, server_stays, loc_becomes}
 use Rattle.afs_rows.specs.Runs.{Cell, Entry, Moved, at_rest, begun_by_disk, in_boot, in_step, message_at, moved, start, ticked, voided}
 use Rattle.afs_rows.specs.ServerSteps.{back_timeout_row, server_row, wake_row}
 use Rattle.afs_rows.specs.States.{CacheEntry, Gift}
@@ -306,6 +306,7 @@ unanswered_moves s = record {
   waited = λ c past n act h r. client_unanswered s c past n _ h (waits_acts n (c.clients n) act r) (waits_follow n (c.clients n) act (h.0.0.0.0.0.1 n).0) (ungiven_on n (c.clients n) (timeout_row (Client n) (c.clients n) act) past (waited_ungiven (Client n) (c.clients n) act));
   fallen = λ c past n h. client_unanswered s c past n _ h (falls_acts n (c.clients n)) (falls_follow n (c.clients n)) (ungiven_on n (c.clients n) (record { state = reborn (c.clients n); lines = lines.Crash (Client n) ∷ []; sent = [] }) past refl);
   risen = λ c past n h. client_unanswered s c past n _ h (rises_acts n (c.clients n)) (rises_follow n (c.clients n) (h.0.0.0.0.0.1 n).0) (ungiven_on n (c.clients n) (record { state = c.clients n; lines = lines.Restart (Client n) (c.clients n).epoch ∷ []; sent = [] }) past refl);
+  loc = λ c past l ls h st. idle_unanswered c past (loc_becomes c l ls).entry h.1 (λ j e. absurd cc);
   served = λ c past i place m armed h up at to. idle_unanswered c past (server_moves c i armed (server_row (Server i) (c.hosts i).state c.clock place (Whole m))).entry h.1 (of_server i);
   cut = λ c past i place m t h up at to. idle_unanswered c past (server_falls c i (lines.Given place ∷ blow_line i t.stops ∷ []) (in_step m c.clock t)).entry h.1 (of_server i);
   stopped = λ c past i h up. idle_unanswered c past (server_falls c i (lines.Crash (Server i) ∷ []) at_rest).entry h.1 (of_server i);

@@ -15,7 +15,7 @@ use Rattle.afs_law.proofs.KeysOnce.{IsKnown, any_told, by_key}
 use Rattle.afs_law.proofs.SettingUp.{reached_first}
 use Rattle.afs_law.proofs.Looking.{IsShown}
 use Rattle.afs_law.proofs.Moving.{EachMove, IsKept, each_moved}
-use Rattle.afs_law.proofs.Origins.{any_cut, any_message, blow_idle, idle_works, is_idle, of_client}
+use Rattle.afs_law.proofs.Origins.{any_cut, any_message, blow_idle, idle_works, is_idle, of_client, loc_idle}
 use Rattle.afs_law.proofs.Proceeding.{Result, trusts_own}
 use Rattle.afs_law.proofs.Receiving.{begin_result, fall_result, message_result, rise_result, wait_result}
 use Rattle.afs_law.proofs.Recording.{IsAgreed, IsSaved, recorded_kept, told_now}
@@ -27,10 +27,10 @@ use Rattle.afs_num.specs.declared.histories.Actor.{Actor}
 use Rattle.afs_num.specs.declared.histories.Actor.TheVariants as actors
 use Rattle.afs_num.specs.declared.messages.Received.TheVariants.{Whole}
 use Rattle.afs_num.specs.declared.types.Node.{Node}
-use Rattle.afs_num.specs.declared.types.Node.TheVariants.{Client, Server}
+use Rattle.afs_num.specs.declared.types.Node.TheVariants.{Client, Server, Loc}
 use Rattle.afs_rows.specs.Callbacks.{put}
 use Rattle.afs_rows.specs.Going.{ClientState}
-use Rattle.afs_law.proofs.Steps.{blow_line, server_falls, server_moves, server_rises, server_set, server_stays}
+use Rattle.afs_law.proofs.Steps.{blow_line, server_falls, server_moves, server_rises, server_set, server_stays, loc_becomes}
 use Rattle.afs_rows.specs.Runs.{Cell, Entry, Input, Moved, at_rest, begun_by_disk, in_boot, in_step, moved, start, ticked, voided}
 use Rattle.afs_rows.specs.ServerSteps.{back_timeout_row, server_row, wake_row}
 use Rattle.afs_rows.specs.Steps.{Step}
@@ -88,6 +88,9 @@ client_good s c past n st W a R A = (
   R.shown,
 )
 
+not_loc' : (j : ℕ) → actors.Node Loc ≡ actors.Node (Client j) → ⊥
+not_loc' j e = cc
+
 watch_moves : (s : Script) → EachMove (Watched s) (WatchStep s)
 watch_moves s = record {
   void = λ c past W told A. idle_good s c past (voided c).entry c.clock (omega arith) W (λ j. not_nobody j) refl told A;
@@ -98,6 +101,7 @@ watch_moves s = record {
   waited = λ c past n act W r told A. client_good s c past n _ W (waits_acts n (c.clients n) act r) (wait_result s c past n act (W.0, W.1 n) r) A;
   fallen = λ c past n W told A. client_good s c past n _ W (falls_acts n (c.clients n)) (fall_result s c past n (W.0, W.1 n)) A;
   risen = λ c past n W told A. client_good s c past n _ W (rises_acts n (c.clients n)) (rise_result s c past n (W.0, W.1 n)) A;
+  loc = λ c past l ls W st told A. idle_good s c past (loc_becomes c l ls).entry c.clock (omega arith) W (λ j. not_loc' j) (loc_idle ls st.lines) told A;
   served = λ c past i place m armed W up at to told A. idle_good s c past (server_moves c i armed (server_row (Server i) (c.hosts i).state c.clock place (Whole m))).entry c.clock (omega arith) W (λ j. not_server i j) (idle_works any_message i (c.hosts i).state _ _ (serves_works any_message (Server i) (c.hosts i).state c.clock place m (λ rest. tt))) told A;
   cut = λ c past i place m t W up at to told A. idle_good s c past (server_falls c i (lines.Given place ∷ blow_line i t.stops ∷ []) (in_step m c.clock t)).entry c.clock (omega arith) W (λ j. not_server i j) (blow_idle i t.stops) told A;
   stopped = λ c past i W up told A. idle_good s c past (server_falls c i (lines.Crash (Server i) ∷ []) at_rest).entry c.clock (omega arith) W (λ j. not_server i j) refl told A;

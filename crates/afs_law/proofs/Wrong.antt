@@ -61,7 +61,7 @@ use Rattle.afs_num.specs.declared.messages.Reply.{Reply}
 use Rattle.afs_num.specs.declared.messages.Reply.TheVariants as tell
 use Rattle.afs_num.specs.declared.calls.FsReply.TheVariants as replies
 use Rattle.afs_num.specs.declared.messages.Message.{Message}
-use Rattle.afs_num.specs.declared.types.Node.TheVariants.{Client, Server}
+use Rattle.afs_num.specs.declared.types.Node.TheVariants.{Client, Server, Loc}
 use Rattle.std.proofs.Common.{arith, eqb-true, ◌<◌, ◌≤◌, ◌≡◌, ◌∙◌, true, false, cond, not, nat_eq, Bool, ℕ, ℤ, List, [], ◌∷◌, ◌++◌, ◌⊎◌, Option, None, Some, ap, sym, subst, refl, inl, inr, negsuc, pos}
 use Rattle.std.specs.Fmt.{digits}
 use Rattle.std.specs.Prelude.{⊤, ◌&&◌, codes, drop, map, take}
@@ -604,6 +604,17 @@ sent_in_another_name h = let e : actors.Node (Client 1) ≡ actors.Node (Client 
 dead_at_once : Legal (alters 1 (instead (lines.Timeout (Client 1) (Server 1) 1 1 3 ∷ lines.Answer (Client 1) (record { 0 = negsuc 0 }) ∷ [])) (entries (start (script 1)) (begins 1 (acts.Open (operands.Fid file)) ∷ waits 1 ∷ []))) (script 1) → ⊥
 unfolding moved begin_row client_row server_row back_timeout_row wake_row start_row record_bytes head_form volume_form spelled opaque pad word laid_at led name_ok directory_bytes name_bytes rights_of image acl_text digits entry_text directory_of names_at opaque_at word_at counted_at whole_at count_at name_at spelled_at bytes_below
 dead_at_once h = elim h.1.0.0.0.0.1.below [ inl x ↦ let e : 3 ≡ 1 = x in absurd (omega (arith, e)) | inr x ↦ x.1.1 ]
+
+-- ---- what the location database tells
+
+located_by_a_server : Legal (alters 1 (instead (lines.Located home (Server 2) ∷ [])) (entries (start (script 1)) (begins 1 (acts.Open (operands.Fid file)) ∷ gives 1 steady ∷ []))) (script 1) → ⊥
+unfolding moved begin_row client_row server_row back_timeout_row wake_row start_row record_bytes head_form volume_form spelled opaque pad word laid_at led name_ok directory_bytes name_bytes rights_of image acl_text digits entry_text directory_of names_at opaque_at word_at counted_at whole_at count_at name_at spelled_at bytes_below
+located_by_a_server h = let e : actors.Node (Server 1) ≡ actors.Node Loc = h.1.0.0.0.0 in absurd cc
+
+-- nothing else is told where its disk is set
+stopped_with_more : Legal (alters 1 (instead (lines.Stop Loc 1 0 ∷ lines.Crash Loc ∷ [])) (entries (start (script 1)) (nothing ∷ stops 0 ∷ []))) (script 1) → ⊥
+unfolding moved begin_row client_row server_row back_timeout_row wake_row start_row record_bytes head_form volume_form spelled opaque pad word laid_at led name_ok directory_bytes name_bytes rights_of image acl_text digits entry_text directory_of names_at opaque_at word_at counted_at whole_at count_at name_at spelled_at bytes_below
+stopped_with_more h = let e : lines.Crash Loc ∷ [] ≡ [] = h.1.0.0.0.0.1.1 in absurd cc
 
 -- ---- who promises
 

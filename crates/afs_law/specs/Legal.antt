@@ -9,7 +9,7 @@ use Rattle.afs_num.specs.declared.types.Fid.{Fid}
 use Rattle.afs_num.specs.declared.types.Head.{Head}
 use Rattle.afs_num.specs.declared.types.Key.{Key}
 use Rattle.afs_num.specs.declared.types.Node.{Node}
-use Rattle.afs_num.specs.declared.types.Node.TheVariants.{Server, Client}
+use Rattle.afs_num.specs.declared.types.Node.TheVariants.{Server, Client, Loc}
 use Rattle.afs_num.specs.declared.calls.AfsCallBack.{AfsCallBack}
 use Rattle.afs_num.specs.declared.calls.FsCall.{FsCall}
 use Rattle.afs_num.specs.declared.calls.FsCall.TheVariants as calls
@@ -972,6 +972,12 @@ abbrev pub IsOfServer : Actor → Node → Type 0
 IsOfServer who (Server i) = who ≡ actors.Node (Server i)
 IsOfServer who n = ⊥
 
+-- servers and the location database have disks
+abbrev pub IsOfDisk : Actor → Node → Type 0
+IsOfDisk who (Server i) = who ≡ actors.Node (Server i)
+IsOfDisk who Loc = who ≡ actors.Node Loc
+IsOfDisk who n = ⊥
+
 -- a step that times a call out is given no message, and begins no act
 abbrev pub IsTimed : Node → List Line → List Line → Type 0
 IsTimed c own next = ((has_given own ≡ false) × (has_begun c own ≡ false)) × ((has_given next ≡ false) × (has_begun c next ≡ false))
@@ -1006,7 +1012,8 @@ IsBegun s c past own = (own ≡ []) × (running s c (lines_of past) ≡ None)
 -- only line. An act begins first in its entry, while none runs. An entry is given one message at most, and that first; a version stands under its
 -- change; an act runs where a client reads or answers, and what is read from the cache it needs next; a timeout stands in an entry that is given no
 -- message and in which its node begins no act; and a server that begins again owes each client of the script a break on all. A crash is of any
--- node, a fault of a server alone, for clients have no disk
+-- node, a fault of a server or of the location database, for clients have no disk; and what that locks, unlocks and tells of places stands in its
+-- entries
 abbrev pub IsInPlace : Script → Actor → Line → List Entry → List Line → List Line → Type 0
 IsInPlace s who (lines.Begin c act) past own next = IsOfClient who c × IsBegun s c past own
 IsInPlace s who (lines.Given place) past own next = own ≡ []
@@ -1017,17 +1024,21 @@ IsInPlace s who (lines.Read c f index source body) past own next = IsOfClient wh
 IsInPlace s who (lines.Answer c code) past own next = IsOfClient who c × HasAct s c past own
 IsInPlace s who (lines.Timeout c callee epoch number count) past own next = (who ≡ actors.Node c) × IsTimed c own next
 IsInPlace s who (lines.Tick n) past own next = (who ≡ actors.Clock) × ((0 < n) × IsOnlyLine own next)
-IsInPlace s who (lines.Stop n calls pick) past own next = IsOfServer who n × IsOnlyLine own next
-IsInPlace s who (lines.Fail n call) past own next = IsOfServer who n × IsOnlyLine own next
+IsInPlace s who (lines.Stop n calls pick) past own next = IsOfDisk who n × IsOnlyLine own next
+IsInPlace s who (lines.Fail n call) past own next = IsOfDisk who n × IsOnlyLine own next
 IsInPlace s who (lines.Crash n) past own next = who ≡ actors.Node n
-IsInPlace s who (lines.Fault n) past own next = IsOfServer who n
+IsInPlace s who (lines.Fault n) past own next = IsOfDisk who n
 IsInPlace s who (lines.Restart n boot) past own next = (who ≡ actors.Node n) × GoodRestart s n next
-IsInPlace s who (lines.Full n) past own next = IsOfServer who n
+IsInPlace s who (lines.Full n) past own next = IsOfDisk who n
 IsInPlace s who (lines.Drop c f) past own next = IsOfClient who c
 IsInPlace s who (lines.DropAll c server) past own next = IsOfClient who c
 IsInPlace s who (lines.Owe server c what n) past own next = IsOfServer who server
 IsInPlace s who (lines.Settle server c n) past own next = IsOfServer who server
 IsInPlace s who (lines.Quit server c n) past own next = IsOfServer who server
+IsInPlace s who (lines.Locked v stamp operation) past own next = who ≡ actors.Node Loc
+IsInPlace s who (lines.Unlocked v) past own next = who ≡ actors.Node Loc
+IsInPlace s who (lines.Recovered v) past own next = who ≡ actors.Node Loc
+IsInPlace s who (lines.Located v server) past own next = who ≡ actors.Node Loc
 IsInPlace s who lines.Void past own next = who ≡ actors.Nobody
 
 -- a line is in its place; and what it grants, changes, reads, answers, times out, owes, settles or gives up is good
@@ -1050,6 +1061,7 @@ AreGood s who past own (l ∷ next) = IsGood s who l past own next × AreGood s 
 abbrev pub IsOfScript : Script → Actor → Type 0
 IsOfScript s (actors.Node (Client j)) = IsClientOf s (Client j)
 IsOfScript s (actors.Node (Server i)) = (1 ≤ i) × (i ≤ s.servers)
+IsOfScript s (actors.Node Loc) = ⊤
 IsOfScript s (actors.Node n) = ⊥
 IsOfScript s actors.Clock = ⊤
 IsOfScript s actors.Nobody = ⊤

@@ -133,6 +133,20 @@ stop_text node calls pick = codes "stop " ++ (node_text node ++ (codes " " ++ (d
 unfoldable pub fail_text : Node → ℕ → List ℕ
 fail_text node calls = codes "fail " ++ (node_text node ++ (codes " " ++ (decimal calls ++ codes "\n")))
 
+-- ---- the location database
+
+unfoldable pub locked_text : ℕ → ℕ → ℕ → List ℕ
+locked_text volume stamp operation = codes "locked " ++ (decimal volume ++ (codes " " ++ (decimal stamp ++ (codes " " ++ (decimal operation ++ codes "\n")))))
+
+unfoldable pub unlocked_text : ℕ → List ℕ
+unlocked_text volume = codes "unlocked " ++ (decimal volume ++ codes "\n")
+
+unfoldable pub recovered_text : ℕ → List ℕ
+recovered_text volume = codes "recovered " ++ (decimal volume ++ codes "\n")
+
+unfoldable pub located_text : ℕ → Node → List ℕ
+located_text volume server = codes "located " ++ (decimal volume ++ (codes " " ++ (node_text server ++ codes "\n")))
+
 -- ---- timeouts and the clock
 
 unfoldable pub timeout_text : Node → Node → ℕ → ℕ → ℕ → List ℕ

@@ -7,4 +7,5 @@ pub mod Changes
 pub mod Laws
 pub mod LocRecords
 pub mod LocDurable
+pub mod LocEffects
 pub mod LocLaws

@@ -1,3 +1,4 @@
 pub mod Worked
 pub mod Clients
 pub mod LocWorked
+pub mod LocRuns

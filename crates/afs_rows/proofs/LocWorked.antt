@@ -27,13 +27,13 @@ use Rattle.afs_xdr.specs.Words.{opaque, pad, word}
 -- ---- calls, one after the other
 
 -- administrator `a` calls, in this boot and with this stamp
-abbrev call_in : ℕ → ℕ → ℕ → ℕ → LocCall → Message
+abbrev pub call_in : ℕ → ℕ → ℕ → ℕ → LocCall → Message
 call_in boot a number stamp call = record {
   head = record { half = halves.Call; from = Admin a; to = Loc; epoch = 1; number = number; boot = boot; stamp = stamp; opcode = call_number (ask.Location call) };
   carried = carried.Call [] (ask.Location call);
 }
 
-abbrev call_from : ℕ → ℕ → ℕ → LocCall → Message
+abbrev pub call_from : ℕ → ℕ → ℕ → LocCall → Message
 call_from a number stamp call = call_in 1 a number stamp call
 
 pub data Told : Type 0 where
@@ -62,7 +62,7 @@ abbrev behind : LocState → List Message → LocState
 behind s [] = s
 behind s (m ∷ ms) = behind (loc_left s (loc_decides s (Whole m))) ms
 
-abbrev proj : LocEntry
+abbrev pub proj : LocEntry
 proj = record { name = codes "proj"; read_write = home; read_only = 0; backup = 0; flags = 4096; sites = record { server = 1; flags = 4 } ∷ [] }
 
 abbrev unlocked : LocEntry → Listed
@@ -81,10 +81,10 @@ row_locks : all_told database (call_from 1 1 0 (calls.SetLock home 16 0) ∷ cal
 unfolding loc_record_bytes entry_form head_form spelled opaque pad word
 row_locks = refl
 
-abbrev at_2 : LocEntry
+abbrev pub at_2 : LocEntry
 at_2 = record proj { sites = record { server = 2; flags = 4 } ∷ [] }
 
-abbrev more : LocEntry
+abbrev pub more : LocEntry
 more = record proj { name = codes "more"; read_write = 536870913 }
 
 -- Another site, and a backup; a name that another entry has, and one that is free; then that goes. The same pair again is told the

@@ -7,6 +7,7 @@ pub mod ServerSteps
 pub mod Hosts
 pub mod ServerHosts
 pub mod LocRow
+pub mod LocSteps
 pub mod Going
 pub mod ClientRow
 pub mod Runs

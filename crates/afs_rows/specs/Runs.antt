@@ -6,6 +6,10 @@ use Rattle.afs_history.specs.declared.acts.Act.{Act}
 use Rattle.afs_rows.specs.Callbacks.{put, first_backs}
 use Rattle.afs_rows.specs.ClientRow.{begin_row, client_row, timeout_row, new_client, reborn}
 use Rattle.afs_rows.specs.Going.{ClientState, Going}
+use Rattle.afs_rows.specs.LocRow.{LocState}
+use Rattle.afs_rows.specs.LocSteps.{loc_kind, LocHost}
+use Rattle.afs_records.specs.LocDurable.{first_id, first_stamp, listed_line, loc_first_record, loc_place_length}
+use Rattle.afs_records.specs.LocRecords.{Listed}
 use Rattle.afs_history.specs.declared.lines.Line.{Line}
 pub use Rattle.afs_rows.specs.Hosts.{at_rest, comes_up, fail_blow, fails_early, fails_midway, gives_out, in_boot, in_step, is_full, leaves_after, lowered, own_blow, settled, sooner, steady, stop_blow, struck, unarmed, within, Armed, Blow, Fall, Luck, MayBegin, MayFind, Outcome}
 pub use Rattle.afs_rows.specs.ServerHosts.{begun_by_disk, ServerHost}
@@ -13,7 +17,7 @@ use Rattle.afs_rows.specs.Hosts.{crashed, ends, restarted, served, served_by, se
 use Rattle.afs_rows.specs.ServerHosts.{server_kind, timed_out, woken}
 use Rattle.afs_rows.specs.States.{Location, ServerState, BackCall, Lasting}
 use Rattle.afs_rows.specs.Steps.{Begun, Step}
-use Rattle.std.specs.Prelude.{is_some, ◌≡◌, ℕ, zero, suc, ◌+◌, List, [], ◌∷◌, ◌++◌, Bool, true, false, cond, not, ◌||◌, nat_eq, nat_lt, codes, Option, Some, None, if◌then◌else◌}
+use Rattle.std.specs.Prelude.{is_some, ◌≡◌, ℕ, zero, suc, ◌+◌, List, [], ◌∷◌, ◌++◌, Bool, true, false, cond, not, ◌||◌, nat_eq, nat_lt, codes, Option, Some, None, if◌then◌else◌, length}
 use Rattle.afs_num.specs.declared.types.Node.{Node}
 use Rattle.afs_num.specs.declared.types.Node.TheVariants.{Loc, Server, Client, Admin}
 use Rattle.afs_num.specs.declared.messages.Message.{Message}
@@ -38,9 +42,10 @@ pub record Entry : Type 0 where
   pub sent : List Message
   pub volumes : Table Volume
 
--- the servers by their numbers, of which there are so many; as many clients, by theirs, and which of them are down; all messages
--- ever sent; and the clock
+-- the location database; the servers by their numbers, of which there are so many; as many clients, by theirs, and which of them are
+-- down; all messages ever sent; and the clock
 pub record Cell : Type 0 where
+  pub loc : LocHost
   pub host_count : ℕ
   pub hosts : ℕ → ServerHost
   pub count : ℕ
@@ -51,8 +56,9 @@ pub record Cell : Type 0 where
 
 -- what one node is given: a client an act to begin, or a node the message of a place; a client's call is timed out; the
 -- clock rises; a client or a server stops, or begins again, the server before or after the interrupted step; a server's
--- disk is set; a server's call to a node is timed out; time has passed at a server; or nothing happens. Clients and servers are
--- named by their numbers; of one that the cell doesn't have nothing comes, nor of no ticks
+-- disk is set; a server's call to a node is timed out; time has passed at a server; or nothing happens. Clients and servers are named by
+-- their numbers; of one that the cell doesn't have nothing comes, nor of no ticks. Where a node with a disk stops, begins again, or its
+-- disk is set, number 0 is the location database
 pub data Input : Type 0 where
   begins : ℕ → Act → Input
   gives : ℕ → Luck → Input
@@ -108,6 +114,26 @@ server_served c i place m b = placed c i (served_by (server_kind (Server i)) (c.
 abbrev pub server_given : Cell → ℕ → ℕ → Luck → Message → Option Fall → Moved
 server_given c i place luck m None = placed c i (served (server_kind (Server i)) (c.hosts i) c.clock place luck m)
 server_given c i place luck m (Some fall) = voided c
+
+-- ---- the location database
+
+-- The location database stops, begins again, and its disk is set; nobody asks it anything yet. This is the cell after such a step of it,
+-- and the entry of that.
+abbrev pub loc_placed : Cell → HostStep LocState → Moved
+loc_placed c s = record {
+  entry = record { actor = actors.Node Loc; lines = s.lines; sent = s.sent; volumes = [] };
+  cell = record c { loc = s.host; sent = c.sent ++ s.sent };
+}
+
+-- while it is down it doesn't stop, and its disk isn't set
+abbrev pub loc_up : Cell → HostStep LocState → Option Fall → Moved
+loc_up c s None = loc_placed c s
+loc_up c s (Some fall) = voided c
+
+-- while it is up it doesn't begin again
+abbrev pub loc_restarted : Cell → Bool → Outcome → Option Fall → Moved
+loc_restarted c after o None = voided c
+loc_restarted c after o (Some fall) = loc_placed c (restarted loc_kind c.loc c.clock c.count after o fall)
 
 -- a cell of so many clients has one of this number
 abbrev pub has_client : ℕ → ℕ → Bool
@@ -191,10 +217,14 @@ moved c (ticks zero) = voided c
 moved c (ticks (suc n)) = ticked c (suc n)
 moved c (client_stops n) = cond (is_away c n) (voided c) (client_falls c n)
 moved c (client_starts n) = cond (c.away n) (client_rises c n) (voided c)
-moved c (stops i) = if_host c i (server_stopped c i (c.hosts i).down)
-moved c (starts_again i after o) = if_host c i (server_restarted c i after o (c.hosts i).down)
-moved c (sets_stop i calls pick) = if_host c i (server_armed c i (set_to_stop (server_kind (Server i)) (c.hosts i) calls pick) (c.hosts i).down)
-moved c (sets_fail i call) = if_host c i (server_armed c i (set_to_fail (server_kind (Server i)) (c.hosts i) call) (c.hosts i).down)
+moved c (stops zero) = loc_up c (crashed loc_kind c.loc) c.loc.down
+moved c (stops (suc i)) = if_host c (suc i) (server_stopped c (suc i) (c.hosts (suc i)).down)
+moved c (starts_again zero after o) = loc_restarted c after o c.loc.down
+moved c (starts_again (suc i) after o) = if_host c (suc i) (server_restarted c (suc i) after o (c.hosts (suc i)).down)
+moved c (sets_stop zero calls pick) = loc_up c (set_to_stop loc_kind c.loc calls pick) c.loc.down
+moved c (sets_stop (suc i) calls pick) = if_host c (suc i) (server_armed c (suc i) (set_to_stop (server_kind (Server (suc i))) (c.hosts (suc i)) calls pick) (c.hosts (suc i)).down)
+moved c (sets_fail zero call) = loc_up c (set_to_fail loc_kind c.loc call) c.loc.down
+moved c (sets_fail (suc i) call) = if_host c (suc i) (server_armed c (suc i) (set_to_fail (server_kind (Server (suc i))) (c.hosts (suc i)) call) (c.hosts (suc i)).down)
 moved c (server_waits i n) = if_host c i (server_timed c i n (c.hosts i).down)
 moved c (wakes i) = if_host c i (server_wakes c i (c.hosts i).down)
 moved c nothing = voided c
@@ -276,8 +306,32 @@ first_client s n = new_client 1 s.cache (user_at s n) (locations s)
 abbrev pub first_host : Script → ℕ → ServerHost
 first_host s i = record { state = first_server s.capacity (volumes_at i s.volumes); down = None; armed = unarmed }
 
+-- the location database has the entries of all volumes, by their numbers
+abbrev pub listed_by : Bool → VolumeLine → Table Listed → Table Listed
+listed_by true v t = t
+listed_by false v t = set v.id (listed_line v) t
+
+abbrev pub first_entries : List VolumeLine → Table Listed
+first_entries [] = []
+first_entries (v ∷ vs) = listed_by (counts_later v.id vs) v (first_entries vs)
+
+abbrev pub first_loc : ℕ → List VolumeLine → LocState
+first_loc capacity vs = record {
+  lasting = record {
+    boot = 1;
+    entries = first_entries vs;
+    next_id = first_id + length vs;
+    next_stamp = first_stamp;
+    kept = [];
+    journal = 1 + loc_place_length (loc_first_record vs);
+    capacity = capacity;
+  };
+  seats = [];
+}
+
 abbrev pub start : Script → Cell
 start s = record {
+  loc = record { state = first_loc s.capacity s.volumes; down = None; armed = unarmed };
   host_count = s.servers;
   hosts = first_host s;
   count = s.clients;

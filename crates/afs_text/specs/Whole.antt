@@ -133,6 +133,10 @@ IsWholeLine (lines.DropAll client server) = IsWholeNode client × IsWholeNode se
 IsWholeLine (lines.Owe server client fid number) = IsWholeNode server × IsWholeNode client × IsWholeOwed fid × IsWhole number
 IsWholeLine (lines.Settle server client number) = IsWholeNode server × IsWholeNode client × IsWhole number
 IsWholeLine (lines.Quit server client number) = IsWholeNode server × IsWholeNode client × IsWhole number
+IsWholeLine (lines.Locked volume stamp operation) = IsWhole volume × IsWhole stamp × IsWhole operation
+IsWholeLine (lines.Unlocked volume) = IsWhole volume
+IsWholeLine (lines.Recovered volume) = IsWhole volume
+IsWholeLine (lines.Located volume server) = IsWhole volume × IsWholeNode server
 IsWholeLine lines.Void = Unit {0}
 
 abbrev pub AreWholeLines : List Line → Type 0

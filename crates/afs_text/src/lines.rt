@@ -1,7 +1,7 @@
 //! The lines of a history, but for the one with which an act begins.
 
 ghost use Rattle.afs_text.specs.Laying.{Lays};
-ghost use Rattle.afs_model.specs.LineText.{answer_text, change_text, crash_text, drop_all_text, drop_text, fail_text, fault_text, full_text, given_text, grant_text, owe_text, quit_text, read_text, restart_text, settle_text, stop_text, tick_text, timeout_text, version_text};
+ghost use Rattle.afs_model.specs.LineText.{answer_text, change_text, crash_text, drop_all_text, drop_text, fail_text, fault_text, full_text, given_text, grant_text, located_text, locked_text, owe_text, quit_text, read_text, recovered_text, restart_text, settle_text, stop_text, tick_text, timeout_text, unlocked_text, version_text};
 
 use crate::bodies::{Owed, lay_body, lay_read_body};
 use crate::laying::{TextPiece, lay_short};
@@ -264,6 +264,55 @@ pub fn lay_fail<K: Sink>(
     ensures { Lays (fail_text node calls) piece.old piece.new (K.held sink.old) (K.held sink.new) (K.faults sink.old) (K.faults sink.new) result }
 {
     lay_short(sink, piece, &row!("fail ", node, " ", calls, "\n"))
+}
+
+// ---- the location database
+
+#[tactic(auto, unfolding(afs_model::specs::LineText::locked_text))]
+pub fn lay_locked<K: Sink>(
+    sink: &mut K,
+    piece: &mut TextPiece,
+    volume: u32,
+    stamp: u32,
+    operation: u32,
+) -> Result<(), Failed>
+    ensures { Lays (locked_text volume stamp operation) piece.old piece.new (K.held sink.old) (K.held sink.new) (K.faults sink.old) (K.faults sink.new) result }
+{
+    lay_short(
+        sink,
+        piece,
+        &row!("locked ", volume, " ", stamp, " ", operation, "\n"),
+    )
+}
+
+#[tactic(auto, unfolding(afs_model::specs::LineText::unlocked_text))]
+pub fn lay_unlocked<K: Sink>(sink: &mut K, piece: &mut TextPiece, volume: u32) -> Result<(), Failed>
+    ensures { Lays (unlocked_text volume) piece.old piece.new (K.held sink.old) (K.held sink.new) (K.faults sink.old) (K.faults sink.new) result }
+{
+    lay_short(sink, piece, &row!("unlocked ", volume, "\n"))
+}
+
+#[tactic(auto, unfolding(afs_model::specs::LineText::recovered_text))]
+pub fn lay_recovered<K: Sink>(
+    sink: &mut K,
+    piece: &mut TextPiece,
+    volume: u32,
+) -> Result<(), Failed>
+    ensures { Lays (recovered_text volume) piece.old piece.new (K.held sink.old) (K.held sink.new) (K.faults sink.old) (K.faults sink.new) result }
+{
+    lay_short(sink, piece, &row!("recovered ", volume, "\n"))
+}
+
+#[tactic(auto, unfolding(afs_model::specs::LineText::located_text))]
+pub fn lay_located<K: Sink>(
+    sink: &mut K,
+    piece: &mut TextPiece,
+    volume: u32,
+    server: Node,
+) -> Result<(), Failed>
+    ensures { Lays (located_text volume server) piece.old piece.new (K.held sink.old) (K.held sink.new) (K.faults sink.old) (K.faults sink.new) result }
+{
+    lay_short(sink, piece, &row!("located ", volume, " ", server, "\n"))
 }
 
 // ---- timeouts and the clock

@@ -7,8 +7,8 @@ use crate::acts::lay_begin;
 use crate::laying::{TextPiece, lay_short};
 use crate::lines::{
     lay_answer, lay_change, lay_crash, lay_drop, lay_drop_all, lay_fail, lay_fault, lay_full,
-    lay_given, lay_grant, lay_owe, lay_quit, lay_read, lay_restart, lay_settle, lay_stop, lay_tick,
-    lay_timeout, lay_version,
+    lay_given, lay_grant, lay_located, lay_locked, lay_owe, lay_quit, lay_read, lay_recovered,
+    lay_restart, lay_settle, lay_stop, lay_tick, lay_timeout, lay_unlocked, lay_version,
 };
 use crate::pieces::Print;
 use afs_history::lines::Line;
@@ -75,6 +75,14 @@ pub(crate) fn lay_line<K: Sink>(
             client,
             number,
         } => lay_quit(sink, piece, *server, *client, *number),
+        Line::Locked {
+            volume,
+            stamp,
+            operation,
+        } => lay_locked(sink, piece, *volume, *stamp, *operation),
+        Line::Unlocked { volume } => lay_unlocked(sink, piece, *volume),
+        Line::Recovered { volume } => lay_recovered(sink, piece, *volume),
+        Line::Located { volume, server } => lay_located(sink, piece, *volume, *server),
         Line::Void => lay_short(sink, piece, &"void\n"),
     }
 }
