@@ -3,7 +3,8 @@
 python3 tests/dumps.py FOLDER SEED COUNT OUT.in OUT.want FORM: from this seed on so many volumes, for tests/dumps.play. Each has gone
 through up to thirty operations, and a copy of it was kept on the way. It is dumped whole and since the copy's counter, and cloned.
 Each dump is cut at every length, has each of its count words set to the last value of a word, and is spoiled in other ways. What comes
-of it is restored, in pieces, into the copy, into a read-only volume of another family, and into a read-write one of another family.
+of it is restored, in pieces, into the copy, into a read-only volume of another family, into a read-write one of another family, and
+into an empty volume.
 OUT.want has what the reference's volume.py in FOLDER answers by the rules of this form.
 """
 
@@ -146,6 +147,7 @@ class Case:
         player = Player(self.rng, rules)
         acts = self.rng.randrange(31)
         kept = self.rng.randrange(acts + 1)
+        self.empty = player.volume.copy()
         self.copy = player.volume.copy()
         for number in range(acts):
             if number == kept:
@@ -168,6 +170,7 @@ class Case:
         yield self.as_target(copy, copy.id, copy.family, copy.kind)
         yield self.as_target(copy, OTHER + 1, OTHER, 1)
         yield self.as_target(copy, OTHER, OTHER, 0)
+        yield self.as_target(self.empty, copy.id, copy.family, copy.kind)
 
     def dump(self, since, piece):
         data = volume.dump(self.volume, since)

@@ -12,7 +12,7 @@ use Rattle.afs_disk.specs.Disk.{Rose}
 use Rattle.afs_rows.specs.Runs.{back_timed, given_at, given_to, gives, has_host, if_host, message_at, moved, server_armed, server_given, server_restarted, server_stopped, server_timed, server_waits, server_wakes, sets_fail, sets_stop, starts_again, stops, voided, wakes, Cell, Input, Moved}
 use Rattle.afs_rows.specs.Hosts.{comes_up, fails_early, fails_midway, gives_out, is_full, steady, at_rest, in_boot, in_step, leaves_after, Fall, Luck, MayBegin, Outcome, crashed, restarted, served, set_to_fail, set_to_stop, Fails, GivesOut, HostStep}
 use Rattle.afs_schedule.specs.Schedules.{left_by, IsInput, IsLuck, Turn}
-use Rattle.afs_host.specs.Hosts as host
+use Rattle.afs_rows.specs.Hosts as host
 use Rattle.afs_rows.specs.ServerHosts.{timed_out, woken, server_kind}
 use Rattle.afs_host.proofs.Placed.{moved_crashed, moved_restarted, moved_served, moved_set_to_fail, moved_set_to_stop, moved_timed_out, moved_woken}
 use Rattle.afs_clients.specs.Happening.{IsGiven}

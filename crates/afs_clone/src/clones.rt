@@ -33,7 +33,7 @@ fn clone_head(v: &VolumeHead, id: u32, name: Octets, kind: u32, flags: u32) -> V
 
 /// The volume under this number, name and kind, with flags 0 and the next release number. The volume itself stays as it is:
 /// its own release number is raised by `Volume::raise_release`, without memory. File bytes, access lists and the names of
-/// directories are shared: none of them are copied.
+/// directories are shared; of a file or a list of at most thirty bytes these are copied, since they lie in the value.
 pub fn clone_of(alloc: Global, v: &Volume, id: u32, name: &[u8], kind: u32) -> Mem<Volume>
     requires kind { IsVolumeKind kind }
     requires name { length name.now ≤ most_name }

@@ -14,7 +14,7 @@ use Rattle.afs_ideal.specs.Volumes.{a_file, Vnode}
 use Rattle.afs_records.specs.Durable.{Stored}
 use Rattle.afs_records.specs.Sound.{is_sound}
 use Rattle.afs_dumps.specs.Fields.{Taken, took, cut_at, bad_at, ◌>>=◌}
-use Rattle.afs_dumps.specs.Clones.{next_release, cloned, recloned, with_release}
+use Rattle.afs_dumps.specs.Clones.{next_release, cloned, recloned}
 use Rattle.afs_dumps.specs.Dumps.{Dump, dump_of, images_since}
 use Rattle.afs_dumps.specs.Streams.{dump_header_field, volume_header_field, live_field, image_field, next_at, dump_field, dump_bytes, dump_at}
 use Rattle.afs_dumps.specs.Restores.{restored, fed, finished}
@@ -262,7 +262,7 @@ not_dumped = refl
 first_release : next_release new ≡ 1
 first_release = refl
 
-second_release : next_release (with_release (next_release new) new) ≡ 2
+second_release : next_release (record new { volume = record new.volume { release = next_release new } }) ≡ 2
 second_release = refl
 
 abbrev backup : Stored

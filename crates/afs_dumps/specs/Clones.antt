@@ -16,7 +16,3 @@ recloned clone release s = record s {
   volume = record s.volume { name = clone.volume.name; kind = clone.volume.kind; flags = clone.volume.flags; release = release };
   is_new = clone.is_new;
 }
-
--- the volume itself then has this release number too
-abbrev pub with_release : ℕ → Stored → Stored
-with_release release s = record s { volume = record s.volume { release = release } }

@@ -101,12 +101,13 @@ DumpsAreRestored = (id source from : ℕ) (s t : Stored) → CanBeDumped s → H
     restored id t (dump_of source from s) ≡ Some (with_content (is_other_family id t (dump_of source from s)) t s)
 
 -- each vnode was changed at least once
-abbrev pub IsCounted : Stored → Type 0
-IsCounted s = (n : ℕ) (x : Vnode) → get n s.volume.vnodes ≡ Some x → 1 ≤ x.changed
+abbrev pub HaveChanged : Stored → Type 0
+HaveChanged s = (n : ℕ) (x : Vnode) → get n s.volume.vnodes ≡ Some x → 1 ≤ x.changed
 
--- A full dump is one since 0: every volume holds what wasn't changed since, so it is restored over any volume.
+-- A full dump is one since 0. Where each vnode was changed at least once, every volume holds what wasn't changed since: nothing. So
+-- the dump is restored over any volume.
 abbrev pub FullDumpsNeedNothing : Type 0
-FullDumpsNeedNothing = (s t : Stored) → IsCounted s → HoldsUntil 0 t s
+FullDumpsNeedNothing = (s t : Stored) → HaveChanged s → HoldsUntil 0 t s
 
 -- A volume holds what it has itself. What a volume held until a counter, as a clone that was made then holds it, it goes on to hold of
 -- each later state of the other: after a change, and after whatever leaves vnodes and times alone.
@@ -116,7 +117,8 @@ pub record ChangesAreSince : Type 0 where
       HoldsUntil from t (stored_after id time edits s)
   pub other : (from : ℕ) (t s later : Stored) → later.volume.vnodes ≡ s.volume.vnodes → later.times ≡ s.times → HoldsUntil from t s → HoldsUntil from t later
 
--- What a volume holds of another one, its clone holds too, and so does a volume into which a dump of the clone was restored.
+-- What a volume holds of another one, its clone holds too, and so does a volume into which a dump of the clone was restored, but for
+-- one in which every index became 1.
 pub record CopiesHold : Type 0 where
   pub cloned : (from : ℕ) (name : List ℕ) (kind release : ℕ) (c s : Stored) → HoldsUntil from c s → HoldsUntil from (cloned name kind release c) s
   pub recloned : (from : ℕ) (clone : Stored) (release : ℕ) (c s : Stored) → HoldsUntil from c s → HoldsUntil from (recloned clone release c) s
@@ -124,7 +126,7 @@ pub record CopiesHold : Type 0 where
 
 -- So a full dump of a clone, and then an increment of the volume since the clone's counter, give the volume as it is at last.
 abbrev pub IncrementsFollow : Type 0
-IncrementsFollow = (id copied source : ℕ) (t c s : Stored) → CanBeDumped c → IsCounted c → CanBeDumped s → HoldsUntil c.volume.counter c s →
+IncrementsFollow = (id copied source : ℕ) (t c s : Stored) → CanBeDumped c → HaveChanged c → CanBeDumped s → HoldsUntil c.volume.counter c s →
     is_other_family id t (dump_of copied 0 c) ≡ false → is_other_family id t (dump_of source c.volume.counter s) ≡ false →
     (u : Stored) × ((restored id t (dump_of copied 0 c) ≡ Some u) × (restored id u (dump_of source c.volume.counter s) ≡ Some (with_content false t s)))
 

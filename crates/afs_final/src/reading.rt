@@ -75,7 +75,8 @@ pub fn fault_in<D: Disk>(left: &[Left<VolStore<D>, D>]) -> Option<LendFault>
         match one {
             Left::Failed(_) => return Some(LendFault::Failed),
             Left::Unread(_) => is_wanting = true,
-            Left::Kept(_) | Left::Bad(_) => {}
+            Left::Kept(_) => {}
+            Left::Bad(_) => {}
         }
     }
     if is_wanting {

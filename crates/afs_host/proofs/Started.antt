@@ -16,6 +16,7 @@ use Rattle.afs_records.specs.Durable.{first_bad, StandFor}
 use Rattle.afs_volstore.specs.Stands.{Stands}
 use Rattle.afs_rows.specs.Hosts.{at_rest, comes_up, fails_early, fails_midway, in_boot, is_full, settled, Fall, MayFind, Outcome, ends, falls, restarted, HostStep}
 use Rattle.afs_rows.specs.ServerHosts.{begun_by_disk, ServerHost, server_kind}
+use Rattle.afs_rows.specs.States.{ServerState}
 use Rattle.afs_rows.specs.Steps.{Begun}
 use Rattle.afs_volstore.specs.Opening.{lines_begun, IsAttachFault}
 use Rattle.afs_volstore.specs.Stores.{IsCaused, Store}
@@ -52,7 +53,7 @@ pub record TakenUp {D : Type 0} (seen : D → Option (List ℕ)) (may_leave : D 
   pub counted : (bytes : List ℕ) → seen old.disk ≡ Some bytes → s.count ≡ length (whole_records bytes)
   pub capacity : s.durable.capacity ≡ limit old.disk
   pub quiet : faults s.disk.disk ≡ faults old.disk
-  pub boots : (begun : Begun) (records : List (List ℕ)) → IsFound seen begun records front s → BootsFrom seen may_leave faults limit begun records s.node clock count s.disk.disk result
+  pub boots : (begun : Begun ServerState) (records : List (List ℕ)) → IsFound seen begun records front s → BootsFrom seen may_leave faults limit begun records s.node clock count s.disk.disk result
   pub goes_on : GoesOnBooted s old.mark result
   pub same_limit : limit (disk_started result) ≡ limit old.disk
 

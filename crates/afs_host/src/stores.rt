@@ -51,9 +51,13 @@ pub trait OnDisk {
     /// The disk.
     fn release(self) -> Self::D
         ensures { result ≡ (shown self).fuse.disk };
+
+    /// Of a store with another fuse a host sees that fuse, and nothing else is another.
+    ghost sound: { (s : Self) (f : Fused Self.D) → shown (with_fuse s f) ≡ record (shown s) { fuse = f } };
 }
 
 impl<E: Disk> OnDisk for VolStore<Fuse<E>> {
+    ghost use Rattle.std.proofs.Common.{refl};
     ghost use Rattle.afs_host.specs.Views.{shown_store};
 
     type D = E;
@@ -63,6 +67,8 @@ impl<E: Disk> OnDisk for VolStore<Fuse<E>> {
     ghost with_fuse = { λ s f. record s { disk = f } };
 
     ghost kept = { λ s seen may_leave. IsKept s.durable seen may_leave };
+
+    ghost sound = { λ s f. refl };
 
     fn node(&self) -> Node {
         self.node()

@@ -181,12 +181,12 @@ deeds_keep : (l : LocLasting) (c : LocChange) → l.next_stamp ≤ c.next_stamp 
 deeds_keep l c le d h =
     let drawn : AreDrawn c.next_stamp l.entries = drawn_more l.next_stamp c.next_stamp l.entries le h.drawn in
     elim d [
-    | inl s ↦ subst (λ (y : Deed). IsInOrder c.next_stamp (entries_after y l.entries)) (sym s.1.0) (record { keyed = keyed_set s.0 l.entries h.keyed; drawn = drawn_set c.next_stamp s.0.entry.read_write s.0 l.entries (s.1.1 h.drawn) drawn })
-    | inr o ↦ elim o [
-      | inl r ↦ subst (λ (y : Deed). IsInOrder c.next_stamp (entries_after y l.entries)) (sym r.1.0) (record { keyed = keyed_unset r.0.entry.read_write l.entries h.keyed; drawn = drawn_unset c.next_stamp r.0.entry.read_write l.entries drawn })
-      | inr e ↦ subst (λ (y : Deed). IsInOrder c.next_stamp (entries_after y l.entries)) (sym e) (record { keyed = h.keyed; drawn = drawn })
+      | inl s ↦ subst (λ (y : Deed). IsInOrder c.next_stamp (entries_after y l.entries)) (sym s.1.0) (record { keyed = keyed_set s.0 l.entries h.keyed; drawn = drawn_set c.next_stamp s.0.entry.read_write s.0 l.entries (s.1.1 h.drawn) drawn })
+      | inr o ↦ elim o [
+        | inl r ↦ subst (λ (y : Deed). IsInOrder c.next_stamp (entries_after y l.entries)) (sym r.1.0) (record { keyed = keyed_unset r.0.entry.read_write l.entries h.keyed; drawn = drawn_unset c.next_stamp r.0.entry.read_write l.entries drawn })
+        | inr e ↦ subst (λ (y : Deed). IsInOrder c.next_stamp (entries_after y l.entries)) (sym e) (record { keyed = h.keyed; drawn = drawn })
+      ]
     ]
-  ]
 
 pub loc_ordered : LocChangesKeepOrder
 loc_ordered stamp call l c is h =

@@ -131,3 +131,4 @@ pub mod Worked
 pub mod KeptRuns
 pub mod Wrong
 pub mod Database
+pub mod DatabaseRuns

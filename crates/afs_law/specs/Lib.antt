@@ -11,3 +11,4 @@ pub mod Parts
 pub mod ServerParts
 pub mod ClientParts
 pub mod Database
+pub mod DatabaseRuns

@@ -2,6 +2,7 @@
 
 ghost use Rattle.afs_law.specs.Laws.{AcknowledgedAreKept, AcknowledgedAreMade, AnswersAreRecent, ChangesAreFolded, EffectsAreTold, KeysRunOnce, ReadsAreNewest, RunsAreLegal, RunsAreOne, RunsEndWell, SetUpsAreFirst, StartsAreFolded, VolumesAreTold, PairsAreKnown, TrustedIsGood, RoomlessAreRefused, UnservedAreRefused, CallsRunOnce, RepliesAreCaused, RepliesWereRun, KeptWereRun, DurableAreChanges, GrantsAreKept, BreaksAreOwed, RepliesFollowDrops, UnawaitedAreUntrusted, DeadAreUntrusted};
 ghost use Rattle.afs_law.specs.Database.{LocChangesAreFolded, LocChangesKeepOrder, LocStartsAreFolded};
+ghost use Rattle.afs_law.specs.DatabaseRuns.{LocBootsRise, LocCallsRunOnce, LocChangesAreOnce, LocStaysSettled};
 ghost use Rattle.afs_law.specs.ClientParts.{AnswersAreDue, AnswersAreGood, CachedAreFetched, ChangesAreAlone, GiftsAreDropped, ReadsAreGood, WaitsAreSilent};
 ghost use Rattle.afs_law.specs.Parts.{ActsAreTold, CallsAreAsked, CallsAreOwn, ChangesAreIdeal, EntriesAreSound, LinesAreInPlace, MessagesAreOwn};
 ghost use Rattle.afs_law.specs.ServerParts.{BreaksAreGood, BreaksAreOnce, CachedAreBrought, FallsAreKept, GoodReadsAreLegal, GrantsAreGood, RepliesAreTrue, RepliesWait, TimeoutsAreGood, VersionsAreKept};
@@ -287,4 +288,24 @@ pub fn loc_starts_are_folded()
 /// Whatever is called, its entries stay under their numbers, and each lock's stamp was drawn; no counter falls.
 pub fn loc_changes_keep_order()
     ensures { LocChangesKeepOrder }
+{}
+
+/// The location database's boot number never falls, and stays while it doesn't begin again.
+pub fn loc_boots_rise()
+    ensures { LocBootsRise }
+{}
+
+/// In one boot of it no call runs twice.
+pub fn loc_calls_run_once()
+    ensures { LocCallsRunOnce }
+{}
+
+/// What it keeps of a caller on its disk is no later call than the caller's last one.
+pub fn loc_stays_settled()
+    ensures { LocStaysSettled }
+{}
+
+/// Over all its boots no call runs again that changed something.
+pub fn loc_changes_are_once()
+    ensures { LocChangesAreOnce }
 {}

@@ -108,7 +108,7 @@ pub fn give_back<B: Bank<D: Drop>>(
     first: u8,
     left: Vec<Left<VolStore<B::D>, B::D>>,
 ) -> Result<(), Failed>
-    requires { first + length left.items < 2 ^ 8 }
+    requires { (first + length left.items ≤ 2 ^ 8) × (length left.items < 2 ^ 8) }
     ensures all { OnOk result (GivesBackBut B.D.seen 0 (kept_disks first left.items) (B.given bank.old) (B.given bank.new)) }
     ensures back { GoBack B.D.seen (kept_disks first left.items) (B.given bank.old) (B.given bank.new) (B.faults bank.old) (B.faults bank.new) }
     ensures quiet { OnOk result (B.faults bank.new ≡ B.faults bank.old) }
@@ -118,10 +118,10 @@ pub fn give_back<B: Bank<D: Drop>>(
     ensures never_falls { B.faults bank.old ≤ B.faults bank.new }
 {
     let mut all = Ok(());
-    let mut node = first;
+    let mut before = 0;
     for found in left {
-        all = give_one(bank, node, disk_in(found), all);
-        node += 1;
+        all = give_one(bank, first + before, disk_in(found), all);
+        before += 1;
     }
     all
 }

@@ -13,8 +13,9 @@ use Rattle.afs_volume.specs.Seen.{all_seen, seen}
 use Rattle.afs_volume.specs.Taking.{times_in}
 use Rattle.afs_volume.proofs.Tables.{got}
 use Rattle.afs_volume.proofs.Timed.{times_are}
-use Rattle.afs_restore.specs.Filling.{filled, given_by, image_indexed, kept, numbered_as, or_kept, with_first, with_unique, AreGiven, IsGiven}
-use Rattle.afs_restore.proofs.Made.{valued}
+use Rattle.afs_restore.specs.Filling.{filled, image_indexed, kept, numbered_as, or_kept, with_first, with_unique, AreGood, IsGoodWhere}
+use Rattle.afs_restore.proofs.Given.{given_by}
+use Rattle.afs_restore.proofs.Good.{good_valued}
 
 -- ---- as a loop fills them in
 
@@ -115,14 +116,14 @@ pub record IsOld (old : Table Image) (s : Stored) : Type 0 where
   pub vnodes : s.volume.vnodes ≡ all_seen old
   pub times : s.times ≡ times_in old
 
-one_is : (anew : Bool) (p : ℕ × ℕ) (old : Table Image) (s : Stored) (o : Option Image) → IsOld old s → IsGiven p o → IsOne anew p.0 (option_map (image_indexed anew) (or_kept o (kept old p))) (vnode_by o p.0 p.1 s)
-one_is anew p old s (Some i) is given = from_stream anew p.0 0 i (value_of i) given.number (valued i given.readable)
+one_is : (anew : Bool) (p : ℕ × ℕ) (old : Table Image) (s : Stored) (o : Option Image) → IsOld old s → IsGoodWhere p o → IsOne anew p.0 (option_map (image_indexed anew) (or_kept o (kept old p))) (vnode_by o p.0 p.1 s)
+one_is anew p old s (Some i) is given = from_stream anew p.0 0 i (value_of i) given.number (good_valued p i given)
 one_is anew p old s None is given =
     subst (λ (v : Option Vnode). IsOne anew p.0 (option_map (image_indexed anew) (kept old p)) (timed (or_zero (get p.0 s.times)) (if_unique p.1 v)))
     (sym (ap (get p.0) is.vnodes ∙ got p.0 old))
     (of_volume anew p.0 p.1 (or_zero (get p.0 s.times)) (get p.0 old) (λ x e. ap (λ (t : Table ℕ). or_zero (get p.0 t)) is.times ∙ times_are old p.0 x e))
 
-pub all_filled : (anew : Bool) (old : Table Image) (is : List Image) (s : Stored) (ps : List (ℕ × ℕ)) → IsOld old s → AreGiven ps (given_by ps is) → AreAll anew (filled anew old ps (given_by ps is)) (restored_vnodes ps is s)
+pub all_filled : (anew : Bool) (old : Table Image) (is : List Image) (s : Stored) (ps : List (ℕ × ℕ)) → IsOld old s → AreGood ps (given_by ps is) → AreAll anew (filled anew old ps (given_by ps is)) (restored_vnodes ps is s)
 unfolding AreAll all_seen
 all_filled anew old is s [] has given = (refl, refl)
 all_filled anew old is s (p ∷ ps) has given =

@@ -1,22 +1,14 @@
 -- Vnodes that are made pair by pair stand in the order of the list, and can be read.
 use Rattle.std.proofs.Common.{◌≡◌, ℕ, suc, ◌+◌, ◌≤◌, Bool, true, false, List, [], ◌∷◌, ◌++◌, length, Option, Some, None, is_some, refl, sym, ap, subst, ◌∙◌, arith}
-use Rattle.afs_ideal.specs.Images.{Image, value_of}
+use Rattle.afs_ideal.specs.Images.{Image}
 use Rattle.afs_ideal.specs.Tables.{AscendsFrom}
 use Rattle.afs_ideal.specs.VnodeMaps.{AllFit}
-use Rattle.afs_ideal.specs.Volumes.{Vnode}
 use Rattle.afs_vnode.specs.Stores.{table_of}
-use Rattle.afs_volume.specs.Seen.{kind_seen, seen, IsReadable}
-use Rattle.afs_volume.proofs.Folded.{value_seen}
-use Rattle.afs_volume.proofs.Readable.{readable_kind, AllReadable}
-use Rattle.afs_restore.specs.Filling.{image_indexed, AreGiven, AreMade, IsGiven, IsMade}
+use Rattle.afs_volume.specs.Seen.{IsReadable}
+use Rattle.afs_volume.proofs.Readable.{AllReadable}
+use Rattle.afs_restore.specs.Filling.{image_indexed, AreMade, IsGiven, IsMade}
 
 -- ---- one more
-
-pub also_given : (ps : List (ℕ × ℕ)) (os : List (Option Image)) (p : ℕ × ℕ) (o : Option Image) → AreGiven ps os → IsGiven p o → AreGiven (ps ++ p ∷ []) (os ++ o ∷ [])
-also_given [] [] p o all one = (one, tt)
-also_given [] (q ∷ qs) p o all one = absurd all
-also_given (r ∷ rs) [] p o all one = absurd all
-also_given (r ∷ rs) (q ∷ qs) p o all one = (all.0, also_given rs qs p o all.1 one)
 
 pub also_made : (ps : List (ℕ × ℕ)) (xs : List Image) (p : ℕ × ℕ) (x : Image) → AreMade ps xs → IsMade p x → AreMade (ps ++ p ∷ []) (xs ++ x ∷ [])
 also_made [] [] p x all one = (one, tt)
@@ -32,18 +24,6 @@ made_indexed false p x made = made
 -- what is given was made
 pub indexed_made : (anew : Bool) (p : ℕ × ℕ) (o : Option Image) (x y : Image) → o ≡ Some x → IsGiven p o → y ≡ image_indexed anew x → IsMade p y
 indexed_made anew p o x y there given is = subst (λ (z : Image). IsMade p z) (sym is) (made_indexed anew p x (subst (λ (q : Option Image). IsGiven p q) there given))
-
--- ---- the first of those that are left
-
-pub first_given : (ps : List (ℕ × ℕ)) (os : List (Option Image)) (p : ℕ × ℕ) (qs : List (ℕ × ℕ)) (o : Option Image) (more : List (Option Image)) → ps ≡ p ∷ qs → os ≡ o ∷ more → AreGiven ps os → IsGiven p o × AreGiven qs more
-first_given ps os p qs o more here there all = subst (λ (z : List (Option Image)). AreGiven (p ∷ qs) z) there (subst (λ (z : List (ℕ × ℕ)). AreGiven z os) here all)
-
-at_least : (p : ℕ × ℕ) (qs : List (ℕ × ℕ)) (os : List (Option Image)) → AreGiven (p ∷ qs) os → 1 ≤ length os
-at_least p qs [] all = absurd all
-at_least p qs (o ∷ os) all = omega arith
-
-pub some_given : (ps : List (ℕ × ℕ)) (os : List (Option Image)) (p : ℕ × ℕ) (qs : List (ℕ × ℕ)) → ps ≡ p ∷ qs → AreGiven ps os → 1 ≤ length os
-some_given ps os p qs here all = at_least p qs os (subst (λ (z : List (ℕ × ℕ)). AreGiven z os) here all)
 
 -- ---- all of them
 
@@ -71,12 +51,3 @@ made_read [] [] all = tt
 made_read [] (x ∷ xs) all = absurd all
 made_read (p ∷ ps) [] all = absurd all
 made_read (p ∷ ps) (x ∷ xs) all = (all.0.readable, made_read ps xs all.1)
-
--- ---- what can be read has a value
-
-valued_by : (i : Image) (o : Option Vnode) → value_of i ≡ o → is_some o ≡ true → value_of i ≡ Some (seen i)
-valued_by i None e some = absurd cc
-valued_by i (Some x) e some = e ∙ ap (λ (y : Vnode). Some y) (sym (value_seen i x e))
-
-pub valued : (i : Image) → IsReadable i → value_of i ≡ Some (seen i)
-valued i h = valued_by i (value_of i) refl (readable_kind (kind_seen i.kind) i refl h)

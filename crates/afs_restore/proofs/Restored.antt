@@ -9,19 +9,21 @@ use Rattle.afs_ideal.specs.VnodeMaps.{most_vnodes}
 use Rattle.afs_ideal.specs.Volumes.{Vnode}
 use Rattle.afs_records.specs.Durable.{Stored, allowed}
 use Rattle.afs_records.specs.Sound.{is_sound}
-use Rattle.afs_dumps.specs.Dumps.{Headers}
+use Rattle.afs_dumps.specs.Dumps.{Dump}
 use Rattle.afs_dumps.specs.Restores as restores
 use Rattle.afs_dumps.specs.Restores.{allowed_with, is_other_family, restored, restored_vnodes, vnodes_in, Timed}
+use Rattle.afs_dumps.specs.Streams.{FitsDump}
 use Rattle.afs_vnode.specs.Stores.{table_of}
 use Rattle.afs_volume.specs.Assembling.{are_read, make_volume}
 use Rattle.afs_volume.specs.Seen.{all_seen, kind_seen, volume_seen}
 use Rattle.afs_volume.specs.Taking as taking
 use Rattle.afs_volume.proofs.Readable.{all_read, readable_kind}
-use Rattle.afs_restore.specs.Filling.{filled, given_by, AreGiven, AreMade, IsList}
-use Rattle.afs_restore.specs.Reading.{told_by}
-use Rattle.afs_restore.specs.Restoring.{dump_read}
+use Rattle.afs_restore.specs.Filling.{filled, given_in, AreGood, AreMade, IsList}
+use Rattle.afs_restore.specs.Parts.{dump_in}
 use Rattle.afs_restore.specs.declared.headers.Told.{Told}
+use Rattle.afs_restore.specs.declared.parts.Parts.{Parts}
 use Rattle.afs_restore.proofs.Filled.{all_filled, AreAll}
+use Rattle.afs_restore.proofs.Given.{dump_given, dump_good, given_by}
 use Rattle.afs_restore.proofs.Made.{made_few}
 
 -- ---- a volume that may be on a disk
@@ -51,12 +53,12 @@ stored_by head vnodes times = record {
   is_new = false;
 }
 
-same_stored : (id : ℕ) (head : VolumeHead) (old : Table Image) (h : Headers) (live : List (ℕ × ℕ)) (is xs : List Image) (t : Table Timed) →
-    all_seen (table_of xs) ≡ vnodes_in (is_other_family id (taking.stored_with head old) (dump_read h live is)) t → taking.times_in (table_of xs) ≡ restores.times_in t →
-    restores.stored_with id (taking.stored_with head old) (dump_read h live is) t ≡ taking.stored_with (head_with head (told_by h.volume)) (table_of xs)
+same_stored : (id : ℕ) (head : VolumeHead) (old : Table Image) (p : Parts) (xs : List Image) (t : Table Timed) →
+    all_seen (table_of xs) ≡ vnodes_in (is_other_family id (taking.stored_with head old) (dump_in p)) t → taking.times_in (table_of xs) ≡ restores.times_in t →
+    restores.stored_with id (taking.stored_with head old) (dump_in p) t ≡ taking.stored_with (head_with head p.headers.told) (table_of xs)
 unfolding stored_by
-same_stored id head old h live is xs t vnodes times =
-    let new : VolumeHead = head_with head (told_by h.volume) in
+same_stored id head old p xs t vnodes times =
+    let new : VolumeHead = head_with head p.headers.told in
     ap (λ (vs : Table Vnode). stored_by new vs (restores.times_in t)) (sym vnodes) ∙ ap (λ (ts : Table ℕ). stored_by new (all_seen (table_of xs)) ts) (sym times)
 
 -- ---- what is restored
@@ -66,8 +68,8 @@ unfolding AreAll
 none_all anew None all = refl
 none_all anew (Some t) all = absurd all
 
-pub none_restored : (id : ℕ) (s : Stored) (h : Headers) (live : List (ℕ × ℕ)) (is : List Image) (anew : Bool) → AreAll anew None (restored_vnodes live is s) → restored id s (dump_read h live is) ≡ None
-none_restored id s h live is anew all = ap (allowed_with id s (dump_read h live is)) (none_all anew (restored_vnodes live is s) all)
+pub none_restored : (id : ℕ) (s : Stored) (d : Dump) (anew : Bool) → AreAll anew None (restored_vnodes d.live d.images s) → restored id s d ≡ None
+none_restored id s d anew all = ap (allowed_with id s d) (none_all anew (restored_vnodes d.live d.images s) all)
 
 record IsTable (anew : Bool) (xs : List Image) (o : Option (Table Timed)) : Type 0 where
   pub table : Table Timed
@@ -80,13 +82,13 @@ unfolding AreAll
 some_all anew xs None all = absurd all
 some_all anew xs (Some t) all = record { table = t; is = refl; vnodes = all.0; times = all.1 }
 
-some_restored : (id : ℕ) (head : VolumeHead) (old : Table Image) (h : Headers) (live : List (ℕ × ℕ)) (is xs : List Image) →
-    AreAll (is_other_family id (taking.stored_with head old) (dump_read h live is)) (Some xs) (restored_vnodes live is (taking.stored_with head old)) →
-    restored id (taking.stored_with head old) (dump_read h live is) ≡ allowed (taking.stored_with (head_with head (told_by h.volume)) (table_of xs))
-some_restored id head old h live is xs all =
+some_restored : (id : ℕ) (head : VolumeHead) (old : Table Image) (p : Parts) (xs : List Image) →
+    AreAll (is_other_family id (taking.stored_with head old) (dump_in p)) (Some xs) (restored_vnodes p.live.items p.images.items (taking.stored_with head old)) →
+    restored id (taking.stored_with head old) (dump_in p) ≡ allowed (taking.stored_with (head_with head p.headers.told) (table_of xs))
+some_restored id head old p xs all =
     let s : Stored = taking.stored_with head old in
-    let t = some_all (is_other_family id s (dump_read h live is)) xs (restored_vnodes live is s) all in
-    ap (allowed_with id s (dump_read h live is)) t.is ∙ ap allowed (same_stored id head old h live is xs t.table t.vnodes t.times)
+    let t = some_all (is_other_family id s (dump_in p)) xs (restored_vnodes p.live.items p.images.items s) all in
+    ap (allowed_with id s (dump_in p)) t.is ∙ ap allowed (same_stored id head old p xs t.table t.vnodes t.times)
 
 -- ---- the parts of a volume
 
@@ -120,26 +122,27 @@ few_vnodes ps xs list all =
 -- ---- the volume
 
 -- it is filled in as the dump says
-pub filled_is : (id : ℕ) (head : VolumeHead) (old : Table Image) (h : Headers) (live : List (ℕ × ℕ)) (is : List Image) (os : List (Option Image)) (xs : Option (List Image)) → given_by live is ≡ os → AreGiven live os →
-    filled (is_other_family id (taking.stored_with head old) (dump_read h live is)) old live os ≡ xs →
-    AreAll (is_other_family id (taking.stored_with head old) (dump_read h live is)) xs (restored_vnodes live is (taking.stored_with head old))
-filled_is id head old h live is os xs given all e =
-    let anew : Bool = is_other_family id (taking.stored_with head old) (dump_read h live is) in
+pub filled_is : (id : ℕ) (head : VolumeHead) (old : Table Image) (p : Parts) → FitsDump (dump_in p) →
+    AreAll (is_other_family id (taking.stored_with head old) (dump_in p)) (filled (is_other_family id (taking.stored_with head old) (dump_in p)) old p.live.items (given_in p.live.items p.images.items))
+    (restored_vnodes p.live.items p.images.items (taking.stored_with head old))
+filled_is id head old p fits =
+    let anew : Bool = is_other_family id (taking.stored_with head old) (dump_in p) in
     let s : Stored = taking.stored_with head old in
-    subst (λ (z : Option (List Image)). AreAll anew z (restored_vnodes live is s)) (ap (filled anew old live) given ∙ e)
-    (all_filled anew old is s live (record { vnodes = refl; times = refl }) (subst (λ (z : List (Option Image)). AreGiven live z) (sym given) all))
+    let same : given_by p.live.items p.images.items ≡ given_in p.live.items p.images.items = sym (dump_given (dump_in p) fits) in
+    subst (λ (os : List (Option Image)). AreAll anew (filled anew old p.live.items os) (restored_vnodes p.live.items p.images.items s)) same
+    (all_filled anew old p.images.items s p.live.items (record { vnodes = refl; times = refl }) (subst (λ (os : List (Option Image)). AreGood p.live.items os) (sym same) (dump_good (dump_in p) fits)))
 
-pub volume_is : (id : ℕ) (head : VolumeHead) (old : Table Image) (h : Headers) (live : List (ℕ × ℕ)) (is xs : List Image) → IsList live → AreMade live xs →
-    AreAll (is_other_family id (taking.stored_with head old) (dump_read h live is)) (Some xs) (restored_vnodes live is (taking.stored_with head old)) →
-    is_sound (volume_seen (head_with head (told_by h.volume)) (table_of xs)) ≡ true →
-    restored id (taking.stored_with head old) (dump_read h live is) ≡ Some (taking.stored_with (head_with head (told_by h.volume)) (table_of xs))
-volume_is id head old h live is xs list made all sound =
-    some_restored id head old h live is xs all ∙ allowed_is (taking.stored_with (head_with head (told_by h.volume)) (table_of xs)) (few_vnodes live xs list made) sound
+pub volume_is : (id : ℕ) (head : VolumeHead) (old : Table Image) (p : Parts) (xs : List Image) → IsList p.live.items → AreMade p.live.items xs →
+    AreAll (is_other_family id (taking.stored_with head old) (dump_in p)) (Some xs) (restored_vnodes p.live.items p.images.items (taking.stored_with head old)) →
+    is_sound (volume_seen (head_with head p.headers.told) (table_of xs)) ≡ true →
+    restored id (taking.stored_with head old) (dump_in p) ≡ Some (taking.stored_with (head_with head p.headers.told) (table_of xs))
+volume_is id head old p xs list made all sound =
+    some_restored id head old p xs all ∙ allowed_is (taking.stored_with (head_with head p.headers.told) (table_of xs)) (few_vnodes p.live.items xs list made) sound
 
-pub no_volume : (id : ℕ) (head : VolumeHead) (old : Table Image) (h : Headers) (live : List (ℕ × ℕ)) (is xs : List Image) → AreMade live xs →
-    AreAll (is_other_family id (taking.stored_with head old) (dump_read h live is)) (Some xs) (restored_vnodes live is (taking.stored_with head old)) →
-    make_volume (head_with head (told_by h.volume)) (table_of xs) ≡ false →
-    restored id (taking.stored_with head old) (dump_read h live is) ≡ None
-no_volume id head old h live is xs made all refused =
-    some_restored id head old h live is xs all
-    ∙ refused_is (taking.stored_with (head_with head (told_by h.volume)) (table_of xs)) (not_sound (head_with head (told_by h.volume)) live xs made refused)
+pub no_volume : (id : ℕ) (head : VolumeHead) (old : Table Image) (p : Parts) (xs : List Image) → AreMade p.live.items xs →
+    AreAll (is_other_family id (taking.stored_with head old) (dump_in p)) (Some xs) (restored_vnodes p.live.items p.images.items (taking.stored_with head old)) →
+    make_volume (head_with head p.headers.told) (table_of xs) ≡ false →
+    restored id (taking.stored_with head old) (dump_in p) ≡ None
+no_volume id head old p xs made all refused =
+    some_restored id head old p xs all
+    ∙ refused_is (taking.stored_with (head_with head p.headers.told) (table_of xs)) (not_sound (head_with head p.headers.told) p.live.items xs made refused)

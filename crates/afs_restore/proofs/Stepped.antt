@@ -1,28 +1,8 @@
--- What one step makes of the reading.
+-- The words of the next image: its vnode is looked for in the list.
 use Rattle.std.proofs.Common.{◌≡◌, ℕ, zero, suc, ◌+◌, ◌<◌, true, false, cond, List, [], ◌∷◌, drop, slice_get, Option, Some, None, nat_eq, refl, ap, subst, ◌∙◌, arith}
-use Rattle.afs_dumps.specs.Laws.{IsReading}
-use Rattle.afs_dumps.specs.Feeding.{Stage, at_pair, at_image, begun, stepped, words_at, IsAtEnd}
+use Rattle.afs_dumps.specs.Feeding.{words_at}
 use Rattle.afs_dumps.specs.Fields.{Taken, took, cut_at, bad_at, ◌>>=◌}
-use Rattle.afs_dumps.specs.Dumps.{Headers}
-use Rattle.afs_dumps.specs.Streams.{by_next, dump_at, image_words_field, next_at, only_end, ImageWords}
-use Rattle.afs_dumps.proofs.Feeding.{readers_read_on}
-
--- ---- a step of the reading
-
-pub goes_on : (stage later : Stage) (left rest : List ℕ) → stepped stage left ≡ took later rest → (bytes : List ℕ) → IsReading bytes stage left → IsReading bytes later rest
-goes_on stage later left rest e bytes reading = readers_read_on.step bytes left rest stage later reading e
-
-pub is_cut : (stage : Stage) (left rest : List ℕ) → (IsAtEnd stage → ⊥) → stepped stage left ≡ cut_at rest → (bytes : List ℕ) → IsReading bytes stage left → dump_at bytes ≡ cut_at rest
-is_cut stage left rest before e bytes reading = readers_read_on.cut bytes left rest stage reading before e
-
-pub is_bad : (stage : Stage) (left rest : List ℕ) → stepped stage left ≡ bad_at rest → (bytes : List ℕ) → IsReading bytes stage left → dump_at bytes ≡ bad_at rest
-is_bad stage left rest e bytes reading = readers_read_on.bad bytes left rest stage reading e
-
--- where no pair is left, the images come
-pub images_come : (h : Headers) (least : ℕ) (ps : List (ℕ × ℕ)) (left bytes : List ℕ) → IsReading bytes (at_pair h zero least ps) left → IsReading bytes (at_image (begun h ps)) left
-images_come h least ps left bytes reading = goes_on (at_pair h zero least ps) (at_image (begun h ps)) left left refl bytes reading
-
--- ---- the words of the next image: its vnode is looked for in the list
+use Rattle.afs_dumps.specs.Streams.{by_next, image_words_field, next_at, only_end, ImageWords}
 
 abbrev pub found_words : List (ℕ × ℕ) → Option ℕ → List ℕ → Taken (Option (ImageWords × List (ℕ × ℕ)))
 found_words ps None rest = took None rest

@@ -1,47 +1,43 @@
--- The vnodes that a stream and a volume give together, pair by pair of the list.
-use Rattle.std.specs.Prelude.{◌≡◌, ◌≤◌, length, ℕ, List, [], ◌∷◌, map, Bool, true, false, Option, Some, None, Result, Ok, Err, nat_eq, if◌then◌else◌}
+-- The vnodes that a dump and a volume give together, pair by pair of the list.
+use Rattle.std.specs.Prelude.{◌≡◌, ◌≤◌, length, ℕ, List, [], ◌∷◌, Bool, true, false, Option, Some, None, nat_eq, if◌then◌else◌}
 use Rattle.std.specs.Option.{option_map}
-use Rattle.afs_xdr.specs.Reading.{Reading}
 use Rattle.afs_ideal.specs.Images.{Image}
 use Rattle.afs_ideal.specs.Tables.{Table, get, AscendsFrom}
-use Rattle.afs_ideal.specs.VnodeImage.{FitsImage}
+use Rattle.afs_ideal.specs.VnodeImage.{kind_fits, FitsImage}
 use Rattle.afs_ideal.specs.VnodeMaps.{most_vnodes}
-use Rattle.afs_dumps.specs.Fields.{Taken, took, cut_at, bad_at, ◌>>=◌}
-use Rattle.afs_dumps.specs.Restores.{image_in}
-use Rattle.afs_dumps.specs.Streams.{by_next, image_field, next_at, only_end}
+use Rattle.afs_dumps.specs.Streams.{are_good_contents, is_good_acl}
 use Rattle.afs_volume.specs.Seen.{IsReadable}
-use Rattle.afs_restore.specs.declared.stops.Stop.{Stop}
-use Rattle.afs_restore.specs.declared.stops.Stop.TheVariants as stops
 
--- ---- what the stream gives
+-- ---- what the dump gives
+
+-- the image of the vnode of a pair, where it is the next one, and the images after it
+abbrev pub next_given : ℕ × ℕ → List Image → Option Image × List Image
+next_given p [] = (None, [])
+next_given p (i ∷ is) = if nat_eq i.vnode p.0 then (Some i, is) else (None, i ∷ is)
 
 -- the image of each vnode of the list, where there is one
-abbrev pub given_by : List (ℕ × ℕ) → List Image → List (Option Image)
-given_by ps is = map (λ (p : ℕ × ℕ). image_in p.0 is) ps
+abbrev pub given_in : List (ℕ × ℕ) → List Image → List (Option Image)
+given_in [] is = []
+given_in (p ∷ ps) is = (next_given p is).0 ∷ given_in ps (next_given p is).1
 
-abbrev pub none_given : List (ℕ × ℕ) → List (Option Image)
-none_given ps = map (λ (p : ℕ × ℕ). None) ps
+-- An image has the number of its pair and a kind that fits, and its access list and contents are good.
+pub record IsGood (p : ℕ × ℕ) (i : Image) : Type 0 where
+  pub number : i.vnode ≡ p.0
+  pub kind : kind_fits i.vnode i.kind ≡ true
+  pub acl : is_good_acl i.kind i.acl ≡ true
+  pub contents : are_good_contents i.kind i.contents ≡ true
+  pub fits : FitsImage i
 
--- the same, as it is read pair by pair
-abbrev pub given_at : List (ℕ × ℕ) → List ℕ → Taken (List (Option Image))
-given_at [] bytes = next_at bytes >>= λ next. only_end next.0 next.1 []
-given_at (p ∷ ps) bytes =
-    next_at bytes
-    >>= λ next. by_next p.0 next.0 next.1 (none_given (p ∷ ps))
-    ((image_field p).at next.1 >>= λ i. (given_at ps i.1 >>= λ os. took (Some i.0 ∷ os.0) os.1))
-    (given_at ps bytes >>= λ os. took (None ∷ os.0) os.1)
+abbrev pub IsGoodWhere : ℕ × ℕ → Option Image → Type 0
+IsGoodWhere p None = Unit {0}
+IsGoodWhere p (Some i) = IsGood p i
 
--- what is still given, where the images have ended or not
-abbrev pub still_given : Bool → List (ℕ × ℕ) → List ℕ → Taken (List (Option Image))
-still_given true ps bytes = took (none_given ps) bytes
-still_given false ps bytes = given_at ps bytes
-
--- what the stream gives for the first pair of a list, and whether its images have ended; the others come from what is left
-abbrev pub GivesOne : ℕ × ℕ → Bool → Reading → Reading → Result (Option Image × Bool) Stop → Type 0
-GivesOne p ended old new (Ok g) = (ps : List (ℕ × ℕ)) → still_given ended (p ∷ ps) old.left ≡ (still_given g.1 ps new.left >>= λ os. took (g.0 ∷ os.0) os.1)
-GivesOne p ended old new (Err stops.Cut) = (ps : List (ℕ × ℕ)) → still_given ended (p ∷ ps) old.left ≡ cut_at new.left
-GivesOne p ended old new (Err stops.Bad) = (ps : List (ℕ × ℕ)) → still_given ended (p ∷ ps) old.left ≡ bad_at new.left
-GivesOne p ended old new (Err stops.OutOfMemory) = Unit {0}
+-- one for each pair of a list, or none
+abbrev pub AreGood : List (ℕ × ℕ) → List (Option Image) → Type 0
+AreGood [] [] = Unit {0}
+AreGood [] (o ∷ os) = ⊥
+AreGood (p ∷ ps) [] = ⊥
+AreGood (p ∷ ps) (o ∷ os) = IsGoodWhere p o × AreGood ps os
 
 -- ---- what the volume gives besides
 
@@ -89,12 +85,6 @@ IsGiven p None = Unit {0}
 IsGiven p (Some x) = IsMade p x
 
 -- one for each pair of a list
-abbrev pub AreGiven : List (ℕ × ℕ) → List (Option Image) → Type 0
-AreGiven [] [] = Unit {0}
-AreGiven [] (o ∷ os) = ⊥
-AreGiven (p ∷ ps) [] = ⊥
-AreGiven (p ∷ ps) (o ∷ os) = IsGiven p o × AreGiven ps os
-
 abbrev pub AreMade : List (ℕ × ℕ) → List Image → Type 0
 AreMade [] [] = Unit {0}
 AreMade [] (x ∷ xs) = ⊥

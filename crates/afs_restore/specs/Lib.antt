@@ -1,4 +1,5 @@
 pub mod Reading
+pub mod Parts
 pub mod Filling
 pub mod Restoring
 pub mod Steps

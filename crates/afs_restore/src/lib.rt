@@ -5,11 +5,12 @@ mod faults;
 mod fields;
 mod headers;
 mod images;
+mod parts;
+mod reading;
 mod restorer;
 mod restoring;
 mod steps;
 mod stops;
 
 pub use faults::DumpFault;
-pub use restorer::Restorer;
-pub use restoring::restore;
+pub use restorer::{Restorer, restore};

@@ -1,92 +1,55 @@
 //! A dump that comes in pieces.
 
-ghost use Rattle.std.specs.Prelude.{◌≡◌, ◌++◌, ℕ, [], length, take, Err, IfOk, None, Ok, OnOk, Some};
-ghost use Rattle.afs_ideal.specs.DirectoryLaws.{IsBytes};
+ghost use Rattle.std.specs.Prelude.{◌≡◌, ◌++◌, ◌-◌, ◌≤◌, ℕ, [], drop, length, Err, IfOk, None, Ok, OnOk, Some};
 ghost use Rattle.afs_dumps.specs.Restores.{fed, finished};
 ghost use Rattle.afs_volume.specs.Taking.{stored_of};
-ghost use Rattle.afs_restore.specs.ReadOn.{Begins, ReadsOn};
 ghost use Rattle.afs_restore.specs.declared.faults.DumpFault.TheVariants.{Bad, OutOfMemory};
 
 use crate::faults::DumpFault;
-use crate::restoring::restore;
-use crate::steps::{Step, take_step};
-use crate::stops::Stop;
+use crate::fields::are_bytes;
+use crate::parts::Parts;
+use crate::reading::{Read, read_or_go_back};
+use crate::restoring::made;
+use crate::steps::Step;
 use afs_volume::Volume;
-use afs_xdr::reading::Reader;
+use afs_volume::faults::AssembleFault;
 use std::alloc::Global;
 use std::marker::Model;
 
-/// A dump that comes in pieces. It is seen as the bytes that came, to the end of the piece for which it was refused. The bytes
-/// are kept, since a volume is made of them at the end; each is read once as it comes, and of a field that isn't whole yet some
-/// words are looked at again: at most the headers, a pair, the words of an image, or the count of a text.
+/// How many bytes the tag of the end and the word after it take.
+const END_LENGTH: u64 = 8;
+
+/// A dump that comes in pieces. It is seen as the bytes that came, to the end of the piece for which it was refused. It keeps what
+/// they tell, and not the bytes: only those of a field that isn't whole yet are pending. Each byte is read once as it comes, and of
+/// such a field some words are looked at again: at most the headers, a pair, the words of an image, or the count of a text.
 #[derive(Drop)]
 pub struct Restorer {
-    bytes: Vec<u8>,
-    live: Vec<(u32, u32)>,
+    parts: Parts,
     step: Step,
-    at: usize,
+    pending: Vec<u8>,
+    length: u64,
+    short: usize,
     refused: Option<u64>,
 }
 
 impl Model for Restorer {
     ghost use Rattle.std.specs.Prelude.{List, ℕ};
-    ghost use Rattle.afs_restore.specs.Steps.{IsFed};
+    ghost use Rattle.afs_restore.specs.ReadOn.{bytes_read, IsFed};
 
     ghost Value = { List ℕ };
 
-    ghost view = { λ r. r.bytes.items };
+    ghost view = { λ r. bytes_read r.step r.parts r.pending.items };
 
-    ghost invariant = { λ r. IsFed r.bytes.items r.live.items r.step r.at r.refused };
+    ghost invariant = { λ r. IsFed r.step r.parts r.pending.items r.length r.short r.refused };
 }
 
-/// How far bytes were read: to the last field that is whole, so that this step comes next at this place; they are refused at this
-/// offset; or memory ran out.
-#[derive(Clone, Copy, Debug, PartialEq, Eq)]
-pub enum Read {
-    To(Step, usize),
-    Refused(usize),
-    OutOfMemory,
-}
-
-/// Bytes are bytes.
-fn are_bytes(bytes: &[u8])
-    ensures { IsBytes bytes.now }
+/// Takes all bytes away but so many at the end.
+fn keep_last(bytes: &mut Vec<u8>, left: usize)
+    requires { left ≤ length bytes.old.items }
+    ensures { bytes.new.items ≡ drop (length bytes.old.items - left) bytes.old.items }
 {
-    let _ = bytes.len();
-}
-
-/// Reads on from a place, where this step comes next, as far as the bytes go.
-fn read_on(
-    alloc: Global,
-    bytes: &[u8],
-    live: &mut Vec<(u32, u32)>,
-    from: Step,
-    begin: usize,
-) -> Read
-    requires { Begins bytes.now live.old.items from begin }
-    ensures read { ReadsOn bytes.now live.new.items result }
-    ensures kept { take (length live.old.items) live.new.items ≡ live.old.items }
-{
-    let (_, rest) = bytes.split_at(begin);
-    are_bytes(rest);
-    let mut r = Reader::new(rest);
-    let mut step = from;
-    let mut at = begin;
-    while step != Step::End {
-        match take_step(alloc, live, step, &mut r) {
-            Ok(next) => {
-                step = next;
-                at = bytes.len().saturating_sub(r.left_len());
-            }
-            Err(Stop::Cut) => return Read::To(step, at),
-            Err(Stop::Bad) => return Read::Refused(bytes.len().saturating_sub(r.left_len())),
-            Err(Stop::OutOfMemory) => return Read::OutOfMemory,
-        }
-    }
-    if at < bytes.len() {
-        return Read::Refused(at);
-    }
-    Read::To(step, at)
+    let count = bytes.len() - left;
+    bytes.drain(..count);
 }
 
 impl Restorer {
@@ -95,23 +58,18 @@ impl Restorer {
         ensures { result ≡ [] }
     {
         Restorer {
-            bytes: Vec::new(alloc),
-            live: Vec::new(alloc),
+            parts: Parts::new(alloc),
             step: Step::Headers,
-            at: 0,
+            pending: Vec::new(alloc),
+            length: 0,
+            short: 0,
             refused: None,
         }
     }
 
-    /// The bytes that came. It takes no memory.
-    pub fn bytes(&self) -> &[u8]
-        ensures { result.now ≡ self.now }
-    {
-        self.bytes.as_slice()
-    }
-
     /// Takes a piece. `Bad` as soon as what came can't become a dump any more, with the offset of the first field that is no good;
-    /// and ever after the same. Running out of memory leaves the restorer as it was.
+    /// and ever after the same. Running out of memory leaves the restorer as it was; so does a piece with which more bytes came
+    /// than a count of 64 bits can tell.
     pub fn feed(&mut self, alloc: Global, piece: &[u8]) -> Result<(), DumpFault>
         ensures ok { OnOk result ((self.new ≡ self.old ++ piece.now) × (fed self.new ≡ None)) }
         ensures bad { (offset : ℕ) → result ≡ Err (Bad offset) → (fed (self.old ++ piece.now) ≡ Some offset) × (fed self.new ≡ Some offset) }
@@ -120,36 +78,67 @@ impl Restorer {
         if let Some(offset) = self.refused {
             return Err(DumpFault::Bad(offset));
         }
-        let before = self.bytes.len();
-        if self.bytes.extend_from_slice(piece).is_err() {
+        let Some(length) = self.length.checked_add(piece.len() as u64) else {
             return Err(DumpFault::OutOfMemory);
-        }
-        let listed = self.live.len();
-        let bytes = self.bytes.as_slice();
-        match read_on(alloc, bytes, &mut self.live, self.step, self.at) {
-            Read::To(step, at) => {
+        };
+        are_bytes(piece);
+        let before = self.pending.len();
+        self.pending.extend_from_slice(piece)?;
+        match read_or_go_back(alloc, self.pending.as_slice(), &mut self.parts, self.step) {
+            Ok(Read::Waits(step, left, short)) => {
                 self.step = step;
-                self.at = at;
+                self.length = length;
+                self.short = short;
+                keep_last(&mut self.pending, left);
                 Ok(())
             }
-            Read::Refused(at) => {
-                self.refused = Some(at as u64);
-                Err(DumpFault::Bad(at as u64))
+            Ok(Read::Refused(step, left, short)) => {
+                let offset = length.saturating_sub(short as u64);
+                self.step = step;
+                self.length = length;
+                self.refused = Some(offset);
+                keep_last(&mut self.pending, left);
+                Err(DumpFault::Bad(offset))
             }
-            Read::OutOfMemory => {
-                self.bytes.truncate(before);
-                self.live.truncate(listed);
+            Err(_) => {
+                self.pending.truncate(before);
                 Err(DumpFault::OutOfMemory)
             }
         }
     }
 
-    /// The volume that the whole stream makes of `old`, under its number, as `old` is now. The restorer stays as it is.
+    /// The volume that the whole stream makes of `old`, under its number, as `old` is now. The restorer stays as it is: the volume
+    /// shares its bytes with it.
+    #[tactic(auto, unfolding(afs_dumps::specs::Restores::finished))]
     pub fn finish(&self, alloc: Global, old: &Volume) -> Result<Volume, DumpFault>
         ensures id { IfOk result (λ v. v.head.id ≡ old.now.head.id) }
         ensures ok { IfOk result (λ v. finished old.now.head.id (stored_of old.now) self.now ≡ Ok (stored_of v)) }
         ensures bad { (offset : ℕ) → result ≡ Err (Bad offset) → finished old.now.head.id (stored_of old.now) self.now ≡ Err offset }
     {
-        restore(alloc, self.bytes.as_slice(), old)
+        if let Some(offset) = self.refused {
+            return Err(DumpFault::Bad(offset));
+        }
+        if self.step != Step::End {
+            return Err(DumpFault::Bad(self.length.saturating_sub(self.short as u64)));
+        }
+        match made(alloc, &self.parts, old) {
+            Ok(volume) => Ok(volume),
+            Err(AssembleFault::NotSound) => Err(DumpFault::Bad(
+                self.length.saturating_sub(END_LENGTH),
+            )),
+            Err(AssembleFault::OutOfMemory) => Err(DumpFault::OutOfMemory),
+        }
     }
+}
+
+/// What a whole stream makes of a volume, under its number. `Bad` has the offset of the first field that is no good or cut, or
+/// that of the end's tag where the dump makes no sound volume.
+pub fn restore(alloc: Global, bytes: &[u8], old: &Volume) -> Result<Volume, DumpFault>
+    ensures id { IfOk result (λ v. v.head.id ≡ old.now.head.id) }
+    ensures ok { IfOk result (λ v. finished old.now.head.id (stored_of old.now) bytes.now ≡ Ok (stored_of v)) }
+    ensures bad { (offset : ℕ) → result ≡ Err (Bad offset) → finished old.now.head.id (stored_of old.now) bytes.now ≡ Err offset }
+{
+    let mut restorer = Restorer::new(alloc);
+    restorer.feed(alloc, bytes)?;
+    restorer.finish(alloc, old)
 }

@@ -1,24 +1,19 @@
-//! A volume is restored from a whole stream.
+//! A volume is made of what a dump tells and of what another volume has.
 
-ghost use Rattle.std.specs.Prelude.{◌≡◌, ◌<◌, ◌∷◌, [], ℕ, ◌&&◌, false, length, nat_eq, not, Some, Err, Ok, IfOk, IfSome};
-ghost use Rattle.std.specs.Option.{option_map};
-ghost use Rattle.std.specs.Vec.Iter.{into_iter_items};
-ghost use Rattle.afs_dumps.specs.Restores.{finished};
+ghost use Rattle.std.specs.Prelude.{◌≡◌, ◌&&◌, nat_eq, not, Some, Err, false, IfOk, IfSome};
+ghost use Rattle.std.specs.Option.{option_copied, option_map};
+ghost use Rattle.afs_dumps.specs.Streams.{FitsDump};
 ghost use Rattle.afs_vnode.specs.Stores.{table_of};
 ghost use Rattle.afs_volume.specs.Assembling.{make_volume};
 ghost use Rattle.afs_volume.specs.Seen.{AreReadable, FitsHead};
-ghost use Rattle.afs_volume.specs.Taking.{stored_of};
 ghost use Rattle.afs_volume.specs.declared.faults.AssembleFault.TheVariants.{NotSound};
-ghost use Rattle.afs_restore.specs.Filling.{filled, given_at, image_indexed, kept, or_kept, AreGiven, AreMade, GivesOne, IsGiven, IsList};
-ghost use Rattle.afs_restore.specs.Reading.{EndsStream, ReadsField};
-ghost use Rattle.afs_restore.specs.Restoring.{MakesVolume, ReadsStream};
-ghost use Rattle.afs_restore.specs.declared.faults.DumpFault.TheVariants.{Bad};
+ghost use Rattle.afs_restore.specs.Filling.{filled, given_in, image_indexed, kept, next_given, or_kept, AreGood, AreMade, IsGiven, IsGood, IsList, IsMade};
+ghost use Rattle.afs_restore.specs.Parts.{dump_in};
+ghost use Rattle.afs_restore.specs.Restoring.{MakesVolume};
 
-use crate::faults::DumpFault;
-use crate::fields::mark;
-use crate::headers::{Told, headers, live};
-use crate::images::{image, next};
-use crate::stops::Stop;
+use crate::fields::are_bytes;
+use crate::headers::{Headers, Told};
+use crate::parts::Parts;
 use afs_num::types::Mem;
 use afs_num::vnodes::{Vnode, Vnodes};
 use afs_num::volumes::VolumeHead;
@@ -26,76 +21,28 @@ use afs_vnode::copying::copy_vnode;
 use afs_vnode::store::VnodeStore;
 use afs_volume::Volume;
 use afs_volume::faults::AssembleFault;
-use afs_xdr::reading::Reader;
 use std::alloc::Global;
-use std::vec::IntoIter;
 
-/// The word after the tag of the end, and how many bytes both take.
-const END_MAGIC: u32 = 0x3A21_4B6E;
-
-const END_LENGTH: usize = 8;
-
-/// What a whole stream tells: what it says of the volume, the list of its vnodes, and the image of each where it has one.
-#[derive(Drop)]
-pub struct Stream {
-    pub told: Told,
-    pub live: Vec<(u32, u32)>,
-    pub given: Vec<Option<Vnode>>,
-}
-
-/// The image of this vnode, where images still come and it is the next; and whether the images have ended.
-fn given_one(
-    alloc: Global,
-    r: &mut Reader,
-    pair: (u32, u32),
-    is_ended: bool,
-) -> Result<(Option<Vnode>, bool), Stop>
-    ensures value { GivesOne pair is_ended r.old r.new result }
-    ensures given { IfOk result (λ g. IsGiven pair g.0) }
+/// The image of this vnode, where it is the next one, and the images after it.
+fn next_given(images: &[Vnode], pair: (u32, u32)) -> (Option<&Vnode>, &[Vnode])
+    ensures given { option_copied result.0 ≡ (next_given pair images.now).0 }
+    ensures later { result.1.now ≡ (next_given pair images.now).1 }
 {
-    if is_ended {
-        return Ok((None, true));
-    }
-    let before = r.fork();
-    match next(r)? {
-        None => Ok((None, true)),
-        Some(number) if number == pair.0 => {
-            let x = image(alloc, r, pair)?;
-            Ok((Some(x), false))
-        }
-        Some(_) => {
-            *r = before;
-            Ok((None, false))
-        }
+    match images {
+        [x, later @ ..] if x.vnode == pair.0 => (Some(x), later),
+        _ => (None, images),
     }
 }
 
-/// Nothing follows the images but their end.
-fn images_end(r: &mut Reader) -> Result<(), Stop>
-    ensures { ReadsField (given_at []) (λ u. []) r.old r.new result }
+/// A copy of an image that the dump gives.
+fn given_copy(alloc: Global, x: &Vnode, pair: (u32, u32)) -> Mem<Vnode>
+    requires { IsGood pair x.now }
+    ensures value { IfOk result (λ y. y ≡ x.now) }
+    ensures made { IfOk result (IsMade pair) }
 {
-    match next(r)? {
-        None => Ok(()),
-        Some(_) => Err(Stop::Bad),
-    }
-}
-
-/// The image of each vnode of the list, where the stream has one, to the end of the images.
-fn given(alloc: Global, r: &mut Reader, live: &[(u32, u32)]) -> Result<Vec<Option<Vnode>>, Stop>
-    ensures value { ReadsField (given_at live.now) (λ os. os.items) r.old r.new result }
-    ensures given { IfOk result (λ os. AreGiven live.now os.items) }
-{
-    let mut given = Vec::with_capacity(alloc, live.len())?;
-    let mut is_ended = false;
-    for pair in live {
-        let (image, ends) = given_one(alloc, r, *pair, is_ended)?;
-        given.push(image)?;
-        is_ended = ends;
-    }
-    if !is_ended {
-        images_end(r)?;
-    }
-    Ok(given)
+    are_bytes(x.contents.as_slice());
+    let copy = copy_vnode(alloc, x)?;
+    Ok(copy)
 }
 
 /// A copy of the vnode of this number and unique number.
@@ -113,20 +60,23 @@ fn kept(alloc: Global, old: &VnodeStore, pair: (u32, u32)) -> Mem<Option<Vnode>>
     }
 }
 
-/// The vnode of this pair: what the stream gives, or else a copy of what the volume has.
+/// The vnode of this pair: a copy of what the dump gives, or else of what the volume has.
 fn given_or_kept(
     alloc: Global,
-    given: Option<Vnode>,
+    given: Option<&Vnode>,
     old: &VnodeStore,
     pair: (u32, u32),
 ) -> Mem<Option<Vnode>>
     requires readable { AreReadable old.now.table }
-    requires given { IsGiven pair given }
-    ensures value { IfOk result (λ o. o ≡ or_kept given (kept old.now.table pair)) }
+    requires good { IfSome given (λ x. IsGood pair x.now) }
+    ensures value { IfOk result (λ o. o ≡ or_kept (option_copied given.entry) (kept old.now.table pair)) }
     ensures given { IfOk result (λ o. IsGiven pair o) }
 {
     match given {
-        Some(x) => Ok(Some(x)),
+        Some(x) => {
+            let x = given_copy(alloc, x, pair)?;
+            Ok(Some(x))
+        }
         None => kept(alloc, old, pair),
     }
 }
@@ -142,34 +92,25 @@ fn indexed(x: Vnode, anew: bool) -> Vnode
     x
 }
 
-/// The next of what is given.
-fn next_given(given: &mut IntoIter<Option<Vnode>>) -> Option<Vnode>
-    requires { 0 < length (into_iter_items given.old) }
-    ensures { into_iter_items given.old ≡ result ∷ into_iter_items given.new }
-{
-    match given.next() {
-        Some(one) => one,
-        None => unreachable!(),
-    }
-}
-
 /// The vnodes of the list; none where one of them is given nowhere.
 fn filled(
     alloc: Global,
-    given: Vec<Option<Vnode>>,
-    old: &VnodeStore,
     live: &[(u32, u32)],
+    images: &[Vnode],
+    old: &VnodeStore,
     anew: bool,
 ) -> Mem<Option<Vnodes>>
     requires readable { AreReadable old.now.table }
-    requires given { AreGiven live.now given.items }
-    ensures value { IfOk result (λ o. o ≡ filled anew old.now.table live.now given.items) }
+    requires good { AreGood live.now (given_in live.now images.now) }
+    ensures value { IfOk result (λ o. o ≡ filled anew old.now.table live.now (given_in live.now images.now)) }
     ensures made { IfOk result (λ o. IfSome o (AreMade live.now)) }
 {
     let mut vnodes = Vec::with_capacity(alloc, live.len())?;
-    let mut rest = given.into_iter();
+    let mut rest = images;
     for pair in live {
-        match given_or_kept(alloc, next_given(&mut rest), old, *pair)? {
+        let (given, later) = next_given(rest, *pair);
+        rest = later;
+        match given_or_kept(alloc, given, old, *pair)? {
             Some(x) => vnodes.push(indexed(x, anew))?,
             None => return Ok(None),
         }
@@ -177,21 +118,11 @@ fn filled(
     Ok(Some(Vnodes::from_vec(vnodes)))
 }
 
-/// The end of a stream, after the tag of the end.
-fn stream_end(r: &mut Reader) -> Result<(), Stop>
-    ensures { EndsStream r.old r.new result }
-{
-    mark(r, END_MAGIC)?;
-    match r.end() {
-        Ok(()) => Ok(()),
-        Err(_) => Err(Stop::Bad),
-    }
-}
-
 /// The head of the restored volume: number, family, name, kind and flags stay, all else is the dump's.
-fn restored_head(alloc: Global, old: &VolumeHead, told: Told) -> Mem<VolumeHead>
-    ensures { IfOk result (λ h. h ≡ record old.now { quota = told.quota; unique = told.unique; counter = told.counter; release = told.release }) }
+fn restored_head(alloc: Global, old: &VolumeHead, headers: &Headers) -> Mem<VolumeHead>
+    ensures { IfOk result (λ h. h ≡ record old.now { quota = headers.now.told.quota; unique = headers.now.told.unique; counter = headers.now.told.counter; release = headers.now.told.release }) }
 {
+    let told = headers.told;
     Ok(VolumeHead {
         id: old.id,
         family: old.family,
@@ -231,51 +162,16 @@ fn assembled(
     Volume::assemble(alloc, head, VnodeStore::of(vnodes))
 }
 
-/// What a whole stream tells. Where it is cut or no good, the reader is left to that field.
-fn read_stream(alloc: Global, r: &mut Reader) -> Result<Stream, Stop>
-    ensures { ReadsStream r.old r.new result }
-{
-    let told = headers(r)?;
-    let live = live(alloc, r)?;
-    let given = given(alloc, r, live.as_slice())?;
-    stream_end(r)?;
-    Ok(Stream { told, live, given })
-}
-
-/// The volume that a stream makes of another one. `NotSound` where a listed vnode is given nowhere, or the vnodes make no sound
-/// volume.
-fn made(alloc: Global, stream: Stream, old: &Volume) -> Result<Volume, AssembleFault>
-    requires listed { IsList stream.live.items }
-    requires given { AreGiven stream.live.items stream.given.items }
-    ensures value { MakesVolume stream old.now result }
+/// The volume that a dump makes of another one, under its number. `NotSound` where a listed vnode is given nowhere, or the vnodes
+/// make no sound volume.
+pub fn made(alloc: Global, parts: &Parts, old: &Volume) -> Result<Volume, AssembleFault>
+    requires { FitsDump (dump_in parts.now) }
+    ensures value { MakesVolume (dump_in parts.now) old.now result }
     ensures id { IfOk result (λ v. v.head.id ≡ old.now.head.id) }
 {
-    let Stream { told, live, given } = stream;
-    let anew = is_other_family(old.head(), told);
-    let head = restored_head(alloc, old.head(), told)?;
-    let vnodes = filled(alloc, given, old.vnodes(), live.as_slice(), anew)?;
-    assembled(alloc, head, vnodes, live.as_slice())
-}
-
-/// What a whole stream makes of a volume, under its number. `Bad` has the offset of the first field that is no good or cut, or
-/// that of the end's tag where the dump makes no sound volume.
-#[tactic(auto, unfolding(afs_dumps::specs::Restores::finished))]
-pub fn restore(alloc: Global, bytes: &[u8], old: &Volume) -> Result<Volume, DumpFault>
-    ensures id { IfOk result (λ v. v.head.id ≡ old.now.head.id) }
-    ensures ok { IfOk result (λ v. finished old.now.head.id (stored_of old.now) bytes.now ≡ Ok (stored_of v)) }
-    ensures bad { (offset : ℕ) → result ≡ Err (Bad offset) → finished old.now.head.id (stored_of old.now) bytes.now ≡ Err offset }
-{
-    let mut r = Reader::new(bytes);
-    let stream = match read_stream(alloc, &mut r) {
-        Ok(stream) => stream,
-        Err(Stop::OutOfMemory) => return Err(DumpFault::OutOfMemory),
-        Err(_) => return Err(DumpFault::Bad(bytes.len().saturating_sub(r.left_len()) as u64)),
-    };
-    match made(alloc, stream, old) {
-        Ok(volume) => Ok(volume),
-        Err(AssembleFault::NotSound) => Err(DumpFault::Bad(
-            bytes.len().saturating_sub(END_LENGTH) as u64,
-        )),
-        Err(AssembleFault::OutOfMemory) => Err(DumpFault::OutOfMemory),
-    }
+    let anew = is_other_family(old.head(), parts.headers.told);
+    let head = restored_head(alloc, old.head(), &parts.headers)?;
+    let live = parts.live.as_slice();
+    let vnodes = filled(alloc, live, parts.images.as_slice(), old.vnodes(), anew)?;
+    assembled(alloc, head, vnodes, live)
 }

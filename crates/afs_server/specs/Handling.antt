@@ -1,5 +1,5 @@
 -- What a call of a server's node gives.
-use Rattle.std.specs.Prelude.{◌≡◌, ◌≤◌, ◌+◌, ◌⊎◌, ℕ, List, [], ◌∷◌, ◌++◌, true, Option, Some, None, Result, Ok, Err, IsErrOf, OnOk}
+use Rattle.std.specs.Prelude.{ℤ, false, ◌≡◌, ◌≤◌, ◌+◌, ◌⊎◌, ℕ, List, [], ◌∷◌, ◌++◌, true, Option, Some, None, Result, Ok, Err, IsErrOf, OnOk}
 use Rattle.afs_history.specs.declared.lines.Line.{Line}
 use Rattle.afs_history.specs.declared.lines.Outs.{Outs}
 use Rattle.afs_server.specs.declared.faults.NodeFault.{NodeFault}
@@ -14,7 +14,9 @@ use Rattle.afs_rows.specs.Callbacks.{turn_for, turned_in}
 use Rattle.afs_num.specs.declared.types.Head.{Head}
 use Rattle.afs_num.specs.declared.messages.Message.{Message}
 use Rattle.afs_num.specs.declared.messages.Received.{Received}
-use Rattle.afs_rows.specs.ServerRow.{decides, does, keeps, saves, record_of, Decision}
+use Rattle.afs_breaks.specs.Promises.{expired, Lists}
+use Rattle.afs_callbacks.specs.Answering.{answer_turn, with_lists}
+use Rattle.afs_rows.specs.ServerRow.{refusal, decides, does, keeps, saves, record_of, Decision}
 use Rattle.afs_rows.specs.ServerSteps.{stepped}
 use Rattle.afs_rows.specs.States.{Backs, ServerState}
 use Rattle.afs_rows.specs.Steps.{Step}
@@ -78,6 +80,14 @@ Turns {D} {E} turn old new s t result = Steps (server_seen old s) turn.lines tur
 -- a call runs in it, and this is its reply
 abbrev pub Answers : {D E : Type 0} → Head → Message → List Line → row.Turn → Memory → Memory → Store D → Store D → Result Outs E → Type 0
 Answers {D} {E} head reply ls turn old new s t result = Steps (keeps head reply (server_seen old s)) ls turn old new s t result
+
+-- the reply goes out at once, and these promises are left
+abbrev pub AnswersNow : {D E : Type 0} → Head → Message → List Line → Lists → Memory → Memory → Store D → Store D → Result Outs E → Type 0
+AnswersNow {D} {E} head reply ls l old new s t result = Answers head reply ls (answer_turn reply [] false (with_lists l (backs_seen old s.drawn))) old new s t result
+
+-- at this time it is a refusal with this code
+abbrev pub RefusesNow : {D E : Type 0} → Head → ℤ → ℕ → Memory → Memory → Store D → Store D → Result Outs E → Type 0
+RefusesNow {D} {E} head code clock old new s t result = AnswersNow head (refusal s.durable.boot head code) [] (expired clock old.lists) old new s t result
 
 -- A step's lines behind that of its place.
 abbrev pub lines_behind : List Line → List Line

@@ -6,12 +6,12 @@ ghost use Rattle.afs_model.specs.Calls.{call_seat, paired, runs};
 ghost use Rattle.afs_model.specs.Heads.{is_zero, IsSoundHead};
 ghost use Rattle.afs_breaks.specs.Promises.{expired};
 ghost use Rattle.afs_rows.specs.Callbacks.{gives_up_all, is_seat_of};
-ghost use Rattle.afs_rows.specs.ServerRow.{boot_told, given_up_read, read_reply_to, refusal, replied};
+ghost use Rattle.afs_rows.specs.ServerRow.{boot_told, given_up_read, read_reply_to, replied};
 ghost use Rattle.afs_message.specs.Spelled.{IsSpelling};
-ghost use Rattle.afs_callbacks.specs.Answering.{answer_turn, sent_turn, with_lists};
+ghost use Rattle.afs_callbacks.specs.Answering.{sent_turn};
 ghost use Rattle.afs_server.specs.Answering.{is_answer_to, repeated_turn, KeepsReply};
-ghost use Rattle.afs_server.specs.Handling.{backs_then, Answers, Turns};
-ghost use Rattle.afs_server.specs.Seen.{backs_seen, lasting_of, KeepsForNodes, Serves};
+ghost use Rattle.afs_server.specs.Handling.{backs_then, Turns, AnswersNow, RefusesNow};
+ghost use Rattle.afs_server.specs.Seen.{lasting_of, KeepsForNodes, Serves};
 
 use crate::ending::stand;
 use crate::server::FileServer;
@@ -22,7 +22,7 @@ use afs_message::spelled::SpelledMessage;
 use afs_num::sequences::Octets;
 use afs_num::types::{Fid, Head, Key, Mem};
 use afs_server_parts::callers::Callers;
-use afs_server_parts::replies::{key, refusal, reply};
+use afs_server_parts::replies::{key, reply};
 use afs_volstore::VolStore;
 
 /// Whether this reply, which a store keeps, is to the same call as a reply of this header.
@@ -118,7 +118,7 @@ impl FileServer {
         requires head { IsSoundHead head.now }
         requires runs { paired head.now.epoch head.now.number (call_seat head.now.from self.old.seats) ≡ runs }
         requires code { is_zero code ≡ false }
-        ensures { Answers head.now (refusal store.old.durable.boot head.now code) [] (answer_turn (refusal store.old.durable.boot head.now code) [] false (backs_then self.old store.old now)) self.old self.new store.old store.new result }
+        ensures { RefusesNow head.now code now self.old self.new store.old store.new result }
     {
         let replied = self
             .callbacks()
@@ -141,7 +141,7 @@ impl FileServer {
         requires head { IsSoundHead head.now }
         requires opcode { head.now.opcode ≡ 147 }
         requires runs { paired head.now.epoch head.now.number (call_seat head.now.from self.old.seats) ≡ runs }
-        ensures { Answers head.now (read_reply_to store.old.durable.boot head.now 0 (given_up_read fids.now)) [] (answer_turn (read_reply_to store.old.durable.boot head.now 0 (given_up_read fids.now)) [] false (with_lists (gives_up_all head.now.from fids.now (expired now self.old.lists)) (backs_seen self.old store.old.drawn))) self.old self.new store.old store.new result }
+        ensures { AnswersNow head.now (read_reply_to store.old.durable.boot head.now 0 (given_up_read fids.now)) [] (gives_up_all head.now.from fids.now (expired now self.old.lists)) self.old self.new store.old store.new result }
     {
         let replied = self.callbacks().plan_given_up(stand(store), head, now)?;
         let Replied { ended, kept } = replied;

@@ -1,6 +1,6 @@
 //! The record of a change is put on the disk, and then the change is done.
 
-ghost use Rattle.std.specs.Prelude.{◌≡◌, ◌≤◌, ◌<◌, ◌+◌, [], Some, false, true, length, pos, IfOk, IsErrOf, IsSome};
+ghost use Rattle.std.specs.Prelude.{◌≡◌, ◌≤◌, ◌<◌, ◌+◌, Some, false, true, length, pos, IfOk, IsErrOf, IsSome};
 ghost use Rattle.afs_num.specs.declared.records.StoreRecord as records;
 ghost use Rattle.afs_disk.specs.Disk.{SameDisk};
 ghost use Rattle.afs_journal.specs.Log.{SameCounts};
@@ -11,13 +11,12 @@ ghost use Rattle.afs_model.specs.Heads.{IsSoundHead};
 ghost use Rattle.afs_records.specs.Durable.{folded, has_room};
 ghost use Rattle.afs_records.specs.Records.{FitsRecord};
 ghost use Rattle.afs_rows.specs.ServerRow as rows;
-ghost use Rattle.afs_rows.specs.ServerRow.{is_client, refusal, roomed};
+ghost use Rattle.afs_rows.specs.ServerRow.{is_client, roomed};
 ghost use Rattle.afs_message.specs.Spelled.{IsSpelling};
 ghost use Rattle.afs_memory.specs.Named.{IsNamed};
-ghost use Rattle.afs_callbacks.specs.Answering.{answer_turn};
 ghost use Rattle.afs_decisions.specs.Deciding.{CanBeTold, IsMade};
 ghost use Rattle.afs_callbacks.specs.Saving.{CanBeWritten, hits_each};
-ghost use Rattle.afs_server.specs.Handling.{backs_then, turn_then, record_decided, server_seen, Answers};
+ghost use Rattle.afs_server.specs.Handling.{turn_then, record_decided, server_seen, RefusesNow};
 ghost use Rattle.afs_server.specs.Putting.{Commits, DoesAll, OnDisk, Prepares};
 ghost use Rattle.afs_server.specs.Saving.{Puts};
 ghost use Rattle.afs_server.specs.Seen.{CanDraw, Serves};
@@ -119,7 +118,7 @@ impl FileServer {
         requires serves { Serves store.old.node self.old store.old.durable }
         requires head { IsSoundHead head.now }
         requires runs { paired head.now.epoch head.now.number (call_seat head.now.from self.old.seats) ≡ runs }
-        ensures answers { Answers head.now (refusal store.old.durable.boot head.now (pos 108)) [] (answer_turn (refusal store.old.durable.boot head.now (pos 108)) [] false (backs_then self.old store.old now)) self.old self.new store.old store.new result }
+        ensures answers { RefusesNow head.now (pos 108) now self.old self.new store.old store.new result }
         ensures up { IsErrOf result faults.Down → ⊥ }
     {
         let outs = self.refuse(store, head, NO_ROOM, now)?;
@@ -148,7 +147,7 @@ impl FileServer {
         requires now { now ≤ 1000000000 }
         ensures puts { room ≡ true → Puts head.now now planned self.old self.new store.old store.new result }
         ensures disk { room ≡ true → OnDisk D.seen D.left_by D.size D.may_leave D.moment D.left_since D.faults D.own_faults D.calls D.setting D.limit (Some planned.rec) store.old.durable store.old.disk store.new.disk result }
-        ensures answers { room ≡ false → Answers head.now (refusal store.old.durable.boot head.now (pos 108)) [] (answer_turn (refusal store.old.durable.boot head.now (pos 108)) [] false (backs_then self.old store.old now)) self.old self.new store.old store.new result }
+        ensures answers { room ≡ false → RefusesNow head.now (pos 108) now self.old self.new store.old store.new result }
         ensures up { room ≡ false → IsErrOf result faults.Down → ⊥ }
     {
         if room {

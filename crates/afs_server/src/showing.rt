@@ -1,6 +1,6 @@
 //! What a server tells of its volumes, and what it promises with that.
 
-ghost use Rattle.std.specs.Prelude.{◌≡◌, ◌≤◌, ◌+◌, [], false, map, OnErr, OnOk};
+ghost use Rattle.std.specs.Prelude.{◌≡◌, ◌≤◌, ◌+◌, [], map, OnErr, OnOk};
 ghost use Rattle.afs_num.specs.declared.messages.Reply.TheVariants as tell;
 ghost use Rattle.afs_shape.specs.Rows.{IsWithin};
 ghost use Rattle.afs_model.specs.Calls.{call_seat, paired, runs};
@@ -12,11 +12,10 @@ ghost use Rattle.afs_rows.specs.ServerRow as row;
 ghost use Rattle.afs_rows.specs.ServerRow.{granted, read_reply_to, replied};
 ghost use Rattle.afs_message.specs.Spelled.{IsSpelling};
 ghost use Rattle.afs_server_parts.specs.declared.telling.Grant as told;
-ghost use Rattle.afs_callbacks.specs.Answering.{answer_turn, with_lists};
 ghost use Rattle.afs_server.specs.Answering.{KeepsReply};
 ghost use Rattle.afs_decisions.specs.Deciding.{IsReading};
-ghost use Rattle.afs_server.specs.Handling.{Answers};
-ghost use Rattle.afs_server.specs.Seen.{backs_seen, Serves};
+ghost use Rattle.afs_server.specs.Handling.{AnswersNow};
+ghost use Rattle.afs_server.specs.Seen.{Serves};
 
 use crate::answering::keep_reply;
 use crate::ending::stand;
@@ -75,7 +74,7 @@ impl FileServer {
         requires runs { paired head.now.epoch head.now.number (call_seat head.now.from self.old.seats) ≡ runs }
         requires now { now ≤ 1000000000 }
         ensures { (r : row.Reading) → IsReading told grants.now r →
-            Answers head.now (read_reply_to store.old.durable.boot head.now (now + 7200) r) (granted store.old.node head.now.from (now + 7200) r.granted []) (answer_turn (read_reply_to store.old.durable.boot head.now (now + 7200) r) [] false (with_lists (grants_found head.now.from (now + 7200) r.granted (gives_up_all head.now.from r.given_up (expired now self.old.lists))) (backs_seen self.old store.old.drawn))) self.old self.new store.old store.new result }
+            AnswersNow head.now (read_reply_to store.old.durable.boot head.now (now + 7200) r) (granted store.old.node head.now.from (now + 7200) r.granted []) (grants_found head.now.from (now + 7200) r.granted (gives_up_all head.now.from r.given_up (expired now self.old.lists))) self.old self.new store.old store.new result }
     {
         let expiry = now + PROMISE_TICKS;
         let replied = self

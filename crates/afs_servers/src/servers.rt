@@ -59,7 +59,11 @@ pub fn fall<D: Disk>(alloc: Global, seat: ServerSeat<D>) -> (ServerSeat<D>, Happ
 }
 
 /// The server's unanswered call to this node times out.
-fn time_out<D: Disk>(mut running: ServerRunning<D>, callee: Node, now: u32) -> (ServerSeat<D>, Happened)
+fn time_out<D: Disk>(
+    mut running: ServerRunning<D>,
+    callee: Node,
+    now: u32,
+) -> (ServerSeat<D>, Happened)
     requires can { CanStep (seat.Up running) }
     requires now { now ≤ 1000000000 }
     ensures happens { (me : N) (count : ℕ) → IsSeatOf me (seat.Up running) → SeatHappens D.seen D.may_leave D.faults D.limit me [] (IsVoidServer (input.TimeOut callee)) (HasStep me now count (input.TimeOut callee)) (seat.Up running) result.0 result.1 }

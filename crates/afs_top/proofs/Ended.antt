@@ -21,7 +21,7 @@ use Rattle.afs_text.specs.KeptText.{kept_history_text}
 use Rattle.afs_text.specs.Telling.{told, AreRead}
 use Rattle.afs_text.proofs.Kept.{history_told}
 use Rattle.afs_volstore.specs.Stores.{Store}
-use Rattle.afs_cell.specs.Steps as cells
+use Rattle.afs_ends.specs.Lends as ends
 use Rattle.afs_ends.specs.Ends.{AreLeft, IsRefused}
 use Rattle.afs_cell.specs.Steps.{AreStanding, HasPlayedAll, HasPlayedFirst, HasPlayedSome}
 use Rattle.afs_ends.specs.Lends.{lent_from}
@@ -269,7 +269,7 @@ was_cut {D} seen may_leave faults limit s w wire o is full written back = record
 -- ---- disks that come back unplayed
 
 -- disks that were lent in order of number are those of the servers
-pub of_servers : {D : Type 0} (limit : D → ℕ) (capacity i : ℕ) (ls : List (Lent D)) → cells.AreLent limit capacity i ls → AreOfServers i ls
+pub of_servers : {D : Type 0} (limit : D → ℕ) (capacity i : ℕ) (ls : List (Lent D)) → ends.AreLent limit capacity i ls → AreOfServers i ls
 of_servers {D} limit capacity i [] are = tt
 of_servers {D} limit capacity i (l ∷ ls) are = (are.0, of_servers limit capacity (i + 1) ls are.1.1)
 

@@ -1,7 +1,1 @@
-mod Attached
 pub mod Created
-mod Folding
-mod FoldsOn
-mod Kept
-mod Reread
-mod Waiting

@@ -1,7 +1,7 @@
-pub mod Folds
 pub mod Laying
 pub mod Opening
 pub mod Rereading
 pub mod Stands
 pub mod Stores
-pub mod Waiting
+pub mod VolumeFold
+pub mod VolumeLaws

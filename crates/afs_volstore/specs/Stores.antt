@@ -1,33 +1,22 @@
 -- A server's store, as its callers see it.
-use Rattle.std.specs.Prelude.{◌≡◌, ◌≤◌, ◌⊎◌, ℕ, List, Bool, false, Option, Some, Result, Ok, Err, IsErrOf, OnOk, length}
-use Rattle.afs_num.specs.declared.types.Node.{Node}
-use Rattle.afs_num.specs.declared.faults.StoreFault.{StoreFault}
-use Rattle.afs_num.specs.declared.faults.StoreFault.TheVariants as faults
+use Rattle.std.specs.Prelude.{◌≡◌, ◌⊎◌, ℕ, List, false, Option, Some}
 use Rattle.afs_num.specs.declared.records.StoreRecord.{StoreRecord}
-use Rattle.afs_disk.specs.Disk.{LeavesJust, Rose, Setting, Trips, PassesAll}
-use Rattle.afs_journal.specs.Records.{whole_records, IsBeforeOrAfter}
+use Rattle.afs_journal.specs.Records.{IsBeforeOrAfter}
 use Rattle.afs_records.specs.Durable.{Durable, folded, has_room}
 use Rattle.afs_records.specs.Records.{record_bytes}
+use Rattle.afs_store.specs.Stores.{Keeps, StoreOf}
 use Rattle.afs_volstore.specs.Stands.{Stands}
+pub use Rattle.afs_store.specs.Stores.{IsCaused, IsCounted, IsEarly, SameBut, Served}
 
--- A server's store: what it keeps on its disk, the disk, the server, the record that the next commit puts there, whether a
--- device call failed since the disk was attached, how many records stand on the disk, and the last number of the server's own
--- calls since then.
-pub record Store (D : Type 0) : Type 0 where
-  pub durable : Durable
-  pub disk : D
-  pub node : Node
-  pub prepared : Option StoreRecord
-  pub closed : Bool
-  pub count : ℕ
-  pub drawn : ℕ
+-- A store of a server's records: what it keeps is the durable part of the server.
+abbrev pub Store : Type 0 → Type 0
+Store D = StoreOf D StoreRecord Durable
 
 -- ---- what a crash leaves
 
 -- the disk stands for what the store keeps, and no crash leaves another
-pub record IsKept (d : Durable) (seen : Option (List ℕ)) (may_leave : List ℕ → Type 0) : Type 0 where
-  pub stands : (bytes : List ℕ) → seen ≡ Some bytes → Stands bytes d
-  pub durable : (bytes : List ℕ) → seen ≡ Some bytes → LeavesJust bytes may_leave
+abbrev pub IsKept : Durable → Option (List ℕ) → (List ℕ → Type 0) → Type 0
+IsKept d seen may_leave = Keeps (λ bytes. Stands bytes d) seen may_leave
 
 -- the bytes stand for what was kept before this record, or for what is kept with it
 abbrev pub StandsAround : StoreRecord → Durable → List ℕ → Type 0
@@ -37,39 +26,10 @@ StandsAround r d bytes = Stands bytes d ⊎ ((e : Durable) × ((folded r d ≡ S
 abbrev pub LeftAround : List (List ℕ) → StoreRecord → Durable → List ℕ → Type 0
 LeftAround records r d bytes = IsBeforeOrAfter records (record_bytes r) bytes × StandsAround r d bytes
 
--- so many whole records stand on the disk
-abbrev pub IsCounted : ℕ → Option (List ℕ) → Type 0
-IsCounted count seen = (bytes : List ℕ) → seen ≡ Some bytes → length (whole_records bytes) ≡ count
-
 -- ---- refusals
-
--- what a call's refusal comes from, after device calls up to this number: a disk that failed; at any other refusal no count of
--- faults rose
-abbrev pub IsCaused : Setting → ℕ → ℕ → ℕ → ℕ → ℕ → StoreFault → Type 0
-IsCaused setting last before now own_before own_now faults.Failed = Rose before now × (Trips setting last ⊎ Rose own_before own_now)
-IsCaused setting last before now own_before own_now refusal = (now ≡ before) × (own_now ≡ own_before)
-
--- A call's device calls, the first behind this number and the last of that one: no count of faults falls, a failure has its
--- cause, at any other answer no count rose, and at Ok none was set to trip.
-pub record Served {T : Type 0} (setting : Setting) (first last before now own_before own_now : ℕ) (result : Result T StoreFault) : Type 0 where
-  pub never_falls : before ≤ now
-  pub own_never_falls : own_before ≤ own_now
-  pub failed : IsErrOf result faults.Failed → Rose before now × (Trips setting last ⊎ Rose own_before own_now)
-  pub quiet : (IsErrOf result faults.Failed → ⊥) → (now ≡ before) × (own_now ≡ own_before)
-  pub passed : OnOk result (PassesAll setting first last)
 
 -- the record doesn't fit behind a journal of this length, on a disk of this capacity
 pub record IsFull (d : Durable) (r : StoreRecord) (used capacity : ℕ) : Type 0 where
   pub used_up : used ≡ d.journal
   pub limit : capacity ≡ d.capacity
   pub none : has_room d r ≡ false
-
--- the refusals that come before any device call
-abbrev pub IsEarly : {T : Type 0} → Result T StoreFault → Type 0 → Type 0
-IsEarly {T} (Ok x) same = Unit {0}
-IsEarly {T} (Err faults.Failed) same = Unit {0}
-IsEarly {T} (Err refusal) same = same
-
--- nothing but the room of the disk is another
-abbrev pub SameBut : {D : Type 0} → Store D → Store D → Type 0
-SameBut {D} old new = new ≡ record old { disk = new.disk }

@@ -1,15 +1,16 @@
 //! The records of a disk, taken one after the other.
 
-ghost use Rattle.std.specs.Prelude.{◌≡◌, ◌+◌, ◌++◌, ◌<◌, ◌^◌, ℕ, List, Err, None, Some, true, length, IfErr, IfOk, OnOk};
+ghost use Rattle.std.specs.Prelude.{◌≡◌, ◌<◌, Err, None, Some, true, IfOk, OnOk};
 ghost use Rattle.std.specs.Option.{option_map};
 ghost use Rattle.afs_num.specs.declared.faults.StoreFault.TheVariants as faults;
-ghost use Rattle.afs_records.specs.Durable.{body_taken, first_bad, fold_all, is_first, noted};
+ghost use Rattle.afs_records.specs.Durable.{body_taken, is_first, noted};
 ghost use Rattle.afs_records.specs.Records.{record_at, record_bytes, FitsRecord};
 ghost use Rattle.afs_memory.specs.Called.{IsCaller};
-ghost use Rattle.afs_volstore.specs.Folds.{fold_front, is_none_yet, places_length, read_taken, IsBadAt, TakesNone, TakesOne, TellsLast, TellsOne};
+ghost use Rattle.afs_store.specs.Folds.{IsBadAt, TakesNone, TakesOne, TellsOne};
+ghost use Rattle.afs_volstore.specs.VolumeFold.{volume_fold};
 ghost use Rattle.afs_memory.specs.Redoing.{FitsRedo};
-ghost use Rattle.afs_memory.specs.Redos.{body_of, record_of, IsReady};
-ghost use Rattle.afs_memory.specs.States.{parts_of, placed};
+ghost use Rattle.afs_memory.specs.Redos.{body_of, IsReady};
+ghost use Rattle.afs_memory.specs.States.{parts_of};
 ghost use Rattle.afs_record.specs.declared.faults.Unfit.TheVariants.{Bad};
 
 use crate::altering::change_in;
@@ -79,7 +80,7 @@ fn read(alloc: Global, first: bool, bytes: &[u8]) -> Result<StoreRecord, Unfit>
     ensures read { IfOk result (λ r. record_at bytes.now ≡ Some r) }
     ensures fits { IfOk result (λ r. FitsRecord r × (record_bytes r ≡ bytes.now)) }
     ensures first { IfOk result (λ r. first ≡ true → is_first r.body ≡ true) }
-    ensures bad { result ≡ Err Bad → TakesNone first bytes.now }
+    ensures bad { result ≡ Err Bad → TakesNone volume_fold first bytes.now }
 {
     let rec = match decode_record(alloc, bytes) {
         Ok(rec) => rec,
@@ -102,9 +103,9 @@ pub(crate) fn take_one(
     wanted: bool,
     bytes: &[u8],
 ) -> Result<Lines, Unfit>
-    ensures taken { OnOk result (TakesOne first bytes.now (parts_of state.old) (parts_of state.new)) }
-    ensures lines { IfOk result (λ ls. TellsOne server wanted bytes.now (parts_of state.old) ls) }
-    ensures bad { result ≡ Err Bad → IsBadAt first bytes.now (parts_of state.old) }
+    ensures taken { OnOk result (TakesOne volume_fold first bytes.now (parts_of state.old) (parts_of state.new)) }
+    ensures lines { IfOk result (λ ls. TellsOne volume_fold server wanted bytes.now (parts_of state.old) ls) }
+    ensures bad { result ≡ Err Bad → IsBadAt volume_fold first bytes.now (parts_of state.old) }
 {
     let rec = read(alloc, first, bytes)?;
     let StoreRecord { head, body } = rec;

@@ -11,20 +11,20 @@ impl<D: Disk> VolStore<Fuse<D>> {
     pub fn arm(&mut self, passes: u64)
         ensures { self.new ≡ record self.old { disk = armed passes self.old.disk } }
     {
-        self.journal.arm(passes);
+        self.store.arm(passes);
     }
 
     /// Sets the fuse to fail at the device call of this number from now on: 1 is the next.
     pub fn fail_at(&mut self, call: u64)
         ensures { self.new ≡ record self.old { disk = failing call self.old.disk } }
     {
-        self.journal.fail_at(call);
+        self.store.fail_at(call);
     }
 
     /// Whether a device call came after the passes were spent.
     pub fn stopped(&self) -> bool
         ensures { IsTrue result ↔ IsBeyond self.now.disk.stop self.now.disk.calls }
     {
-        self.journal.stopped()
+        self.store.stopped()
     }
 }

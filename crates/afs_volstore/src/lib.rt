@@ -6,10 +6,9 @@ mod attaching;
 mod committing;
 pub mod creating;
 mod fused;
+pub mod held;
 mod opening;
-mod replaying;
 mod rereading;
 mod store;
-mod taking_up;
 
 pub use store::VolStore;

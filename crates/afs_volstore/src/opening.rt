@@ -7,26 +7,18 @@ ghost use Rattle.afs_journal.specs.Log.{IsJournal, Rests, StandsAsBefore, Taken}
 ghost use Rattle.afs_journal.specs.Records.{whole_records};
 ghost use Rattle.afs_records.specs.Durable.{first_bad};
 ghost use Rattle.afs_volstore.specs.Stands.{Stands};
-ghost use Rattle.afs_volstore.specs.Opening.{lines_begun, same_mark, IsAttachFault};
+ghost use Rattle.afs_volstore.specs.Opening.{lines_begun, IsAttachFault};
 ghost use Rattle.afs_volstore.specs.Stores.{IsCaused, IsKept};
 
-use crate::replaying::fold;
+use crate::held::{Held, Part};
 use crate::store::VolStore;
-use crate::taking_up::take_up;
 use afs_disk::Disk;
 use afs_history::lines::Lines;
-use afs_journal::Journal;
 use afs_num::faults::StoreFault;
-use afs_num::records::Mark;
+use afs_num::records::{Mark, StoreRecord};
 use afs_num::types::Node;
+use afs_store::Store;
 use std::alloc::Global;
-
-/// Whether the mark that was told is that of the disk.
-fn is_told<D: Disk>(journal: &Journal<D>, told: Mark) -> bool
-    ensures { result ≡ same_mark (record { generation = 0; records = journal.now.count }) told }
-{
-    told.generation == 0 && told.records as u64 == journal.count()
-}
 
 impl<D: Disk> VolStore<D> {
     /// The first half of a restart: takes the records of a disk one after the other. The lines are the effect lines of the
@@ -60,11 +52,9 @@ impl<D: Disk> VolStore<D> {
         ensures rests { IfOk result (λ r. (bytes : List ℕ) → D.seen disk ≡ Some bytes → Rests bytes → D.calls r.0.disk ≡ D.calls disk + 2) }
         ensures limit { MatchResult result (λ r. D.limit r.0.disk ≡ D.limit disk) (λ e. D.limit e.1 ≡ D.limit disk) }
     {
-        let journal = take_up(alloc, disk)?;
-        let wanted = !is_told(&journal, told);
-        match fold(alloc, node, journal.records(), wanted) {
-            Ok((state, lines)) => Ok((VolStore::of(alloc, journal, node, state), lines)),
-            Err(fault) => Err((fault, journal.into_disk())),
+        match Store::<D, StoreRecord, Part, Held>::attach(alloc, disk, node, told) {
+            Ok((store, lines)) => Ok((VolStore { alloc, store }, lines)),
+            Err(refused) => Err(refused),
         }
     }
 }

@@ -9,7 +9,9 @@ use Rattle.afs_lending.proofs.lending.give_back.Goals as goal
 
 pub loop-found-init : goal.loop-found-init
 loop-found-init g c =
-    let all : kept_disks c.args.first (into_iter_items c.into_iter-found-iterator.result) ≡ kept_disks c.args.first c.args.left.items = ap (kept_disks c.args.first) c.into_iter-found-iterator.ensures.into_iter_gives.0 in
+    let start : c.args.first + 0 ≡ c.args.first = omega (arith) in
+    let all : kept_disks (c.args.first + 0) (into_iter_items c.into_iter-found-iterator.result) ≡ kept_disks c.args.first c.args.left.items =
+    ap (λ (k : ℕ). kept_disks k (into_iter_items c.into_iter-found-iterator.result)) start ∙ ap (kept_disks c.args.first) c.into_iter-found-iterator.ensures.into_iter_gives.0 in
     record {
       place = omega (arith, ap length c.into_iter-found-iterator.ensures.into_iter_gives.0);
       back = none_yet g.B.D.Disk.seen _ _ _ _ _ all;
@@ -23,12 +25,14 @@ pub loop-found-preserved : goal.loop-found-preserved
 loop-found-preserved g c =
     let i = c.loop-found.invariant in
     let e = c.give_one-all.ensures in
-    let n = c.loop-found.node in
+    let n = c.args.first + c.loop-found.before in
+    let step : n + 1 ≡ c.args.first + (c.loop-found.before + 1) = omega (arith) in
     let steps : into_iter_items c.loop-found.found-iterator ≡ c.in-Some.found ∷ into_iter_items c.next.new.self = search rules in
     let lent : Lent g.row.B-D.Denot = record { node = n; disk = c.disk_in.result } in
-    let rest : List (Lent g.row.B-D.Denot) = kept_disks (n + 1) (into_iter_items c.next.new.self) in
+    let rest : List (Lent g.row.B-D.Denot) = kept_disks (c.args.first + (c.loop-found.before + 1)) (into_iter_items c.next.new.self) in
     let next : kept_disks n (into_iter_items c.loop-found.found-iterator) ≡ lent ∷ rest =
-    ap (kept_disks n) steps ∙ ap (λ (d : g.row.B-D.Denot). record { node = n; disk = d } ∷ rest) (sym c.disk_in.ensures) in
+    ap (kept_disks n) steps ∙ (ap (λ (d : g.row.B-D.Denot). record { node = n; disk = d } ∷ kept_disks (n + 1) (into_iter_items c.next.new.self)) (sym c.disk_in.ensures)
+    ∙ ap (λ (k : ℕ). lent ∷ kept_disks k (into_iter_items c.next.new.self)) step) in
     record {
       place = omega (arith, i.place, ap length steps);
       back = goes_on g.B.D.Disk.seen (kept_disks n (into_iter_items c.loop-found.found-iterator)) rest (kept_disks c.args.first c.args.left.items) lent (g.B.Bank.given c.loop-found.bank) (g.B.Bank.given c.give_one-all.new.bank) (g.B.Bank.given c.args.bank.now) (g.B.Bank.faults c.args.bank.now) (g.B.Bank.faults c.loop-found.bank) (g.B.Bank.faults c.give_one-all.new.bank) c.loop-found.all c.give_one-all.result next e.never_falls i.back e.goes;
@@ -41,21 +45,21 @@ loop-found-preserved g c =
 pub returns-clause-all : goal.returns-clause-all
 returns-clause-all g c =
     let none : into_iter_items c.loop-found.found-iterator ≡ [] = nil_from_length (into_iter_items c.loop-found.found-iterator) (sym c.loop-found.found-iterator.rest.ok.0 ∙ c.in-None.ensures.steps.0) in
-    all_back g.B.D.Disk.seen (kept_disks c.loop-found.node (into_iter_items c.loop-found.found-iterator)) (kept_disks c.args.first c.args.left.items) (g.B.Bank.given c.loop-found.bank) (g.B.Bank.given c.args.bank.now) _ _ c.loop-found.all
-    (ap (kept_disks c.loop-found.node) none) c.loop-found.invariant.back
+    all_back g.B.D.Disk.seen (kept_disks (c.args.first + c.loop-found.before) (into_iter_items c.loop-found.found-iterator)) (kept_disks c.args.first c.args.left.items) (g.B.Bank.given c.loop-found.bank) (g.B.Bank.given c.args.bank.now) _ _ c.loop-found.all
+    (ap (kept_disks (c.args.first + c.loop-found.before)) none) c.loop-found.invariant.back
 
 pub returns-clause-back : goal.returns-clause-back
 returns-clause-back g c =
     let none : into_iter_items c.loop-found.found-iterator ≡ [] = nil_from_length (into_iter_items c.loop-found.found-iterator) (sym c.loop-found.found-iterator.rest.ok.0 ∙ c.in-None.ensures.steps.0) in
-    gone_back g.B.D.Disk.seen (kept_disks c.loop-found.node (into_iter_items c.loop-found.found-iterator)) (kept_disks c.args.first c.args.left.items) (g.B.Bank.given c.loop-found.bank) (g.B.Bank.given c.args.bank.now) _ _ c.loop-found.all
-    (ap (kept_disks c.loop-found.node) none) c.loop-found.invariant.back
+    gone_back g.B.D.Disk.seen (kept_disks (c.args.first + c.loop-found.before) (into_iter_items c.loop-found.found-iterator)) (kept_disks c.args.first c.args.left.items) (g.B.Bank.given c.loop-found.bank) (g.B.Bank.given c.args.bank.now) _ _ c.loop-found.all
+    (ap (kept_disks (c.args.first + c.loop-found.before)) none) c.loop-found.invariant.back
 
 pub returns-clause-quiet : goal.returns-clause-quiet
 returns-clause-quiet g c =
-    all_quiet g.B.D.Disk.seen (kept_disks c.loop-found.node (into_iter_items c.loop-found.found-iterator)) (kept_disks c.args.first c.args.left.items) (g.B.Bank.given c.loop-found.bank) (g.B.Bank.given c.args.bank.now) _ _ c.loop-found.all c.loop-found.invariant.back
+    all_quiet g.B.D.Disk.seen (kept_disks (c.args.first + c.loop-found.before) (into_iter_items c.loop-found.found-iterator)) (kept_disks c.args.first c.args.left.items) (g.B.Bank.given c.loop-found.bank) (g.B.Bank.given c.args.bank.now) _ _ c.loop-found.all c.loop-found.invariant.back
 
 pub returns-clause-faults : goal.returns-clause-faults
 returns-clause-faults g c = λ n.
     let none : into_iter_items c.loop-found.found-iterator ≡ [] = nil_from_length (into_iter_items c.loop-found.found-iterator) (sym c.loop-found.found-iterator.rest.ok.0 ∙ c.in-None.ensures.steps.0) in
     let left : List (Lent g.row.B-D.Denot) → ℕ = λ ds. with_faults g.B.D.Disk.faults ds n (g.B.Bank.lent_faults c.loop-found.bank n) in
-    sym (ap left (ap (kept_disks c.loop-found.node) none)) ∙ c.loop-found.invariant.counts n
+    sym (ap left (ap (kept_disks (c.args.first + c.loop-found.before)) none)) ∙ c.loop-found.invariant.counts n

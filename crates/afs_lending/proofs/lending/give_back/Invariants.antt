@@ -8,10 +8,10 @@ use Rattle.afs_lending.proofs.lending.give_back.Given as goal
 
 abbrev pub invariant-loop-found : goal.invariant-loop-found
 invariant-loop-found g l = record {
-  place : l.node + length (into_iter_items l.found-iterator) ≡ l.first + length l.fn.left.items;
-  back : SoFar g.B.D.Disk.seen (kept_disks l.node (into_iter_items l.found-iterator)) (kept_disks l.first l.fn.left.items) (g.B.Bank.given l.bank) (g.B.Bank.given l.fn.bank) (g.B.Bank.faults l.fn.bank) (g.B.Bank.faults l.bank) l.all;
+  place : l.before + length (into_iter_items l.found-iterator) ≡ length l.fn.left.items;
+  back : SoFar g.B.D.Disk.seen (kept_disks (l.first + l.before) (into_iter_items l.found-iterator)) (kept_disks l.first l.fn.left.items) (g.B.Bank.given l.bank) (g.B.Bank.given l.fn.bank) (g.B.Bank.faults l.fn.bank) (g.B.Bank.faults l.bank) l.all;
   cause : OnErr l.all (Rose (g.B.Bank.faults l.fn.bank) (g.B.Bank.faults l.bank));
-  counts : (n : ℕ) → with_faults g.B.D.Disk.faults (kept_disks l.node (into_iter_items l.found-iterator)) n (g.B.Bank.lent_faults l.bank n) ≡ with_faults g.B.D.Disk.faults (kept_disks l.first l.fn.left.items) n (g.B.Bank.lent_faults l.fn.bank n);
+  counts : (n : ℕ) → with_faults g.B.D.Disk.faults (kept_disks (l.first + l.before) (into_iter_items l.found-iterator)) n (g.B.Bank.lent_faults l.bank n) ≡ with_faults g.B.D.Disk.faults (kept_disks l.first l.fn.left.items) n (g.B.Bank.lent_faults l.fn.bank n);
   lends : g.B.Bank.lends l.bank ≡ g.B.Bank.lends l.fn.bank;
   never_falls : g.B.Bank.faults l.fn.bank ≤ g.B.Bank.faults l.bank;
 }

@@ -46,3 +46,9 @@ pub returns-in-Fail-clause-happens : goal.returns-in-Fail-clause-happens
 returns-in-Fail-clause-happens g c = λ count.
     subst (λ (given : ServerInput). SeatHappens g.D.Disk.seen g.D.Disk.may_leave g.D.Disk.faults g.D.Disk.limit c.args.node [] (IsVoidServer given) (HasStep c.args.node c.args.now count given) (Up c.args.running) c.set_to_fail.result.0 c.set_to_fail.result.1)
     (sym c.in-Fail.is) c.set_to_fail.ensures.happens
+
+pub returns-in-TimeOut-clause-goes : goal.returns-in-TimeOut-clause-goes
+returns-in-TimeOut-clause-goes g c = c.time_out.ensures.goes c.args.node c.requires.own
+
+pub returns-in-Wake-clause-goes : goal.returns-in-Wake-clause-goes
+returns-in-Wake-clause-goes g c = c.wake.ensures.goes c.args.node c.requires.own

@@ -10,7 +10,9 @@ tell_left-status-requires g c = record {
 }
 
 pub give_back-taken-requires : goal.give_back-taken-requires
-give_back-taken-requires g c = omega (arith, few_left g.B.D.Disk.seen g.B.D.Disk.may_leave g.B.D.Disk.faults g.B.D.Disk.limit c.args.world.script (whole c.requires.world.before c.args.world) c.in-Ok.left.items c.requires.world.world c.in-Ok.ensures.found)
+give_back-taken-requires g c =
+    let few = few_left g.B.D.Disk.seen g.B.D.Disk.may_leave g.B.D.Disk.faults g.B.D.Disk.limit c.args.world.script (whole c.requires.world.before c.args.world) c.in-Ok.left.items c.requires.world.world c.in-Ok.ensures.found in
+    (omega (arith, few), omega (arith, few))
 
 pub returns-in-Err-clause-ends : goal.returns-in-Err-clause-ends
 returns-in-Err-clause-ends g c = λ wire start count gone told.

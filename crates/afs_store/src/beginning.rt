@@ -1,0 +1,131 @@
+//! A journal is begun on a disk, and a store is made of it with its first record.
+
+ghost use Rattle.std.specs.Prelude.{◌≡◌, ◌≤◌, ◌+◌, ◌++◌, ◌∷◌, ◌⊎◌, ◌↔◌, ℕ, List, [], None, Some, true, false, is_some, length, IfErr, IfOk, IsOk, IsSome, MatchResult, OnOk};
+ghost use Rattle.afs_num.specs.declared.faults.StoreFault.TheVariants as faults;
+ghost use Rattle.afs_disk.specs.Disk.{LeavesJust, LeavesOnly, PassesAll};
+ghost use Rattle.afs_journal.specs.Log.{IsJournal};
+ghost use Rattle.afs_journal.specs.Records.{whole_records, IsBeforeOrAfter};
+ghost use Rattle.afs_store.specs.Folds.{taken_as};
+ghost use Rattle.afs_store.specs.Opening.{Moved};
+ghost use Rattle.afs_store.specs.Stores.{IsCaused, IsKept, Served};
+
+use crate::committing::{append, place};
+use crate::fold::{Fold, Unfit};
+use crate::store::Store;
+use crate::taking_up::take_up;
+use afs_disk::Disk;
+use afs_journal::Journal;
+use afs_num::faults::StoreFault;
+use afs_num::types::Node;
+use std::alloc::Global;
+
+/// Cuts a disk to nothing. An empty one stays as it is.
+fn clear<D: Disk>(disk: &mut D) -> Result<(), StoreFault>
+    ensures empty { OnOk result (D.size disk.new ≡ 0) }
+    ensures told { IsSome (D.seen disk.new) ↔ IsSome (D.seen disk.old) }
+    ensures untouched { D.size disk.old ≡ 0 → (disk.new ≡ disk.old) × IsOk result }
+    ensures moved { Moved 1 D.faults D.own_faults D.calls D.setting D.limit disk.old disk.new }
+    ensures served { Served (D.setting disk.old) (D.calls disk.old) (D.calls disk.new) (D.faults disk.old) (D.faults disk.new) (D.own_faults disk.old) (D.own_faults disk.new) result }
+    ensures refusals { IfErr result (λ e. (e ≡ faults.Failed) ⊎ (e ≡ faults.OutOfMemory)) }
+{
+    if disk.len() == 0 {
+        return Ok(());
+    }
+    match disk.room(0, 0) {
+        Ok(()) => {}
+        Err(_) => return Err(StoreFault::OutOfMemory),
+    }
+    match disk.cut(0) {
+        Ok(()) => Ok(()),
+        Err(_) => Err(StoreFault::Failed),
+    }
+}
+
+/// Begins a journal on a disk.
+pub fn begin<D: Disk>(alloc: Global, disk: D) -> Result<Journal<D>, (StoreFault, D)>
+    requires { D.limit disk ≤ 268435456 }
+    ensures empty { IfOk result (λ j. (j.gate ≡ 0) × ((j.count ≡ 0) × (j.closed ≡ false))) }
+    ensures begun { IfOk result (λ j. IsSome (D.seen disk) → IsJournal [] (D.seen j.disk) (D.may_leave j.disk)) }
+    ensures told { MatchResult result (λ j. IsSome (D.seen j.disk) ↔ IsSome (D.seen disk)) (λ e. IsSome (D.seen e.1) ↔ IsSome (D.seen disk)) }
+    ensures any_moment { D.seen disk ≡ Some [] → LeavesJust [] (D.may_leave disk) → MatchResult result
+        (λ j. LeavesOnly D.moment D.left_since disk j.disk (λ c. whole_records c ≡ []))
+        (λ e. LeavesOnly D.moment D.left_since disk e.1 (λ c. whole_records c ≡ [])) }
+    ensures ok { IfOk result (λ j. Moved 7 D.faults D.own_faults D.calls D.setting D.limit disk j.disk × PassesAll (D.setting disk) (D.calls disk) (D.calls j.disk)) }
+    ensures quiet { IfOk result (λ j. (D.faults j.disk ≡ D.faults disk) × (D.own_faults j.disk ≡ D.own_faults disk)) }
+    ensures err { IfErr result (λ e. Moved 7 D.faults D.own_faults D.calls D.setting D.limit disk e.1 × IsCaused (D.setting disk) (D.calls e.1) (D.faults disk) (D.faults e.1) (D.own_faults disk) (D.own_faults e.1) e.0) }
+    ensures refusals { IfErr result (λ e. (e.0 ≡ faults.Failed) ⊎ (e.0 ≡ faults.OutOfMemory)) }
+{
+    let mut disk = disk;
+    match clear(&mut disk) {
+        Ok(()) => {}
+        Err(fault) => return Err((fault, disk)),
+    }
+    let journal = take_up(alloc, disk)?;
+    Ok(journal)
+}
+
+/// Makes the first record ready, puts it on the disk, and does what it says.
+fn put_first<D: Disk, R: Drop, T: Drop, S: Fold<R, T>>(
+    alloc: Global,
+    journal: &mut Journal<D>,
+    state: &mut S,
+    rec: &R,
+) -> Result<(), StoreFault>
+    requires fits { S.fold.Fits rec.now }
+    requires taken { is_some (S.fold.done rec.now (S.fold.held state.old)) ≡ true }
+    requires open { journal.old.closed ≡ false }
+    requires room { journal.old.gate + length (S.fold.spelled rec.now) + 10 ≤ D.limit journal.old.disk }
+    ensures held { OnOk result (S.fold.done rec.now (S.fold.held state.old) ≡ Some (S.fold.held state.new)) }
+    ensures number { OnOk result ((journal.new.count ≡ journal.old.count + 1) × ((journal.new.gate ≡ journal.old.gate + length (S.fold.spelled rec.now) + 9) × (journal.new.closed ≡ false))) }
+    ensures seen { IsSome (D.seen journal.new.disk) ↔ IsSome (D.seen journal.old.disk) }
+    ensures added { OnOk result ((content : List ℕ) → D.seen journal.old.disk ≡ Some content → IsJournal (whole_records content ++ S.fold.spelled rec.now ∷ []) (D.seen journal.new.disk) (D.may_leave journal.new.disk)) }
+    ensures any_moment { (content : List ℕ) → D.seen journal.old.disk ≡ Some content → LeavesJust content (D.may_leave journal.old.disk)
+        → LeavesOnly D.moment D.left_since journal.old.disk journal.new.disk (IsBeforeOrAfter (whole_records content) (S.fold.spelled rec.now)) }
+    ensures moved { Moved 4 D.faults D.own_faults D.calls D.setting D.limit journal.old.disk journal.new.disk }
+    ensures served { Served (D.setting journal.old.disk) (D.calls journal.old.disk) (D.calls journal.new.disk) (D.faults journal.old.disk) (D.faults journal.new.disk) (D.own_faults journal.old.disk) (D.own_faults journal.new.disk) result }
+    ensures refusals { IfErr result (λ e. (e ≡ faults.Failed) ⊎ (e ≡ faults.OutOfMemory)) }
+{
+    let ready = match S::ready(alloc, rec) {
+        Ok(ready) => ready,
+        Err(Unfit::OutOfMemory) => return Err(StoreFault::OutOfMemory),
+        Err(Unfit::Bad) => unreachable!(),
+    };
+    place::<D, R, T, S>(journal, state, &ready)?;
+    append(journal, S::bytes(&ready))?;
+    state.redo(ready);
+    Ok(())
+}
+
+/// Puts the first record on a disk with a journal that has none, and makes a store of it.
+pub fn filled<D: Disk, R: Drop, T: Drop, S: Fold<R, T>>(
+    alloc: Global,
+    journal: Journal<D>,
+    node: Node,
+    rec: &R,
+) -> Result<Store<D, R, T, S>, (StoreFault, D)>
+    requires fits { S.fold.Fits rec.now }
+    requires first { S.fold.is_first rec.now ≡ true }
+    requires taken { is_some (S.fold.done rec.now S.fold.nothing) ≡ true }
+    requires empty { (journal.gate ≡ 0) × ((journal.count ≡ 0) × (journal.closed ≡ false)) }
+    requires begun { IsSome (D.seen journal.disk) → IsJournal [] (D.seen journal.disk) (D.may_leave journal.disk) }
+    requires room { length (S.fold.spelled rec.now) + 10 ≤ D.limit journal.disk }
+    ensures made { IfOk result (λ s. taken_as S.fold true rec.now (S.fold.placed 1 (D.limit journal.disk) S.fold.nothing) ≡ Some s.durable) }
+    ensures rest { IfOk result (λ s. s ≡ record { durable = s.durable; disk = s.disk; node = node; prepared = None; closed = false; count = 1; drawn = 0 }) }
+    ensures kept { IfOk result (λ s. IsKept S.fold s.durable (D.seen s.disk) (D.may_leave s.disk)) }
+    ensures first { IfOk result (λ s. IsSome (D.seen journal.disk) → IsJournal (S.fold.spelled rec.now ∷ []) (D.seen s.disk) (D.may_leave s.disk)) }
+    ensures told { MatchResult result (λ s. IsSome (D.seen s.disk) ↔ IsSome (D.seen journal.disk)) (λ e. IsSome (D.seen e.1) ↔ IsSome (D.seen journal.disk)) }
+    ensures refusals { IfErr result (λ e. (e.0 ≡ faults.Failed) ⊎ (e.0 ≡ faults.OutOfMemory)) }
+    ensures any_moment { IsSome (D.seen journal.disk) → MatchResult result
+        (λ s. LeavesOnly D.moment D.left_since journal.disk s.disk (IsBeforeOrAfter [] (S.fold.spelled rec.now)))
+        (λ e. LeavesOnly D.moment D.left_since journal.disk e.1 (IsBeforeOrAfter [] (S.fold.spelled rec.now))) }
+    ensures ok { IfOk result (λ s. Moved 4 D.faults D.own_faults D.calls D.setting D.limit journal.disk s.disk × PassesAll (D.setting journal.disk) (D.calls journal.disk) (D.calls s.disk)) }
+    ensures quiet { IfOk result (λ s. (D.faults s.disk ≡ D.faults journal.disk) × (D.own_faults s.disk ≡ D.own_faults journal.disk)) }
+    ensures err { IfErr result (λ e. Moved 4 D.faults D.own_faults D.calls D.setting D.limit journal.disk e.1 × IsCaused (D.setting journal.disk) (D.calls e.1) (D.faults journal.disk) (D.faults e.1) (D.own_faults journal.disk) (D.own_faults e.1) e.0) }
+{
+    let mut journal = journal;
+    let mut state = S::nothing(alloc);
+    match put_first::<D, R, T, S>(alloc, &mut journal, &mut state, rec) {
+        Ok(()) => Ok(Store::of(alloc, journal, node, state)),
+        Err(fault) => Err((fault, journal.into_disk())),
+    }
+}

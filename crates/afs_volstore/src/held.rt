@@ -1,0 +1,97 @@
+//! A server's memory, as its store changes it.
+
+use crate::attaching::take_one;
+use crate::creating::start_record;
+use afs_history::lines::Lines;
+use afs_memory::memory::State;
+use afs_memory::prepared::Prepared;
+use afs_memory::readying::prepared;
+use afs_num::records::StoreRecord;
+use afs_num::types::{Mem, Node};
+use afs_record::faults;
+use afs_store::{Fold, Unfit};
+use std::alloc::Global;
+use std::marker::Model;
+
+/// What a server's disk keeps, as contracts see it. No value of it is made.
+#[derive(Drop)]
+pub struct Part;
+
+impl Model for Part {
+    ghost use Rattle.afs_records.specs.Durable.{Durable, nothing_on};
+
+    ghost Value = { Durable };
+
+    ghost view = { λ _. nothing_on 0 };
+}
+
+/// What a server's memory holds: its volumes, and what stands beside them.
+#[derive(Drop)]
+pub struct Held {
+    pub state: State,
+}
+
+impl Fold<StoreRecord, Part> for Held {
+    ghost use Rattle.afs_volstore.specs.VolumeFold.{volume_fold};
+    ghost use Rattle.afs_volstore.specs.VolumeLaws.{volume_sound};
+
+    type Ready = Prepared;
+
+    ghost fold = { volume_fold };
+
+    ghost sound = { volume_sound };
+
+    fn nothing(alloc: Global) -> Held {
+        Held {
+            state: State::new(alloc),
+        }
+    }
+
+    fn take(
+        &mut self,
+        alloc: Global,
+        node: Node,
+        first: bool,
+        wanted: bool,
+        bytes: &[u8],
+    ) -> Result<Lines, Unfit> {
+        match take_one(alloc, node, &mut self.state, first, wanted, bytes) {
+            Ok(lines) => Ok(lines),
+            Err(faults::Unfit::Bad) => Err(Unfit::Bad),
+            Err(faults::Unfit::OutOfMemory) => Err(Unfit::OutOfMemory),
+        }
+    }
+
+    fn ready(alloc: Global, rec: &StoreRecord) -> Result<Prepared, Unfit> {
+        match prepared(alloc, rec) {
+            Ok(ready) => Ok(ready),
+            Err(faults::Unfit::Bad) => Err(Unfit::Bad),
+            Err(faults::Unfit::OutOfMemory) => Err(Unfit::OutOfMemory),
+        }
+    }
+
+    fn bytes(ready: &Prepared) -> &[u8] {
+        ready.bytes.as_slice()
+    }
+
+    fn reserve(&mut self, ready: &Prepared) -> Mem<()> {
+        self.state.reserve(&ready.redo)
+    }
+
+    fn redo(&mut self, ready: Prepared) {
+        let Prepared {
+            bytes: _,
+            head,
+            redo,
+        } = ready;
+        self.state.redo(head, redo);
+    }
+
+    fn boot(&self) -> u32 {
+        self.state.boot
+    }
+
+    fn start(alloc: Global, boot: u32) -> StoreRecord {
+        start_record(alloc, boot)
+    }
+}
