@@ -5,6 +5,7 @@ ghost use Rattle.afs_xdr.specs.Words.{word, words, opaque, AreWords};
 use crate::reading::pad_of;
 use std::alloc::{AllocError, Global};
 use std::marker::Model;
+use std::mem::replace;
 
 /// Appends fields one after another. Want of memory leaves it as it was.
 #[derive(Drop)]
@@ -57,7 +58,9 @@ impl Writer {
         ensures err { OnErr result (self.new ≡ self.old) }
     {
         self.bytes.reserve(4 * ns.len())?;
-        put_words(&mut self.bytes, ns);
+        let alloc = *self.bytes.allocator();
+        let bytes = replace(&mut self.bytes, Vec::new(alloc));
+        self.bytes = with_words(bytes, ns);
         Ok(())
     }
 
@@ -136,14 +139,34 @@ fn put_word(out: &mut Vec<u8>, n: u32)
     put(out, &n.to_be_bytes());
 }
 
-/// Appends words where there is room for them.
-fn put_words(out: &mut Vec<u8>, ns: &[u32])
-    requires { vec_len out.old + 4 * length ns.now ≤ vec_capacity out.old }
-    ensures { out.new.items ≡ out.old.items ++ words ns.now }
+/// The bytes of a word behind these, where there is room for them. Each is pushed without a look at the room, and a compiler writes
+/// the four at once.
+#[tactic(auto, unfolding(crate::specs::Words::word))]
+#[inline(always)]
+fn push_word(out: &mut Vec<u8>, n: u32)
+    requires { vec_len out.old + 4 ≤ vec_capacity out.old }
+    ensures items { out.new.items ≡ out.old.items ++ word n }
+    ensures len { vec_len out.new ≡ vec_len out.old + 4 }
+    ensures capacity { vec_capacity out.new ≡ vec_capacity out.old }
 {
+    let [first, second, third, fourth] = n.to_be_bytes();
+    out.push_reserved(first);
+    out.push_reserved(second);
+    out.push_reserved(third);
+    out.push_reserved(fourth);
+}
+
+/// The bytes of words behind these, where there is room for them. The vector is moved here and back, so that its length and its place
+/// stay in registers: behind a reference each byte that is written might be one of theirs.
+fn with_words(bytes: Vec<u8>, ns: &[u32]) -> Vec<u8>
+    requires { vec_len bytes + 4 * length ns.now ≤ vec_capacity bytes }
+    ensures { result.items ≡ bytes.items ++ words ns.now }
+{
+    let mut out = bytes;
     for n in ns {
-        put_word(out, *n);
+        push_word(&mut out, *n);
     }
+    out
 }
 
 /// Appends so many zero bytes, at most three, where there is room for them.
