@@ -41,7 +41,7 @@ fn read_caller(r: &mut Reader) -> Result<Option<Node>, RecordFault>
 
 /// Reads a head.
 #[tactic(auto, unfolding(afs_records::specs::Records::head_form))]
-pub(crate) fn read_head(alloc: Global, r: &mut Reader) -> Result<RecordHead, RecordFault>
+pub fn read_head(alloc: Global, r: &mut Reader) -> Result<RecordHead, RecordFault>
     ensures { ReadsForm head_form.at (λ h. h) r.old r.new result }
 {
     let family = r.word()?;
@@ -62,7 +62,7 @@ pub(crate) fn read_head(alloc: Global, r: &mut Reader) -> Result<RecordHead, Rec
 
 /// Appends a head.
 #[tactic(auto, unfolding(afs_records::specs::Records::head_form))]
-pub(crate) fn write_head(head: &RecordHead, w: &mut Writer) -> Mem<()>
+pub fn write_head(head: &RecordHead, w: &mut Writer) -> Mem<()>
     requires { head_form.Fits head.now }
     ensures { OnOk result (w.new ≡ w.old ++ head_form.spelled head.now) }
 {
