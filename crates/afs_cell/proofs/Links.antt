@@ -130,8 +130,10 @@ module _ {D : Type 0} (seen : D → Option (List ℕ)) (may_leave : D → List �
     input = starts_again i h.1.1.after h.1.1.outcome;
     is_one = (
       h.1.1.after,
-      (h.1.1.outcome,
-      (subst (λ (d : Option Fall). MayBegin d h.1.1.after) (sym h.1.0) h.1.1.may, is_numbered t.cell i (starts_again i h.1.1.after h.1.1.outcome) (host_there w.servers i was t.cell here cell.host_count)))
+      (
+        h.1.1.outcome,
+        (subst (λ (d : Option Fall). MayBegin d h.1.1.after) (sym h.1.0) h.1.1.may, is_numbered t.cell i (starts_again i h.1.1.after h.1.1.outcome) (host_there w.servers i was t.cell here cell.host_count)),
+      ),
     );
     step = restarted (server_kind (Server i)) (t.cell.hosts i) t.cell.clock t.cell.count h.1.1.after h.1.1.outcome h.0;
     moves = moved_restarted t.cell i h.1.1.after h.1.1.outcome h.0 (host_there w.servers i was t.cell here cell.host_count) h.1.0;
