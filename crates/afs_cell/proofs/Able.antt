@@ -3,9 +3,9 @@ use Rattle.std.proofs.Common.{arith, ◌≡◌, ◌<◌, ℕ, length, false}
 use Rattle.afs_num.specs.declared.types.Node.TheVariants.{Server}
 use Rattle.afs_history.specs.declared.scripts.Script.{Script}
 use Rattle.afs_host.specs.declared.seats.Seat.TheVariants.{Down, Up}
-use Rattle.afs_servers.specs.Happening.{CanStep, IsSeatOf}
+use Rattle.afs_cell.specs.SeatSteps.{CanStep, IsSeatOf}
 use Rattle.afs_clients.specs.Ready.{AllReady}
-use Rattle.afs_servers.specs.Ready.{AllCanStep}
+use Rattle.afs_cell.specs.Ready.{AllCanStep}
 use Rattle.afs_cell.specs.Worlds.{most_entries, IsSafe, WorldState}
 use Rattle.afs_host.specs.Seated.{IsReadySeat, ServerSeat}
 use Rattle.afs_clients.proofs.Handed.{server_is_node}

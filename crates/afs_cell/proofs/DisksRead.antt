@@ -7,8 +7,8 @@ use Rattle.afs_host.specs.declared.seats.Seat.TheVariants.{Down, Up}
 use Rattle.afs_final.specs.Reading.{AreFound, IsRead}
 use Rattle.afs_final.specs.declared.reading.Left.{Left}
 use Rattle.afs_clients.specs.Places.{Each}
-use Rattle.afs_ends.specs.Readable.{AreReadable, IsOpen, IsReadable}
-use Rattle.afs_ends.specs.Lends.{lent_from}
+use Rattle.afs_cell.specs.Readable.{AreReadable, IsOpen, IsReadable}
+use Rattle.afs_cell.specs.Lends.{lent_from}
 use Rattle.afs_cell.specs.Worlds.{AllHold, IsSafe, WorldState}
 use Rattle.afs_host.specs.Seated.{seat_disk, IsReadySeat, ServerSeat}
 use Rattle.afs_clients.proofs.Handed.{server_is_node}

@@ -12,15 +12,15 @@ use Rattle.afs_rows.specs.Going.{ClientState}
 use Rattle.afs_rows.specs.Runs.{first_client, first_host, start}
 use Rattle.afs_host.specs.declared.seats.Seat.TheVariants.{Down, Up}
 use Rattle.afs_schedule.specs.Schedules.{tasks_of}
-use Rattle.afs_ends.specs.FirstSeats.{AreFirstSeats, IsFirstSeat}
+use Rattle.afs_cell.specs.FirstSeats.{AreFirstSeats, IsFirstSeat}
 use Rattle.afs_clients.specs.Places.{Each}
 use Rattle.afs_clients.specs.Seating.{AreFirstClients, IsFirstClient}
 use Rattle.afs_cell.specs.Steps.{IsFirst}
-use Rattle.afs_ends.specs.Lends.{AreLent, LentTell}
+use Rattle.afs_cell.specs.Lends.{AreLent, LentTell}
 use Rattle.afs_host.specs.Seated.{seat_disk, IsHost, IsReadySeat, ServerSeat}
 use Rattle.afs_cell.specs.Worlds.{none_gone, AllTell, IsCell, IsClient, IsReadyClient, IsSafe, IsWorld, LetGo, WorldState}
 use Rattle.afs_clients.specs.declared.clients.ClientSeat.{ClientSeat}
-use Rattle.afs_ends.proofs.FirstSeated.{count_seats}
+use Rattle.afs_cell.proofs.FirstSeated.{count_seats}
 use Rattle.afs_clients.proofs.Numbers.{none_some, some_is}
 use Rattle.afs_cell.proofs.UnderWay.{runs_none}
 

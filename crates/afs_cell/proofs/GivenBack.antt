@@ -18,9 +18,9 @@ use Rattle.afs_rows.specs.States.{Lasting, ServerState}
 use Rattle.afs_host.specs.Seats.{IsDown, Resting}
 use Rattle.afs_host.specs.Standing.{LiesAs}
 use Rattle.afs_host.specs.declared.seats.Seat.TheVariants.{Down, Up}
-use Rattle.afs_ends.specs.FirstSeats.{AreKeptSeats, IsKeptSeat}
+use Rattle.afs_cell.specs.FirstSeats.{AreKeptSeats, IsKeptSeat}
 use Rattle.afs_cell.specs.Steps.{AreStanding, IsReadAfter, MayBeRead}
-use Rattle.afs_ends.specs.Lends.{lent_from, AreLent}
+use Rattle.afs_cell.specs.Lends.{lent_from, AreLent}
 use Rattle.afs_host.specs.Seated.{seat_disk, IsHost, IsReadySeat, ServerSeat}
 use Rattle.afs_cell.specs.Worlds.{AllHold, IsCell, IsSafe, WorldState}
 use Rattle.afs_clients.proofs.Numbers.{none_some, some_is}

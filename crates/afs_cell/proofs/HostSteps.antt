@@ -17,7 +17,7 @@ use Rattle.afs_text.specs.Telling.{told, sent_by}
 use Rattle.afs_rows.specs.Hosts.{HostStep}
 use Rattle.afs_rows.specs.States.{ServerState}
 use Rattle.afs_clients.specs.Happening.{entry_of}
-use Rattle.afs_servers.specs.Happening.{IsSeatStep}
+use Rattle.afs_cell.specs.SeatSteps.{IsSeatStep}
 use Rattle.afs_clients.specs.Places.{put_place, Each}
 use Rattle.afs_cell.specs.Steps.{IsAt, Plays}
 use Rattle.afs_cell.specs.Worlds.{falls, WorldState}

@@ -1,3 +1,11 @@
+mod Falling
+mod Lifted
+mod SeatPicked
+mod Seats
+mod SeatsRead
+mod FirstSeated
+mod FirstStores
+mod SeatsGiven
 mod Parcels
 mod Counts
 mod HostSteps

@@ -17,7 +17,7 @@ use Rattle.afs_rows.specs.ServerHosts.{timed_out, woken, server_kind}
 use Rattle.afs_rows.specs.States.{ServerState}
 use Rattle.afs_host.proofs.Placed.{moved_crashed, moved_restarted, moved_served, moved_set_to_fail, moved_set_to_stop, moved_timed_out, moved_woken}
 use Rattle.afs_clients.specs.Happening.{IsGiven}
-use Rattle.afs_servers.specs.Happening.{HasHeard, HasStep, IsFallen, IsSeatStep, IsVoidServer}
+use Rattle.afs_cell.specs.SeatSteps.{HasHeard, HasStep, IsFallen, IsSeatStep, IsVoidServer}
 use Rattle.afs_cell.specs.Worlds.{falls, IsCell, WorldState}
 use Rattle.afs_host.specs.Seated.{seat_disk, ServerSeat}
 use Rattle.afs_clients.specs.declared.happening.ServerInput.{ServerInput}

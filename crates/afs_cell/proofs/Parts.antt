@@ -9,9 +9,9 @@ use Rattle.afs_grammar.specs.CellScripts.{IsCellScript}
 use Rattle.afs_schedule.specs.Schedules.{IsInput, Turn}
 use Rattle.afs_clients.specs.Happening.{ClientHears, ClientsHappened, ClientTakes, IsAsked, IsGiven, IsVoidClient}
 use Rattle.afs_cell.specs.Happening.{NothingSettles, Settles}
-use Rattle.afs_servers.specs.Happening.{HasHeard, HasStep, IsFallen, IsVoidServer, ServersHappened}
+use Rattle.afs_cell.specs.SeatSteps.{HasHeard, HasStep, IsFallen, IsVoidServer, ServersHappened}
 use Rattle.afs_clients.specs.Ready.{AllReady}
-use Rattle.afs_servers.specs.Ready.{AllCanStep}
+use Rattle.afs_cell.specs.Ready.{AllCanStep}
 use Rattle.afs_cell.specs.Steps.{Stepped}
 use Rattle.afs_host.specs.Seated.{ServerSeat}
 use Rattle.afs_cell.specs.Worlds.{most_entries, IsSafe, WorldState}

@@ -7,8 +7,8 @@ use Rattle.afs_host.specs.Seats.{ServerRunning}
 use Rattle.afs_host.specs.declared.seats.Seat.TheVariants.{Up}
 use Rattle.afs_server.specs.Handling.{server_seen}
 use Rattle.afs_cell.specs.Happening.{Settles}
-use Rattle.afs_servers.specs.Happening.{HasStep, IsVoidServer, ServersHappened}
-use Rattle.afs_servers.specs.Picks.{OneLeavesPick}
+use Rattle.afs_cell.specs.SeatSteps.{HasStep, IsVoidServer, ServersHappened}
+use Rattle.afs_cell.specs.SeatPicks.{OneLeavesPick}
 use Rattle.afs_host.specs.Seated.{IsHost, ServerSeat}
 use Rattle.afs_cell.specs.Picks.{IsPicked}
 use Rattle.afs_cell.specs.Worlds.{WorldState}

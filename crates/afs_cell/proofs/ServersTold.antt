@@ -16,7 +16,7 @@ use Rattle.afs_rows.specs.Hosts.{HostStep}
 use Rattle.afs_rows.specs.States.{ServerState}
 use Rattle.afs_clients.specs.Happening.{entry_of, front_lines, void_entry, IsGiven}
 use Rattle.afs_cell.specs.Happening.{Settles}
-use Rattle.afs_servers.specs.Happening.{HasHeard, HasStep, IsFallen, IsSeatStep, IsVoidServer, OneHappened, ServersHappened}
+use Rattle.afs_cell.specs.SeatSteps.{HasHeard, HasStep, IsFallen, IsSeatStep, IsVoidServer, OneHappened, ServersHappened}
 use Rattle.afs_cell.specs.Steps.{IsAt, Stepped}
 use Rattle.afs_host.specs.Seated.{seat_disk, ServerSeat}
 use Rattle.afs_cell.specs.Worlds.{most_entries, AllTell, IsSafe, WorldState}

@@ -16,7 +16,7 @@ use Rattle.afs_schedule.specs.Schedules.{Turn}
 use Rattle.afs_text.specs.Telling.{told, sent_by}
 use Rattle.afs_host.specs.declared.seats.Seat.TheVariants.{Up, Down}
 use Rattle.afs_clients.specs.Happening.{entry_of, void_entry}
-use Rattle.afs_servers.specs.Happening.{SeatGoes, SeatKeeps}
+use Rattle.afs_cell.specs.SeatSteps.{SeatGoes, SeatKeeps}
 use Rattle.afs_clients.specs.Places.{put_place, Each}
 use Rattle.afs_cell.specs.Steps.{IsAt, Plays, Stepped}
 use Rattle.afs_cell.specs.Worlds.{most_entries, AllHold, AllTell, IsReadyClient, IsSafe, WorldState}

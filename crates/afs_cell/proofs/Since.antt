@@ -17,10 +17,10 @@ use Rattle.afs_wire.specs.Sent.{Sent}
 use Rattle.afs_schedule.specs.Schedules.{IsInput, Turn}
 use Rattle.afs_clients.specs.Happening.{ClientHears, ClientsHappened, ClientTakes, IsAsked, IsGiven, IsVoidClient}
 use Rattle.afs_cell.specs.Happening.{NothingSettles, Settles}
-use Rattle.afs_servers.specs.Happening.{HasHeard, HasStep, IsFallen, IsVoidServer, ServersHappened}
+use Rattle.afs_cell.specs.SeatSteps.{HasHeard, HasStep, IsFallen, IsVoidServer, ServersHappened}
 use Rattle.afs_cell.specs.Noting.{Notes}
 use Rattle.afs_clients.specs.Ready.{AllReady}
-use Rattle.afs_servers.specs.Ready.{AllCanStep}
+use Rattle.afs_cell.specs.Ready.{AllCanStep}
 use Rattle.afs_clients.specs.Meaning.{IsMeant}
 use Rattle.afs_cell.specs.Since.{whole, DeliversKept, IsBefore, IsSafeSince, Keeps, LetsGo, SteppedSince}
 use Rattle.afs_host.specs.Seated.{ServerSeat}

@@ -1,3 +1,12 @@
+pub mod SeatSteps
+pub mod Hearing
+pub mod SeatPicks
+pub mod Ready
+pub mod Ends
+pub mod FirstSeats
+pub mod Lends
+pub mod Readable
+pub mod Refusing
 pub mod Worlds
 pub mod Steps
 pub mod Happening

@@ -3,14 +3,14 @@
 ghost use Rattle.std.specs.Prelude.{◌≡◌, ◌≤◌, [], false, IfErr, IfOk};
 ghost use Rattle.std.specs.Vec.{vec_capacity};
 ghost use Rattle.afs_final.specs.Reading.{AreFound};
-ghost use Rattle.afs_ends.specs.Lends.{lent_from, AreLent};
+ghost use Rattle.afs_cell.specs.Lends.{lent_from, AreLent};
 ghost use Rattle.afs_cell.specs.Since.{IsWorldSince, StandsSince};
 
+use crate::disks::give_back;
+use crate::reading::left_of;
+use crate::seating::Rooms;
 use crate::world::World;
 use afs_disk::{Disk, Disks};
-use afs_ends::disks::give_back;
-use afs_ends::reading::left_of;
-use afs_ends::setup::Rooms;
 use afs_final::Left;
 use afs_volstore::VolStore;
 use std::alloc::Global;

@@ -2,17 +2,17 @@
 
 ghost use Rattle.std.specs.Prelude.{◌≡◌, ◌<◌, ◌+◌, ◌↔◌, length, IfErr, IfOk};
 ghost use Rattle.afs_grammar.specs.CellScripts.{IsCellScript};
-ghost use Rattle.afs_ends.specs.Ends.{AreLeft, IsRefused};
+ghost use Rattle.afs_cell.specs.Ends.{AreLeft, IsRefused};
 ghost use Rattle.afs_cell.specs.Steps.{IsFirst};
-ghost use Rattle.afs_ends.specs.Lends.{AreLent, LentTell};
+ghost use Rattle.afs_cell.specs.Lends.{AreLent, LentTell};
 ghost use Rattle.afs_cell.specs.Worlds.{AllTell, IsWorld};
 
+use crate::faults::SetupFault;
+use crate::seating::{Rooms, servers_at_first};
 use crate::world::{Gone, World};
 use afs_clients::places::Places;
 use afs_clients::setup::clients_at_first;
 use afs_disk::{Disk, Disks};
-use afs_ends::faults::SetupFault;
-use afs_ends::setup::{Rooms, servers_at_first};
 use afs_history::scripts::Script;
 use afs_wire::Wire;
 use std::alloc::Global;

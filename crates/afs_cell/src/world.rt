@@ -19,6 +19,7 @@ ghost use Rattle.afs_clients.specs.declared.happening.Happened.TheVariants as ha
 ghost use Rattle.afs_clients.specs.declared.happening.ServerInput.TheVariants as input;
 
 use crate::faults::WorldFault;
+use crate::giving::{server_hears, server_takes};
 use afs_clients::clients::ClientSeat;
 use afs_clients::events::{Given, meaning_of};
 use afs_clients::giving::{client_hears, client_takes};
@@ -31,7 +32,6 @@ use afs_history::scripts::{Event, Script};
 use afs_host::ServerSeat;
 use afs_num::histories::Actor;
 use afs_num::types::{Node, Parcel};
-use afs_servers::giving::{server_hears, server_takes};
 use afs_wire::Wire;
 use std::alloc::Global;
 use std::marker::Model;

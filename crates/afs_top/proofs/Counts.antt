@@ -12,8 +12,8 @@ use Rattle.afs_disk.specs.declared.bank.LendFault.{LendFault}
 use Rattle.afs_disk.specs.declared.bank.LendFault.TheVariants as lending
 use Rattle.afs_disk.specs.declared.disks.Lent.{Lent}
 use Rattle.afs_volstore.specs.Stores.{Store}
-use Rattle.afs_ends.specs.Ends.{NoneFell, NoneRose, RoseAt}
-use Rattle.afs_ends.specs.Lends.{lent_from}
+use Rattle.afs_cell.specs.Ends.{NoneFell, NoneRose, RoseAt}
+use Rattle.afs_cell.specs.Lends.{lent_from}
 use Rattle.afs_cell.specs.Worlds.{Counts, IsCounted}
 use Rattle.afs_host.specs.Seated.{seat_disk, ServerSeat}
 use Rattle.afs_final.specs.Reading.{fault_in, kept_disk, or_memory, AreFound}

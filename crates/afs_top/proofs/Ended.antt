@@ -21,13 +21,13 @@ use Rattle.afs_text.specs.KeptText.{kept_history_text}
 use Rattle.afs_text.specs.Telling.{told, AreRead}
 use Rattle.afs_text.proofs.Kept.{history_told}
 use Rattle.afs_volstore.specs.Stores.{Store}
-use Rattle.afs_ends.specs.Lends as ends
-use Rattle.afs_ends.specs.Ends.{AreLeft, IsRefused}
+use Rattle.afs_cell.specs.Lends as ends
+use Rattle.afs_cell.specs.Ends.{AreLeft, IsRefused}
 use Rattle.afs_cell.specs.Steps.{AreStanding, HasPlayedAll, HasPlayedFirst, HasPlayedSome}
-use Rattle.afs_ends.specs.Lends.{lent_from}
+use Rattle.afs_cell.specs.Lends.{lent_from}
 use Rattle.afs_cell.specs.Worlds.{most_entries, own_falls, AllTell, IsCell, IsWorld, Runs, WorldState}
-use Rattle.afs_ends.specs.declared.faults.SetupFault.{SetupFault}
-use Rattle.afs_ends.specs.declared.faults.SetupFault.TheVariants as setup
+use Rattle.afs_cell.specs.declared.faults.SetupFault.{SetupFault}
+use Rattle.afs_cell.specs.declared.faults.SetupFault.TheVariants as setup
 use Rattle.afs_final.specs.Reading.{fault_in, part, AreFound}
 use Rattle.afs_final.specs.declared.reading.Left.{Left}
 use Rattle.afs_disk.specs.Fuses.{last_count}

@@ -21,7 +21,7 @@ use Rattle.afs_text.specs.Telling.{told}
 use Rattle.afs_volstore.specs.Stores.{Store}
 use Rattle.afs_clients.specs.Places.{Each}
 use Rattle.afs_cell.specs.Steps.{AreStanding, HasPlayed, MayBeRead}
-use Rattle.afs_ends.specs.Lends.{lent_from}
+use Rattle.afs_cell.specs.Lends.{lent_from}
 use Rattle.afs_host.specs.Seated.{seat_disk, ServerSeat}
 use Rattle.afs_cell.specs.Worlds.{most_entries, own_falls, AllTell, IsCell, WorldState}
 use Rattle.afs_final.specs.Reading.{fault_in, kept_disk, part, AreFound, IsRead}

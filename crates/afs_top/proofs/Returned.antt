@@ -13,7 +13,7 @@ use Rattle.afs_text.specs.FinalText.{final_text}
 use Rattle.afs_volstore.specs.Stores.{Store}
 use Rattle.afs_cell.specs.Since.{whole, StandsSince}
 use Rattle.afs_cell.specs.Steps.{AreStanding, HasPlayedAll, HasPlayedFirst, HasPlayedSome}
-use Rattle.afs_ends.specs.Lends.{lent_from}
+use Rattle.afs_cell.specs.Lends.{lent_from}
 use Rattle.afs_cell.specs.Worlds.{most_entries, AllTell, HistoryTold, IsWorld, WorldState}
 use Rattle.afs_final.specs.Reading.{fault_in, part, AreFound}
 use Rattle.afs_final.specs.declared.reading.Left.{Left}

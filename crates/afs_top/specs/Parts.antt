@@ -1,6 +1,6 @@
 -- The parts of a call of the program.
-use Rattle.afs_ends.specs.declared.faults.SetupFault.{SetupFault}
-use Rattle.afs_ends.specs.declared.faults.SetupFault.TheVariants as setup
+use Rattle.afs_cell.specs.declared.faults.SetupFault.{SetupFault}
+use Rattle.afs_cell.specs.declared.faults.SetupFault.TheVariants as setup
 use Rattle.afs_command.specs.declared.statuses.Status.{Status}
 use Rattle.afs_command.specs.declared.statuses.Status.TheVariants as statuses
 

@@ -22,7 +22,7 @@ use Rattle.afs_text.specs.HistoryText.{history_text, text}
 use Rattle.afs_text.specs.KeptText.{kept_history_text}
 use Rattle.afs_text.specs.Telling.{sent_by}
 use Rattle.afs_schedule.specs.Schedules.{events_of, first_turn, AreFirst, AreInputs}
-use Rattle.afs_ends.specs.Ends.{AreLeft, OneRoseAtMost}
+use Rattle.afs_cell.specs.Ends.{AreLeft, OneRoseAtMost}
 use Rattle.afs_cell.specs.Steps.{MayBeRead}
 use Rattle.afs_cell.specs.Worlds.{most_entries, own_falls}
 use Rattle.afs_lending.specs.Lending.{lends, AreLent, AreUnused, GivesBackBut}

@@ -4,7 +4,7 @@ ghost use Rattle.std.specs.Prelude.{◌≡◌, ◌≤◌, ◌+◌, ℕ, List, Bo
 ghost use Rattle.afs_grammar.specs.CellScripts.{IsCellScript};
 ghost use Rattle.afs_cell.specs.Since.{whole, IsWorldSince};
 ghost use Rattle.afs_cell.specs.Steps.{HasPlayedAll, HasPlayedFirst, HasPlayedSome};
-ghost use Rattle.afs_ends.specs.Lends.{AreLent, LentTell};
+ghost use Rattle.afs_cell.specs.Lends.{AreLent, LentTell};
 ghost use Rattle.afs_cell.specs.Worlds.{most_entries, AllTell, HistoryTold};
 ghost use Rattle.afs_lending.specs.Lending.{AreUnused};
 ghost use Rattle.afs_command.specs.Spans.{span};
@@ -13,10 +13,10 @@ ghost use Rattle.afs_top.specs.Playing.{IsWritten};
 ghost use Rattle.afs_top.specs.Top.{EndsReplay, EndsRun, LendingLeaves, SetUpLeaves};
 
 use crate::playing::{Ended, Told, play};
+use afs_cell::faults::SetupFault;
 use afs_cell::{World, set_up};
 use afs_command::statuses::Status;
 use afs_disk::{Bank, Disk, Disks, LendFault, Place};
-use afs_ends::faults::SetupFault;
 use afs_history::scripts::Script;
 use afs_law::laws::{runs_are_legal, runs_end_well};
 use afs_lending::{give_back, lend_all};

@@ -1,8 +1,8 @@
 use Rattle.std.proofs.Common.{ap, subst, sym, ◌↔◌, ℕ, List}
-use Rattle.afs_ends.specs.Lends.{LentTell}
+use Rattle.afs_cell.specs.Lends.{LentTell}
 use Rattle.afs_cell.specs.Worlds.{none_gone, AllTell}
 use Rattle.afs_host.specs.Seated.{ServerSeat}
-use Rattle.afs_ends.proofs.FirstSeated.{all_same, are_left, none_fell, none_rose}
+use Rattle.afs_cell.proofs.FirstSeated.{all_same, are_left, none_fell, none_rose}
 use Rattle.afs_cell.proofs.FirstWorlds.{first_made, tell_so, world_made}
 use Rattle.afs_cell.proofs.setup.set_up.Goals as goal
 

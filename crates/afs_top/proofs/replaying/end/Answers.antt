@@ -1,6 +1,6 @@
 use Rattle.std.proofs.Common.{arith, refl, ◌∙◌}
 use Rattle.afs_cell.specs.Since.{whole}
-use Rattle.afs_ends.specs.Lends.{lent_from}
+use Rattle.afs_cell.specs.Lends.{lent_from}
 use Rattle.afs_top.proofs.Returned.{end_of, few_left, unread_of}
 use Rattle.afs_top.proofs.replaying.end.Goals as goal
 

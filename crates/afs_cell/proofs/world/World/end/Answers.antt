@@ -1,8 +1,8 @@
 use Rattle.std.proofs.Common.{ap, ap₂, arith, subst, sym, ◌∙◌, ◌≡◌, ◌++◌, List, length}
 use Rattle.afs_disk.specs.declared.disks.Lent.{Lent}
 use Rattle.afs_host.specs.Seated.{ServerSeat}
-use Rattle.afs_ends.specs.FirstSeats.{AreKeptSeats}
-use Rattle.afs_ends.specs.Lends.{lent_from, AreLent}
+use Rattle.afs_cell.specs.FirstSeats.{AreKeptSeats}
+use Rattle.afs_cell.specs.Lends.{lent_from, AreLent}
 use Rattle.afs_cell.specs.Since.{whole}
 use Rattle.afs_cell.specs.Steps.{AreStanding}
 use Rattle.afs_cell.proofs.GivenBack.{lent_all, standing}

@@ -2,9 +2,9 @@ use Rattle.std.proofs.Common.{ap, ap₂, arith, subst, sym, ◌∙◌, ◌≡◌
 use Rattle.afs_disk.specs.declared.disks.Lent.{Lent}
 use Rattle.afs_final.specs.Reading.{AreFound}
 use Rattle.afs_host.specs.Seated.{ServerSeat}
-use Rattle.afs_ends.specs.FirstSeats.{AreKeptSeats}
-use Rattle.afs_ends.specs.Lends.{lent_from}
-use Rattle.afs_ends.specs.Readable.{AreReadable}
+use Rattle.afs_cell.specs.FirstSeats.{AreKeptSeats}
+use Rattle.afs_cell.specs.Lends.{lent_from}
+use Rattle.afs_cell.specs.Readable.{AreReadable}
 use Rattle.afs_cell.specs.Since.{whole}
 use Rattle.afs_cell.proofs.GivenBack.{standing}
 use Rattle.afs_cell.proofs.DisksRead.{readable}

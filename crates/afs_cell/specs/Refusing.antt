@@ -1,0 +1,21 @@
+-- How set-up begins, and how it is refused.
+use Rattle.std.specs.Prelude.{◌≡◌, ◌≤◌, ℕ, []}
+use Rattle.std.specs.Vec.{vec_capacity}
+use Rattle.afs_num.specs.declared.faults.StoreFault.{StoreFault}
+use Rattle.afs_num.specs.declared.faults.StoreFault.TheVariants as store
+use Rattle.afs_num.specs.declared.types.Node.{Node}
+use Rattle.afs_cell.specs.declared.faults.SetupFault.{SetupFault}
+use Rattle.afs_cell.specs.declared.faults.SetupFault.TheVariants as setup
+use Rattle.afs_cell.specs.declared.setup.Rooms.{Rooms}
+
+-- want of memory, or the disk of this node
+abbrev pub refused_as : StoreFault → Node → SetupFault
+refused_as store.OutOfMemory node = setup.OutOfMemory
+refused_as fault node = setup.Disk node
+
+-- there is room for so many seats and disks
+pub record HaveRoom {D : Type 0} (n : ℕ) (r : Rooms D) : Type 0 where
+  pub no_seats : r.seats.items ≡ []
+  pub none_back : r.back.items ≡ []
+  pub for_seats : n ≤ vec_capacity r.seats
+  pub for_back : n ≤ vec_capacity r.back

@@ -1,4 +1,0 @@
-mod DisksRead
-pub mod FirstSeated
-mod FirstStores
-mod GivenBack

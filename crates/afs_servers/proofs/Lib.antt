@@ -1,4 +1,0 @@
-mod Falling
-mod Lifted
-mod Picked
-mod Seats

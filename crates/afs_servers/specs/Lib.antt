@@ -1,4 +1,0 @@
-pub mod Happening
-pub mod Hearing
-pub mod Picks
-pub mod Ready
