@@ -38,7 +38,7 @@ fn put_last<T>(all: &mut Vec<T>, one: T)
 }
 
 /// What the disks of these servers keep, in order of number. Where there is no memory for so many, they come back.
-pub fn left_of<D: Disk + Drop>(
+pub fn left_of<D: Disk>(
     alloc: Global,
     seats: Vec<ServerSeat<D>>,
 ) -> Result<Vec<Left<VolStore<D>, D>>, Vec<ServerSeat<D>>>
@@ -52,9 +52,12 @@ pub fn left_of<D: Disk + Drop>(
         return Err(seats);
     };
     let mut node = 0;
-    for seat in seats {
+    let mut seats = seats.into_iter();
+    while let Some(seat) = seats.next() {
         node += 1;
         put_last(&mut left, left_at(alloc, node, seat));
     }
+    // A loop that could let a server go would be proved for all of its parts.
+    seats.destroy_empty();
     Ok(left)
 }

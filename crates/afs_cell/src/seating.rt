@@ -22,7 +22,7 @@ use afs_scripts::laws::{numbers_ascend, set_ups_are_accepted};
 use afs_server::FileServer;
 use afs_setup::create;
 use afs_volstore::VolStore;
-use std::alloc::Global;
+use std::alloc::{AllocError, Global};
 
 // ---- one server
 
@@ -84,21 +84,27 @@ fn server_at_first<D: Disk>(
 // ---- all servers
 
 /// Room for the seats of a cell's servers, and for their disks to go back.
-#[derive(Drop)]
 pub struct Rooms<D: Disk> {
     pub seats: Vec<ServerSeat<D>>,
     pub back: Vec<Lent<D>>,
 }
 
-impl<D: Disk + Drop> Rooms<D> {
+impl<D: Disk> Rooms<D> {
     /// Such room for so many.
     pub fn with_room(alloc: Global, servers: usize) -> Mem<Rooms<D>>
         ensures { IfOk result (HaveRoom servers) }
     {
-        Ok(Rooms {
-            seats: Vec::with_capacity(alloc, servers)?,
-            back: Vec::with_capacity(alloc, servers)?,
-        })
+        let Ok(seats) = Vec::with_capacity(alloc, servers) else {
+            return Err(AllocError);
+        };
+        match Vec::with_capacity(alloc, servers) {
+            Ok(back) => Ok(Rooms { seats, back }),
+            Err(refused) => {
+                // No server sits there yet.
+                seats.destroy_empty();
+                Err(refused)
+            }
+        }
     }
 }
 
