@@ -6,7 +6,7 @@ use Rattle.afs_num.specs.declared.faults.StoreFault.TheVariants as store
 use Rattle.afs_num.specs.declared.types.Node.{Node}
 use Rattle.afs_cell.specs.declared.faults.SetupFault.{SetupFault}
 use Rattle.afs_cell.specs.declared.faults.SetupFault.TheVariants as setup
-use Rattle.afs_cell.specs.declared.setup.Rooms.{Rooms}
+use Rattle.afs_cell.specs.declared.seating.Rooms.{Rooms}
 
 -- want of memory, or the disk of this node
 abbrev pub refused_as : StoreFault → Node → SetupFault
