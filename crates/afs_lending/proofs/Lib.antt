@@ -1,2 +1,4 @@
+pub mod Behind
 pub mod Lends
 pub mod Returns
+pub mod Written

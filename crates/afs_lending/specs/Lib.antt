@@ -1,1 +1,4 @@
+pub mod Behind
 pub mod Lending
+pub mod Outside
+pub mod Parts

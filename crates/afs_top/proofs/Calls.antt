@@ -8,7 +8,7 @@ use Rattle.afs_grammar.specs.Lines.{script_of}
 use Rattle.afs_outside.specs.Outside.{Gives, HadAll}
 use Rattle.afs_command.specs.Forms.{form_in, Asks, HaveForm}
 use Rattle.afs_command.specs.Spans.{RoseBy, Span}
-use Rattle.afs_telling.specs.Outside.{OneRose, Outside}
+use Rattle.afs_lending.specs.Outside.{OneRose, Outside}
 use Rattle.afs_command.specs.Reading.{GivesNone, GivesScript, level}
 use Rattle.afs_top.specs.Top.{AtBankFault, DoesNothing, Ends, EndsReplay, EndsRun, IsBeforeReplay, IsScript, LendingFails, LendsAll}
 use Rattle.afs_command.specs.declared.statuses.Form.{Form}

@@ -33,9 +33,9 @@ use Rattle.afs_final.specs.declared.reading.Left.{Left}
 use Rattle.afs_disk.specs.Fuses.{last_count}
 use Rattle.afs_lending.specs.Lending.{kept_disks, lends, with_faults, AreLent, AreUnused, GivesBackBut, GoBack, HasFailed}
 use Rattle.afs_command.specs.Spans.{span, IsUnchanged, RoseBy, Span}
-use Rattle.afs_telling.specs.Outside.{DidNotRise, Outside, SoManyFailed, Writes, WritesAll, WritesText, WritesWhole}
+use Rattle.afs_lending.specs.Outside.{DidNotRise, Outside, SoManyFailed, Writes, WritesAll, WritesText, WritesWhole}
 use Rattle.afs_top.specs.Parts.{set_up_status}
-use Rattle.afs_telling.specs.Parts.{lend_status, returned, TellsLeft}
+use Rattle.afs_lending.specs.Parts.{lend_status, returned, TellsLeft}
 use Rattle.afs_top.specs.Top.{lends_of, no_other, one_other, AreAllBut, AreOfServers, AtBankFault, EndsReplay, EndsRun, GivesBack, GivesBackLent, GivesBackThose, IsFew, IsFull, IsLegalRun, IsServerOf, LendingLeaves, MissedByTheBank, NoneIsMissing, NotToItsEnd, ReadingFails, Replays, ReplaysFirst, ReplaysSome, ReplaysUnread, SetUpLeaves, SomeOfIt, ToItsEnd, WritesEntries, WritesRun}
 use Rattle.afs_command.specs.declared.statuses.Status.{Status}
 use Rattle.afs_command.specs.declared.statuses.Status.TheVariants as statuses

@@ -6,7 +6,7 @@ use Rattle.afs_history.specs.declared.scripts.Script.{Script}
 use Rattle.afs_cell.specs.Since.{whole, IsWorldSince}
 use Rattle.afs_cell.specs.Steps.{HasPlayedAll, HasPlayedFirst, HasPlayedSome}
 use Rattle.afs_cell.specs.Worlds.{most_entries, AllTell, IsWorld, WorldState}
-use Rattle.afs_telling.specs.Outside.{Outside}
+use Rattle.afs_lending.specs.Outside.{Outside}
 use Rattle.afs_top.specs.Playing.{EndsSo, IsTold, IsWritten}
 use Rattle.afs_top.specs.Top.{EndsRun}
 use Rattle.afs_top.specs.declared.playing.Ended.{Ended}

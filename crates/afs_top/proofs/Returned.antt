@@ -18,8 +18,8 @@ use Rattle.afs_cell.specs.Worlds.{most_entries, AllTell, HistoryTold, IsWorld, W
 use Rattle.afs_final.specs.Reading.{fault_in, part, AreFound}
 use Rattle.afs_final.specs.declared.reading.Left.{Left}
 use Rattle.afs_lending.specs.Lending.{kept_disks, with_faults, GivesBackBut, GoBack}
-use Rattle.afs_telling.specs.Outside.{Outside, Writes}
-use Rattle.afs_telling.specs.Parts.{returned, TellsLeft}
+use Rattle.afs_lending.specs.Outside.{Outside, Writes}
+use Rattle.afs_lending.specs.Parts.{returned, TellsLeft}
 use Rattle.afs_top.specs.Playing.{world_text, IsWritten}
 use Rattle.afs_top.specs.Top.{EndsRun, IsFew, WritesEntries}
 use Rattle.afs_command.specs.declared.statuses.Status.{Status}

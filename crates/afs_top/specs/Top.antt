@@ -28,7 +28,7 @@ use Rattle.afs_cell.specs.Worlds.{most_entries, own_falls}
 use Rattle.afs_lending.specs.Lending.{lends, AreLent, AreUnused, GivesBackBut}
 use Rattle.afs_command.specs.Forms.{Asks, HaveForm}
 use Rattle.afs_command.specs.Spans.{IsUnchanged, RoseBy, Span}
-use Rattle.afs_telling.specs.Outside.{DidNotRise, Outside, SoManyFailed, Writes, WritesAll}
+use Rattle.afs_lending.specs.Outside.{DidNotRise, Outside, SoManyFailed, Writes, WritesAll}
 use Rattle.afs_command.specs.declared.statuses.Form.TheVariants.{Replay}
 use Rattle.afs_command.specs.declared.statuses.Status.{Status}
 use Rattle.afs_command.specs.declared.statuses.Status.TheVariants as statuses

@@ -6,7 +6,7 @@ ghost use Rattle.afs_cell.specs.Worlds.{most_entries, AllTell, IsWorld};
 ghost use Rattle.afs_text.specs.KeptText.{kept_entries_text};
 ghost use Rattle.afs_text.specs.Telling.{sent_by};
 ghost use Rattle.afs_top.specs.Playing.{IsTold};
-ghost use Rattle.afs_telling.specs.Behind.{PutsBehind};
+ghost use Rattle.afs_lending.specs.Behind.{PutsBehind};
 
 use afs_cell::{Played, World};
 use afs_disk::Disk;

@@ -4,7 +4,7 @@ ghost use Rattle.std.specs.Prelude.{◌≡◌, ◌⊎◌, ◌+◌, ℕ, map, str
 ghost use Rattle.afs_outside.specs.Outside.{Gives, Puts, TakesAtMost};
 ghost use Rattle.afs_command.specs.Forms.{HaveForm};
 ghost use Rattle.afs_command.specs.Spans.{span, RoseBy};
-ghost use Rattle.afs_telling.specs.Outside.{OneRose};
+ghost use Rattle.afs_lending.specs.Outside.{OneRose};
 ghost use Rattle.afs_command.specs.Statuses.{Shows, status_line, status_number};
 ghost use Rattle.afs_top.specs.Top.{Ends, IsBeforeReplay, IsScript, LendingLeaves, SetUpLeaves};
 

@@ -22,7 +22,7 @@ use afs_law::laws::{runs_are_legal, runs_end_well};
 use afs_lending::{give_back, lend_all};
 use afs_outside::outside::{Failed, Sink};
 use afs_scripts::laws::volumes_are_in_cell;
-use afs_telling::telling::{give_up, put_no_more, returned, status_of_lend, tell_left, tell_none};
+use afs_lending::telling::{give_up, put_no_more, returned, status_of_lend, tell_left, tell_none};
 use std::alloc::Global;
 
 /// The status where the cell wasn't set up.

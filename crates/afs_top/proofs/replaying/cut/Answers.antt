@@ -1,5 +1,5 @@
 use Rattle.afs_top.proofs.Returned.{cut_of}
-use Rattle.afs_telling.proofs.Written.{passed_by}
+use Rattle.afs_lending.proofs.Written.{passed_by}
 use Rattle.afs_top.proofs.replaying.cut.Goals as goal
 
 pub returns-clause-ends : goal.returns-clause-ends

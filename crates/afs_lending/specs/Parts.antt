@@ -5,7 +5,7 @@ use Rattle.afs_disk.specs.declared.bank.LendFault.{LendFault}
 use Rattle.afs_disk.specs.declared.bank.LendFault.TheVariants as lending
 use Rattle.afs_outside.specs.Outside.{AppendsFront}
 use Rattle.afs_command.specs.Spans.{RoseBy, Span}
-use Rattle.afs_telling.specs.Outside.{WritesText, WritesWhole}
+use Rattle.afs_lending.specs.Outside.{WritesText, WritesWhole}
 use Rattle.afs_command.specs.declared.statuses.Status.{Status}
 use Rattle.afs_command.specs.declared.statuses.Status.TheVariants as statuses
 

@@ -7,8 +7,8 @@ use Rattle.afs_disk.specs.declared.bank.LendFault.TheVariants as lending
 use Rattle.afs_outside.specs.declared.outside.Failed.{Failed}
 use Rattle.afs_outside.specs.Outside.{AppendsFront, Puts}
 use Rattle.afs_command.specs.Spans.{span, Span, RoseBy}
-use Rattle.afs_telling.specs.Outside.{WritesText}
-use Rattle.afs_telling.specs.Parts.{lend_status, TellsLeft}
+use Rattle.afs_lending.specs.Outside.{WritesText}
+use Rattle.afs_lending.specs.Parts.{lend_status, TellsLeft}
 use Rattle.afs_command.specs.declared.statuses.Status.{Status}
 use Rattle.afs_command.specs.declared.statuses.Status.TheVariants as statuses
 use Rattle.std.proofs.lemmas.Bool.Decides.{leb_tells}

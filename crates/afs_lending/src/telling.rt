@@ -8,14 +8,14 @@ ghost use Rattle.afs_final.specs.Telling.{final_of};
 ghost use Rattle.afs_lending.specs.Lending.{with_faults, GoBack};
 ghost use Rattle.afs_text.specs.FinalText.{final_text};
 ghost use Rattle.afs_command.specs.Spans.{span};
-ghost use Rattle.afs_telling.specs.Outside.{WritesText};
-ghost use Rattle.afs_telling.specs.Parts.{lend_status, returned, TellsLeft};
-ghost use Rattle.afs_telling.specs.Behind.{PutsBehind};
+ghost use Rattle.afs_lending.specs.Outside.{WritesText};
+ghost use Rattle.afs_lending.specs.Parts.{lend_status, returned, TellsLeft};
+ghost use Rattle.afs_lending.specs.Behind.{PutsBehind};
 
+use crate::lending::give_back_all;
 use afs_command::statuses::Status;
 use afs_disk::{Bank, Disk, Disks, LendFault};
 use afs_final::{Kept, Left, fault_in, put_final, told_of};
-use afs_lending::give_back_all;
 use afs_num::devices::Failed as BankFailed;
 use afs_outside::outside::{Failed, Sink, pass_on};
 use afs_volstore::VolStore;

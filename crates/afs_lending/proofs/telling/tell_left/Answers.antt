@@ -1,8 +1,8 @@
 use Rattle.std.proofs.Common.{refl, rules, ap, sym, ◌∙◌}
 use Rattle.afs_final.specs.Telling.{final_of}
-use Rattle.afs_telling.proofs.Written.{all_told, no_memory, not_all_told, untold}
-use Rattle.afs_telling.proofs.Behind.{puts_no_more}
-use Rattle.afs_telling.proofs.telling.tell_left.Goals as goal
+use Rattle.afs_lending.proofs.Written.{all_told, no_memory, not_all_told, untold}
+use Rattle.afs_lending.proofs.Behind.{puts_no_more}
+use Rattle.afs_lending.proofs.telling.tell_left.Goals as goal
 
 pub returns-in-Some-clause-told : goal.returns-in-Some-clause-told
 returns-in-Some-clause-told g c = λ text start count p. untold c.args.written text _ _ c.in-Some.why _ _ _ _ c.tell_none.ensures.status (search rules) (c.tell_none.ensures.written text start count p)
