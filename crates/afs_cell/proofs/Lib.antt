@@ -31,3 +31,9 @@ mod GivenBack
 pub mod Whole
 mod Since
 mod NextSince
+mod Ending
+mod LentCounts
+mod Ended
+mod Returned
+mod WrittenOn
+mod Played

@@ -15,3 +15,5 @@ pub mod Picks
 pub mod UnderWay
 pub mod Since
 pub mod UnderWaySince
+pub mod Writing
+pub mod Replays

@@ -7,6 +7,8 @@ use Rattle.afs_num.specs.declared.types.Node.{Node}
 use Rattle.afs_cell.specs.declared.faults.SetupFault.{SetupFault}
 use Rattle.afs_cell.specs.declared.faults.SetupFault.TheVariants as setup
 use Rattle.afs_cell.specs.declared.seating.Rooms.{Rooms}
+use Rattle.afs_command.specs.declared.statuses.Status.{Status}
+use Rattle.afs_command.specs.declared.statuses.Status.TheVariants as statuses
 
 -- want of memory, or the disk of this node
 abbrev pub refused_as : StoreFault → Node → SetupFault
@@ -19,3 +21,8 @@ pub record HaveRoom {D : Type 0} (n : ℕ) (r : Rooms D) : Type 0 where
   pub none_back : r.back.items ≡ []
   pub for_seats : n ≤ vec_capacity r.seats
   pub for_back : n ≤ vec_capacity r.back
+
+-- the status of the program then
+abbrev pub set_up_status : SetupFault → Status
+set_up_status (setup.Disk n) = statuses.BankFault
+set_up_status setup.OutOfMemory = statuses.OutOfMemory

@@ -1,4 +1,5 @@
-//! The cell in one thread: its servers with their disks, its clients, the messages under way, and what is told of its run.
+//! The cell in one thread: its servers with their disks, its clients and the messages under way; and how a script is played there, and
+//! told.
 #![tactic(auto)]
 
 mod disks;
@@ -7,11 +8,14 @@ pub mod faults;
 mod giving;
 mod playing;
 mod reading;
+mod replaying;
 mod seating;
 mod servers;
 mod setup;
 mod world;
+mod writing;
 
 pub use playing::Played;
+pub use replaying::replay;
 pub use setup::set_up;
 pub use world::World;

@@ -10,7 +10,8 @@ use Rattle.afs_command.specs.Forms.{form_in, Asks, HaveForm}
 use Rattle.afs_command.specs.Spans.{RoseBy, Span}
 use Rattle.afs_lending.specs.Outside.{OneRose, Outside}
 use Rattle.afs_command.specs.Reading.{GivesNone, GivesScript, level}
-use Rattle.afs_top.specs.Top.{AtBankFault, DoesNothing, Ends, EndsReplay, EndsRun, IsBeforeReplay, IsScript, LendingFails, LendsAll}
+use Rattle.afs_cell.specs.Replays.{AtBankFault, EndsReplay, EndsRun, LendingFails, LendsAll}
+use Rattle.afs_top.specs.Top.{DoesNothing, Ends, IsBeforeReplay, IsScript}
 use Rattle.afs_command.specs.declared.statuses.Form.{Form}
 use Rattle.afs_command.specs.declared.statuses.Form.TheVariants.{Replay}
 use Rattle.afs_command.specs.declared.statuses.Status.{Status}

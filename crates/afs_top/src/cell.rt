@@ -5,9 +5,10 @@ ghost use Rattle.afs_outside.specs.Outside.{Gives, TakesAtMost};
 ghost use Rattle.afs_command.specs.Forms.{HaveForm};
 ghost use Rattle.afs_command.specs.Spans.{span, RoseBy};
 ghost use Rattle.afs_lending.specs.Outside.{OneRose};
-ghost use Rattle.afs_top.specs.Top.{Ends, IsBeforeReplay, IsScript, LendingLeaves, SetUpLeaves};
+ghost use Rattle.afs_cell.specs.Replays.{LendingLeaves, SetUpLeaves};
+ghost use Rattle.afs_top.specs.Top.{Ends, IsBeforeReplay, IsScript};
 
-use crate::replaying::replay;
+use afs_cell::replay;
 use afs_command::scripts::script_in;
 use afs_command::statuses::{Form, Status, form_of};
 use afs_disk::Bank;

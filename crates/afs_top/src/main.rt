@@ -2,9 +2,7 @@
 #![tactic(auto)]
 
 pub mod cell;
-mod playing;
 pub mod program;
-mod replaying;
 mod streams;
 
 use afs_command::statuses::Status;

@@ -6,7 +6,8 @@ ghost use Rattle.afs_command.specs.Forms.{HaveForm};
 ghost use Rattle.afs_command.specs.Spans.{span, RoseBy};
 ghost use Rattle.afs_lending.specs.Outside.{OneRose};
 ghost use Rattle.afs_command.specs.Statuses.{Shows, status_line, status_number};
-ghost use Rattle.afs_top.specs.Top.{Ends, IsBeforeReplay, IsScript, LendingLeaves, SetUpLeaves};
+ghost use Rattle.afs_cell.specs.Replays.{LendingLeaves, SetUpLeaves};
+ghost use Rattle.afs_top.specs.Top.{Ends, IsBeforeReplay, IsScript};
 
 use crate::cell::cell_main;
 use afs_command::statuses::Status;

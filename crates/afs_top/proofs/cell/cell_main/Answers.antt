@@ -2,7 +2,8 @@ use Rattle.std.specs.Prelude.{◌≡◌, Some, IsSome}
 use Rattle.std.proofs.Common.{rules, map, string_bytes, refl, inl, sym, ap, ◌∙◌}
 use Rattle.afs_command.specs.Forms.{form_in, HaveForm}
 use Rattle.afs_command.specs.Spans.{span}
-use Rattle.afs_top.specs.Top.{Ends, LendingLeaves, SetUpLeaves}
+use Rattle.afs_cell.specs.Replays.{LendingLeaves, SetUpLeaves}
+use Rattle.afs_top.specs.Top.{Ends}
 use Rattle.afs_top.proofs.Calls.{completes_replayed, ends_read, ends_unread, have_form}
 use Rattle.afs_top.proofs.cell.cell_main.Goals as goal
 

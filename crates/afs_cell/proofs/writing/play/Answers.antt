@@ -1,6 +1,6 @@
 -- Each event is written, and let go.
-use Rattle.afs_top.proofs.WrittenOn.{all_now, begins_on, few_now, plays_on, smaller, told_all, told_first, told_some, way_since}
-use Rattle.afs_top.proofs.playing.play.Goals as goal
+use Rattle.afs_cell.proofs.WrittenOn.{all_now, begins_on, few_now, plays_on, smaller, told_all, told_first, told_some, way_since}
+use Rattle.afs_cell.proofs.writing.play.Goals as goal
 
 pub loop-sink-init : goal.loop-sink-init
 loop-sink-init g c = begins_on g.D.Disk.seen g.D.Disk.may_leave g.D.Disk.faults g.D.Disk.limit c.args.wire c.args.world c.schedule-schedule.result _ _ c.requires.world c.requires.first c.schedule-schedule.ensures

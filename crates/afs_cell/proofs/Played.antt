@@ -7,13 +7,13 @@ use Rattle.afs_cell.specs.Since.{whole, IsWorldSince}
 use Rattle.afs_cell.specs.Steps.{HasPlayedAll, HasPlayedFirst, HasPlayedSome}
 use Rattle.afs_cell.specs.Worlds.{most_entries, AllTell, IsWorld, WorldState}
 use Rattle.afs_lending.specs.Outside.{Outside}
-use Rattle.afs_top.specs.Playing.{EndsSo, IsTold, IsWritten}
-use Rattle.afs_top.specs.Top.{EndsRun}
-use Rattle.afs_top.specs.declared.playing.Ended.{Ended}
-use Rattle.afs_top.specs.declared.playing.Ended.TheVariants as ended
-use Rattle.afs_top.specs.declared.playing.Told.{Told}
+use Rattle.afs_cell.specs.Writing.{EndsSo, IsTold, IsWritten}
+use Rattle.afs_cell.specs.Replays.{EndsRun}
+use Rattle.afs_cell.specs.declared.writing.Ended.{Ended}
+use Rattle.afs_cell.specs.declared.writing.Ended.TheVariants as ended
+use Rattle.afs_cell.specs.declared.writing.Told.{Told}
 use Rattle.afs_command.specs.declared.statuses.Status.{Status}
-use Rattle.afs_top.proofs.Ended.{played_on}
+use Rattle.afs_cell.proofs.Ended.{played_on}
 
 module _ {D : Type 0} (seen : D → Option (List ℕ)) (may_leave : D → List ℕ → Type 0) (faults limit : D → ℕ) (s : Script) (wire : Bool) (tells : Type 0) (old new : Option (List ℕ)) (before after : ℕ) (t : Told (WorldState D)) (told : IsTold seen may_leave faults limit s wire tells old new before after t) where
   script_of : t.world.script ≡ s

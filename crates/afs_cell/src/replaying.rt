@@ -8,21 +8,22 @@ ghost use Rattle.afs_cell.specs.Lends.{AreLent, LentTell};
 ghost use Rattle.afs_cell.specs.Worlds.{most_entries, AllTell, HistoryTold};
 ghost use Rattle.afs_lending.specs.Lending.{AreUnused};
 ghost use Rattle.afs_command.specs.Spans.{span};
-ghost use Rattle.afs_top.specs.Parts.{set_up_status};
-ghost use Rattle.afs_top.specs.Playing.{IsWritten};
-ghost use Rattle.afs_top.specs.Top.{EndsReplay, EndsRun, LendingLeaves, SetUpLeaves};
+ghost use Rattle.afs_cell.specs.Refusing.{set_up_status};
+ghost use Rattle.afs_cell.specs.Writing.{IsWritten};
+ghost use Rattle.afs_cell.specs.Replays.{EndsReplay, EndsRun, LendingLeaves, SetUpLeaves};
 
-use crate::playing::{Ended, Told, play};
-use afs_cell::faults::SetupFault;
-use afs_cell::{World, set_up};
+use crate::faults::SetupFault;
+use crate::setup::set_up;
+use crate::world::World;
+use crate::writing::{Ended, Told, play};
 use afs_command::statuses::Status;
 use afs_disk::{Bank, Disk, Disks, LendFault, Place};
 use afs_history::scripts::Script;
 use afs_law::laws::{runs_are_legal, runs_end_well};
+use afs_lending::telling::{give_up, put_no_more, returned, status_of_lend, tell_left, tell_none};
 use afs_lending::{give_back, lend_all};
 use afs_outside::outside::{Failed, Sink};
 use afs_scripts::laws::volumes_are_in_cell;
-use afs_lending::telling::{give_up, put_no_more, returned, status_of_lend, tell_left, tell_none};
 use std::alloc::Global;
 
 /// The status where the cell wasn't set up.
@@ -142,7 +143,7 @@ fn replay_over<K: Sink, B: Bank<D: Drop>>(
 }
 
 /// Plays the script over disks of this place, and writes its text, with the bytes of each message where `wire` asks for them.
-pub(crate) fn replay<K: Sink, B: Bank<D: Drop>>(
+pub fn replay<K: Sink, B: Bank<D: Drop>>(
     alloc: Global,
     script: &Script,
     wire: bool,

@@ -5,10 +5,11 @@ ghost use Rattle.afs_cell.specs.Steps.{IsFirst};
 ghost use Rattle.afs_cell.specs.Worlds.{most_entries, AllTell, IsWorld};
 ghost use Rattle.afs_text.specs.KeptText.{kept_entries_text};
 ghost use Rattle.afs_text.specs.Telling.{sent_by};
-ghost use Rattle.afs_top.specs.Playing.{IsTold};
+ghost use Rattle.afs_cell.specs.Writing.{IsTold};
 ghost use Rattle.afs_lending.specs.Behind.{PutsBehind};
 
-use afs_cell::{Played, World};
+use crate::playing::Played;
+use crate::world::World;
 use afs_disk::Disk;
 use afs_outside::outside::{Failed, Sink};
 use afs_text::TextPiece;

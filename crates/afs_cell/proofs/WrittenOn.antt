@@ -24,9 +24,9 @@ use Rattle.afs_cell.specs.Worlds.{most_entries, none_gone, AllTell, HistoryTold,
 use Rattle.afs_cell.specs.declared.playing.Played.TheVariants as played
 use Rattle.afs_cell.proofs.UnderWay.{begins}
 use Rattle.afs_cell.proofs.Whole.{before_more, sent_by-append, whole_more, with_more}
-use Rattle.afs_top.specs.Playing.{world_text, IsTold, PlaysOn}
+use Rattle.afs_cell.specs.Writing.{world_text, IsTold, PlaysOn}
 use Rattle.afs_lending.specs.Behind.{PutsBehind}
-use Rattle.afs_top.specs.declared.playing.Ended.TheVariants as ended
+use Rattle.afs_cell.specs.declared.writing.Ended.TheVariants as ended
 
 -- ---- the text of the whole world
 

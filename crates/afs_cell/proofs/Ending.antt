@@ -29,7 +29,7 @@ use Rattle.afs_final.specs.declared.reading.Left.{Left}
 use Rattle.afs_final.specs.declared.reading.Left.TheVariants as left
 use Rattle.afs_lending.specs.Lending.{kept_disks, GivesBackBut}
 use Rattle.afs_command.specs.Spans.{RoseBy, Span}
-use Rattle.afs_top.specs.Top.{no_other, AreKept, AreOf, GivesBack, GivesBackThose, IsLegalRun, IsServerOf, MayKeep}
+use Rattle.afs_cell.specs.Replays.{no_other, AreKept, AreOf, GivesBack, GivesBackThose, IsLegalRun, IsServerOf, MayKeep}
 
 some_of : {A : Type 0} (o : Option A) → IsSome o → (x : A) × (o ≡ Some x)
 some_of {A} None some = absurd cc

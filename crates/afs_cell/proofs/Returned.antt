@@ -20,12 +20,12 @@ use Rattle.afs_final.specs.declared.reading.Left.{Left}
 use Rattle.afs_lending.specs.Lending.{kept_disks, with_faults, GivesBackBut, GoBack}
 use Rattle.afs_lending.specs.Outside.{Outside, Writes}
 use Rattle.afs_lending.specs.Parts.{returned, TellsLeft}
-use Rattle.afs_top.specs.Playing.{world_text, IsWritten}
-use Rattle.afs_top.specs.Top.{EndsRun, IsFew, WritesEntries}
+use Rattle.afs_cell.specs.Writing.{world_text, IsWritten}
+use Rattle.afs_cell.specs.Replays.{EndsRun, IsFew, WritesEntries}
 use Rattle.afs_command.specs.declared.statuses.Status.{Status}
 use Rattle.afs_command.specs.declared.statuses.Status.TheVariants as statuses
-use Rattle.afs_top.proofs.Ended.{all_played, ended, entries_of, stopped, was_cut, GoesBack, HasEnded}
-use Rattle.afs_top.proofs.Ending.{lent_length}
+use Rattle.afs_cell.proofs.Ended.{all_played, ended, entries_of, stopped, was_cut, GoesBack, HasEnded}
+use Rattle.afs_cell.proofs.Ending.{lent_length}
 
 -- ---- the disks that were read
 

@@ -34,13 +34,13 @@ use Rattle.afs_disk.specs.Fuses.{last_count}
 use Rattle.afs_lending.specs.Lending.{kept_disks, lends, with_faults, AreLent, AreUnused, GivesBackBut, GoBack, HasFailed}
 use Rattle.afs_command.specs.Spans.{span, IsUnchanged, RoseBy, Span}
 use Rattle.afs_lending.specs.Outside.{DidNotRise, Outside, SoManyFailed, Writes, WritesAll, WritesText, WritesWhole}
-use Rattle.afs_top.specs.Parts.{set_up_status}
+use Rattle.afs_cell.specs.Refusing.{set_up_status}
 use Rattle.afs_lending.specs.Parts.{lend_status, returned, TellsLeft}
-use Rattle.afs_top.specs.Top.{lends_of, no_other, one_other, AreAllBut, AreOfServers, AtBankFault, EndsReplay, EndsRun, GivesBack, GivesBackLent, GivesBackThose, IsFew, IsFull, IsLegalRun, IsServerOf, LendingLeaves, MissedByTheBank, NoneIsMissing, NotToItsEnd, ReadingFails, Replays, ReplaysFirst, ReplaysSome, ReplaysUnread, SetUpLeaves, SomeOfIt, ToItsEnd, WritesEntries, WritesRun}
+use Rattle.afs_cell.specs.Replays.{lends_of, no_other, one_other, AreAllBut, AreOfServers, AtBankFault, EndsReplay, EndsRun, GivesBack, GivesBackLent, GivesBackThose, IsFew, IsFull, IsLegalRun, IsServerOf, LendingLeaves, MissedByTheBank, NoneIsMissing, NotToItsEnd, ReadingFails, Replays, ReplaysFirst, ReplaysSome, ReplaysUnread, SetUpLeaves, SomeOfIt, ToItsEnd, WritesEntries, WritesRun}
 use Rattle.afs_command.specs.declared.statuses.Status.{Status}
 use Rattle.afs_command.specs.declared.statuses.Status.TheVariants as statuses
-use Rattle.afs_top.proofs.Counts.{counts_lent, failed_among, failed_at, failed_counted, found_counted, none_counted, none_rose, one_disk_failed, one_rose, rose_at, rose_once, AreCounted, IsAmong, OneFailed}
-use Rattle.afs_top.proofs.Ending.{found_come, found_count, given_so, left_so, legal_run, length_told, lent_come, lent_length, no_others, read_so, Missing}
+use Rattle.afs_cell.proofs.LentCounts.{counts_lent, failed_among, failed_at, failed_counted, found_counted, none_counted, none_rose, one_disk_failed, one_rose, rose_at, rose_once, AreCounted, IsAmong, OneFailed}
+use Rattle.afs_cell.proofs.Ending.{found_come, found_count, given_so, left_so, legal_run, length_told, lent_come, lent_length, no_others, read_so, Missing}
 
 -- ---- the disks go back
 

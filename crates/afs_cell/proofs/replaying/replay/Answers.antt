@@ -1,6 +1,6 @@
 use Rattle.std.proofs.Common.{length, refl, arith}
-use Rattle.afs_top.proofs.Ended.{leaves_lent, lent_before, none_failed, not_lent, one_failed, replayed, rose_before}
-use Rattle.afs_top.proofs.replaying.replay.Goals as goal
+use Rattle.afs_cell.proofs.Ended.{leaves_lent, lent_before, none_failed, not_lent, one_failed, replayed, rose_before}
+use Rattle.afs_cell.proofs.replaying.replay.Goals as goal
 
 pub lend_all-requires : goal.lend_all-requires
 lend_all-requires g c = omega (arith, c.requires.script.servers.1)

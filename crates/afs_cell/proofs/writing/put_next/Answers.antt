@@ -3,7 +3,7 @@ use Rattle.std.proofs.Common.{ap, arith, length, length-drop, rules, ◌≡◌, 
 use Rattle.afs_num.specs.declared.types.Parcel.{Parcel}
 use Rattle.afs_text.specs.Telling.{sent_by}
 use Rattle.afs_lending.proofs.Behind.{puts_behind, puts_no_more}
-use Rattle.afs_top.proofs.playing.put_next.Goals as goal
+use Rattle.afs_cell.proofs.writing.put_next.Goals as goal
 
 pub put_entries-requires-clause-all : goal.put_entries-requires-clause-all
 put_entries-requires-clause-all g c =

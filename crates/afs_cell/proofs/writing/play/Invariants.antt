@@ -1,7 +1,7 @@
 use Rattle.std.proofs.Common.{◌+◌, ◌-◌, length}
 use Rattle.afs_cell.specs.Worlds.{most_entries, AllTell}
-use Rattle.afs_top.specs.Playing.{PlaysOn}
-use Rattle.afs_top.proofs.playing.play.Given as goal
+use Rattle.afs_cell.specs.Writing.{PlaysOn}
+use Rattle.afs_cell.proofs.writing.play.Given as goal
 
 abbrev pub invariant-loop-sink : goal.invariant-loop-sink
 invariant-loop-sink g l =

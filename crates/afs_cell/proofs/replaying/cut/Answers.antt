@@ -1,6 +1,6 @@
-use Rattle.afs_top.proofs.Returned.{cut_of}
+use Rattle.afs_cell.proofs.Returned.{cut_of}
 use Rattle.afs_lending.proofs.Written.{passed_by}
-use Rattle.afs_top.proofs.replaying.cut.Goals as goal
+use Rattle.afs_cell.proofs.replaying.cut.Goals as goal
 
 pub returns-clause-ends : goal.returns-clause-ends
 returns-clause-ends g c = λ wire start count gone told.

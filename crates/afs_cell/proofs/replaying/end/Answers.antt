@@ -1,8 +1,8 @@
 use Rattle.std.proofs.Common.{arith, refl, ◌∙◌}
 use Rattle.afs_cell.specs.Since.{whole}
 use Rattle.afs_cell.specs.Lends.{lent_from}
-use Rattle.afs_top.proofs.Returned.{end_of, few_left, unread_of}
-use Rattle.afs_top.proofs.replaying.end.Goals as goal
+use Rattle.afs_cell.proofs.Returned.{end_of, few_left, unread_of}
+use Rattle.afs_cell.proofs.replaying.end.Goals as goal
 
 pub tell_left-status-requires : goal.tell_left-status-requires
 tell_left-status-requires g c = record {

@@ -10,9 +10,9 @@ use Rattle.afs_cell.specs.Since.{whole, IsBefore}
 use Rattle.afs_cell.specs.Steps.{HasPlayedAll, HasPlayedFirst, HasPlayedSome}
 use Rattle.afs_cell.specs.UnderWay.{IsUnderWay}
 use Rattle.afs_cell.specs.Worlds.{most_entries, AllTell, HistoryTold, IsWorld, WorldState}
-use Rattle.afs_top.specs.declared.playing.Ended.{Ended}
-use Rattle.afs_top.specs.declared.playing.Ended.TheVariants as ended
-use Rattle.afs_top.specs.declared.playing.Told.{Told}
+use Rattle.afs_cell.specs.declared.writing.Ended.{Ended}
+use Rattle.afs_cell.specs.declared.writing.Ended.TheVariants as ended
+use Rattle.afs_cell.specs.declared.writing.Told.{Told}
 
 -- the text of a world's history, with the bytes of each message or without
 abbrev pub world_text : {D : Type 0} → Bool → WorldState D → List ℕ
