@@ -51,12 +51,12 @@ loop-seat-preserved g c =
 
 pub returns-clause-found : goal.returns-clause-found
 returns-clause-found g c =
-    let ended = subst (λ (o : Option (ServerSeat g.row.D.Denot)). into_iter_steps c.loop-seat.seats o c.next.new.self) c.in_default.is c.next.ensures.cases in
+    let ended = subst (λ (o : Option (ServerSeat g.row.D.Denot)). into_iter_steps c.loop-seat.seats o c.next.new.self) c.in_default-next.is c.next.ensures.cases in
     let none : into_iter_items c.loop-seat.seats ≡ [] = none_left (into_iter_items c.loop-seat.seats) c.loop-seat.seats.rest.len c.loop-seat.seats.rest.ok.0 ended.0 in
     all_found g.D.Disk.seen g.D.Disk.faults g.D.Disk.limit c.args.seats.items c.loop-seat.node (into_iter_items c.loop-seat.seats) c.loop-seat.left.items none c.loop-seat.invariant.all
 
 pub returns-clause-kept : goal.returns-clause-kept
 returns-clause-kept g c =
-    let ended = subst (λ (o : Option (ServerSeat g.row.D.Denot)). into_iter_steps c.loop-seat.seats o c.next.new.self) c.in_default.is c.next.ensures.cases in
+    let ended = subst (λ (o : Option (ServerSeat g.row.D.Denot)). into_iter_steps c.loop-seat.seats o c.next.new.self) c.in_default-next.is c.next.ensures.cases in
     let none : into_iter_items c.loop-seat.seats ≡ [] = none_left (into_iter_items c.loop-seat.seats) c.loop-seat.seats.rest.len c.loop-seat.seats.rest.ok.0 ended.0 in
     c.loop-seat.invariant.kept (subst (λ (ss : List (ServerSeat g.row.D.Denot)). AreKeptSeats g.D.Disk.seen g.D.Disk.may_leave g.D.Disk.limit ss) (sym none) tt)
