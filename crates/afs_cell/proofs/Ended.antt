@@ -40,7 +40,7 @@ use Rattle.afs_cell.specs.Replays.{lends_of, no_other, one_other, AreAllBut, Are
 use Rattle.afs_command.specs.declared.statuses.Status.{Status}
 use Rattle.afs_command.specs.declared.statuses.Status.TheVariants as statuses
 use Rattle.afs_cell.proofs.LentCounts.{counts_lent, failed_among, failed_at, failed_counted, found_counted, none_counted, none_rose, one_disk_failed, one_rose, rose_at, rose_once, AreCounted, IsAmong, OneFailed}
-use Rattle.afs_cell.proofs.Ending.{found_come, found_count, given_so, left_so, legal_run, length_told, lent_come, lent_length, no_others, read_so, Missing}
+use Rattle.afs_cell.proofs.RunEnds.{found_come, found_count, given_so, left_so, legal_run, length_told, lent_come, lent_length, no_others, read_so, Missing}
 
 -- ---- the disks go back
 

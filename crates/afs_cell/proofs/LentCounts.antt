@@ -22,7 +22,7 @@ use Rattle.afs_final.specs.declared.reading.Left.TheVariants as left
 use Rattle.afs_lending.specs.Lending.{kept_disks, with_faults, AreUnused}
 use Rattle.afs_command.specs.Spans.{span, RoseBy, Span}
 use Rattle.afs_cell.specs.Replays.{one_other, AreOfServers}
-use Rattle.afs_cell.proofs.Ending.{each_is, EachFrom}
+use Rattle.afs_cell.proofs.RunEnds.{each_is, EachFrom}
 
 -- ---- one count
 

@@ -31,9 +31,9 @@ mod GivenBack
 pub mod Whole
 mod Since
 mod NextSince
-mod Ending
+mod RunEnds
 mod LentCounts
 mod Ended
 mod Returned
 mod WrittenOn
-mod Played
+mod PlayedOn

@@ -25,7 +25,7 @@ use Rattle.afs_cell.specs.Replays.{EndsRun, IsFew, WritesEntries}
 use Rattle.afs_command.specs.declared.statuses.Status.{Status}
 use Rattle.afs_command.specs.declared.statuses.Status.TheVariants as statuses
 use Rattle.afs_cell.proofs.Ended.{all_played, ended, entries_of, stopped, was_cut, GoesBack, HasEnded}
-use Rattle.afs_cell.proofs.Ending.{lent_length}
+use Rattle.afs_cell.proofs.RunEnds.{lent_length}
 
 -- ---- the disks that were read
 

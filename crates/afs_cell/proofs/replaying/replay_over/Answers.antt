@@ -1,6 +1,6 @@
 use Rattle.std.proofs.Common.{refl}
 use Rattle.afs_cell.proofs.Ended.{of_servers, refused_of}
-use Rattle.afs_cell.proofs.Played.{all_ends, first_ends, full_first, going_all, going_first, since_of, some_ends, written_of}
+use Rattle.afs_cell.proofs.PlayedOn.{all_ends, first_ends, full_first, going_all, going_first, since_of, some_ends, written_of}
 use Rattle.afs_cell.proofs.replaying.replay_over.Goals as goal
 
 pub returns-in-Err-clause-ends : goal.returns-in-Err-clause-ends
