@@ -101,7 +101,7 @@ clones_no_more = refl
 abbrev new_words : List ℕ
 new_words =
     1 ∷ 3013677858 ∷ 1 ∷ 536870912 ∷ 4 ∷ 1886547818 ∷ 0 ∷ 2 ∷ 536870912 ∷ 536870912 ∷ 0 ∷ 1000 ∷ 2 ∷ 1 ∷ 0 ∷ 1 ∷ 1 ∷ 1 ∷ 3 ∷ 1 ∷ 1 ∷ 2 ∷ 1 ∷ 1 ∷ 2 ∷ 0 ∷ 0 ∷ 493 ∷ 0
-    ∷ 0 ∷ 0 ∷ 0 ∷ 0 ∷ 0 ∷ 1 ∷ 23 ∷ 822751242 ∷ 1937339252 ∷ 1701657185 ∷ 1853453683 ∷ 1701972273 ∷ 842467840 ∷ 4 ∷ 0 ∷ 4 ∷ 975260526 ∷ []
+    ∷ 0 ∷ 0 ∷ 0 ∷ 0 ∷ 1 ∷ 23 ∷ 822751242 ∷ 1937339252 ∷ 1701657185 ∷ 1853453683 ∷ 1701972273 ∷ 842467840 ∷ 4 ∷ 0 ∷ 4 ∷ 975260526 ∷ []
 
 restores : body_taken (bodies.Restore gone (words new_words)) (with_volumes ((gone, old) ∷ [])) ≡ Some (with_volumes ((gone, record old { volume = record old.volume { quota = 1000 } }) ∷ []))
 unfolding finished dump_at dump_field dump_header_field volume_header_field live_field image_field next_at word opaque pad word_at opaque_at counted_at kind_fits value_of is_sound directories.directory_of directories.whole_at directories.count_at directories.names_at directories.name_at directories.spelled_at directories.bytes_below acls.acl_at acls.count_at acls.line_number_at acls.entry_at acls.name_at acls.named_at name_ok

@@ -1,8 +1,8 @@
 //! Laws about the fold of all records. Each is the contract of a function that does nothing.
 
-use afs_dumps::laws::clones_are_sound;
-
 ghost use Rattle.afs_fold.specs.Laws.{OneMoreOfAllStands, PlainRecordsFoldAlike, RecordsLeaveStorable, StorableAreTimed};
+
+use afs_dumps::laws::clones_are_sound;
 
 /// What the fold of a server without volume calls makes of records, this one makes of them, too, and they tell the same.
 pub fn plain_records_fold_alike()
