@@ -1,0 +1,5 @@
+pub mod LinedSteps
+pub mod FileRow
+pub mod VolStates
+pub mod VolRow
+pub mod VolSteps
