@@ -42,4 +42,5 @@ unfolding head_form
 record_fits head reply id counter unique vnodes removed node client epoch number short id_fits counter_fits unique_fits few few_removed limits words kinds numbers = record {
   head = ((lit< tt, (lit< tt, (caller_fits head.from node client, (epoch, (number, (omega (arith, short), short)))))), refl);
   body = (id_fits, (counter_fits, (unique_fits, ((few, formed vnodes limits words kinds), ((few_removed, numbers), tt)))));
+  caller = refl;
 }

@@ -1,5 +1,5 @@
 -- Which input of the definitions a server's input is, and when nothing comes of it.
-use Rattle.std.proofs.Common.{refl, ap, sym, subst, ◌∙◌, ◌≡◌, ◌⊎◌, inl, inr, ℕ, List, [], ◌∷◌, Bool, true, false, cond, Option, Some, None}
+use Rattle.std.proofs.Common.{refl, ap, sym, subst, ◌∙◌, ◌≡◌, ◌⊎◌, inl, inr, ℕ, zero, suc, List, [], ◌∷◌, Bool, true, false, cond, Option, Some, None}
 use Rattle.afs_num.specs.Places.{at_place}
 use Rattle.afs_num.specs.declared.messages.Message.{Message}
 use Rattle.afs_num.specs.declared.types.Node.{Node}
@@ -9,11 +9,12 @@ use Rattle.afs_history.specs.declared.lines.Line.TheVariants as lines
 use Rattle.afs_history.specs.declared.lines.Outs.{Outs}
 use Rattle.afs_history.specs.declared.scripts.Event.TheVariants as events
 use Rattle.afs_disk.specs.Disk.{Rose}
-use Rattle.afs_rows.specs.Runs.{back_timed, given_at, given_to, gives, has_host, if_host, message_at, moved, server_armed, server_given, server_restarted, server_stopped, server_timed, server_waits, server_wakes, sets_fail, sets_stop, starts_again, stops, voided, wakes, Cell, Input, Moved}
+use Rattle.afs_rows.specs.Runs.{back_timed, given_at, given_to, gives, has_host, if_host, message_at, moved, nothing, server_armed, server_given, server_restarted, server_stopped, server_timed, server_waits, server_wakes, sets_fail, sets_stop, starts_again, stops, voided, wakes, Cell, Input, Moved}
 use Rattle.afs_rows.specs.Hosts.{comes_up, fails_early, fails_midway, gives_out, is_full, steady, at_rest, in_boot, in_step, leaves_after, Fall, Luck, MayBegin, Outcome, crashed, restarted, served, set_to_fail, set_to_stop, Fails, GivesOut, HostStep}
-use Rattle.afs_schedule.specs.Schedules.{left_by, IsInput, IsLuck, Turn}
+use Rattle.afs_schedule.specs.Schedules.{at_server, left_by, IsInput, IsLuck, Turn}
 use Rattle.afs_rows.specs.Hosts as host
 use Rattle.afs_rows.specs.ServerHosts.{timed_out, woken, server_kind}
+use Rattle.afs_rows.specs.States.{ServerState}
 use Rattle.afs_host.proofs.Placed.{moved_crashed, moved_restarted, moved_served, moved_set_to_fail, moved_set_to_stop, moved_timed_out, moved_woken}
 use Rattle.afs_clients.specs.Happening.{IsGiven}
 use Rattle.afs_servers.specs.Happening.{HasHeard, HasStep, IsFallen, IsSeatStep, IsVoidServer}
@@ -35,10 +36,20 @@ luck_is (gives_out call) h = h
 abbrev steady_input : ℕ → ServerInput → Input
 steady_input i (server.TimeOut callee) = server_waits i callee
 steady_input i server.Wake = wakes i
-steady_input i (server.Crash pick) = stops i
-steady_input i server.Restart = starts_again i false comes_up
-steady_input i (server.Stop calls pick) = sets_stop i calls pick
-steady_input i (server.Fail call) = sets_fail i call
+steady_input i (server.Crash pick) = at_server i (stops i)
+steady_input i server.Restart = at_server i (starts_again i false comes_up)
+steady_input i (server.Stop calls pick) = at_server i (sets_stop i calls pick)
+steady_input i (server.Fail call) = at_server i (sets_fail i call)
+
+-- a server of the cell has another number than 0
+is_numbered : (c : Cell) (i : ℕ) (x : Input) → has_host c i ≡ true → x ≡ at_server i x
+is_numbered c zero x has = absurd cc
+is_numbered c (suc i) x has = refl
+
+-- what is so of nothing and of an input is so of the input at any number
+at_any : (P : Input → Type 0) (i : ℕ) (x : Input) → P nothing → P x → P (at_server i x)
+at_any P zero x none one = none
+at_any P (suc i) x none one = one
 
 -- the message that stands at the place of a parcel
 pub record Found (sent : List Message) (place : ℕ) (p : Parcel) : Type 0 where
@@ -108,7 +119,7 @@ module _ {D : Type 0} (seen : D → Option (List ℕ)) (may_leave : D → List �
   }
   link_input t w i (server.Crash pick) was now outs cell here h = record {
     input = stops i;
-    is_one = refl;
+    is_one = is_numbered t.cell i (stops i) (host_there w.servers i was t.cell here cell.host_count);
     step = crashed (server_kind (Server i)) (t.cell.hosts i);
     moves = moved_crashed t.cell i (host_there w.servers i was t.cell here cell.host_count) h.0;
     left = refl;
@@ -117,7 +128,13 @@ module _ {D : Type 0} (seen : D → Option (List ℕ)) (may_leave : D → List �
   }
   link_input t w i server.Restart was now outs cell here h = record {
     input = starts_again i h.1.1.after h.1.1.outcome;
-    is_one = (h.1.1.after, (h.1.1.outcome, (subst (λ (d : Option Fall). MayBegin d h.1.1.after) (sym h.1.0) h.1.1.may, refl)));
+    is_one = (
+      h.1.1.after,
+      (
+        h.1.1.outcome,
+        (subst (λ (d : Option Fall). MayBegin d h.1.1.after) (sym h.1.0) h.1.1.may, is_numbered t.cell i (starts_again i h.1.1.after h.1.1.outcome) (host_there w.servers i was t.cell here cell.host_count)),
+      ),
+    );
     step = restarted (server_kind (Server i)) (t.cell.hosts i) t.cell.clock t.cell.count h.1.1.after h.1.1.outcome h.0;
     moves = moved_restarted t.cell i h.1.1.after h.1.1.outcome h.0 (host_there w.servers i was t.cell here cell.host_count) h.1.0;
     left = refl;
@@ -126,7 +143,7 @@ module _ {D : Type 0} (seen : D → Option (List ℕ)) (may_leave : D → List �
   }
   link_input t w i (server.Stop calls pick) was now outs cell here h = record {
     input = sets_stop i calls pick;
-    is_one = refl;
+    is_one = is_numbered t.cell i (sets_stop i calls pick) (host_there w.servers i was t.cell here cell.host_count);
     step = set_to_stop (server_kind (Server i)) (t.cell.hosts i) calls pick;
     moves = moved_set_to_stop t.cell i calls pick (host_there w.servers i was t.cell here cell.host_count) h.0;
     left = refl;
@@ -135,7 +152,7 @@ module _ {D : Type 0} (seen : D → Option (List ℕ)) (may_leave : D → List �
   }
   link_input t w i (server.Fail call) was now outs cell here h = record {
     input = sets_fail i call;
-    is_one = refl;
+    is_one = is_numbered t.cell i (sets_fail i call) (host_there w.servers i was t.cell here cell.host_count);
     step = set_to_fail (server_kind (Server i)) (t.cell.hosts i) call;
     moves = moved_set_to_fail t.cell i call (host_there w.servers i was t.cell here cell.host_count) h.0;
     left = refl;
@@ -178,22 +195,25 @@ up_void : (c : Cell) (i : ℕ) (after : Bool) (outcome : Outcome) → (has_host 
 up_void c i after outcome (inl e) = inl e
 up_void c i after outcome (inr up) = inr (ap (server_restarted c i after outcome) up)
 
-void_restart : (c : Cell) (i : ℕ) (after : Bool) → (has_host c i ≡ false) ⊎ ((c.hosts i).down ≡ None) → moved c (starts_again i after comes_up) ≡ voided c
+void_restart : (c : Cell) (i : ℕ) (after : Bool) → (has_host c i ≡ false) ⊎ ((c.hosts i).down ≡ None) → moved c (at_server i (starts_again i after comes_up)) ≡ voided c
 unfolding moved
-void_restart c i after none = gone c i (server_restarted c i after comes_up (c.hosts i).down) (up_void c i after comes_up none)
+void_restart c zero after none = refl
+void_restart c (suc i) after none = gone c (suc i) (server_restarted c (suc i) after comes_up (c.hosts (suc i)).down) (up_void c (suc i) after comes_up none)
+
+void_set : (c : Cell) (i : ℕ) (step : HostStep ServerState) → (has_host c i ≡ false) ⊎ IsFallen (c.hosts i) → if_host c i (server_armed c i step (c.hosts i).down) ≡ voided c
+void_set c i step none = gone c i (server_armed c i step (c.hosts i).down) (either c i (server_armed c i step) (λ fall. refl) none)
 
 void_input : (c : Cell) (i : ℕ) (input : ServerInput) → (has_host c i ≡ false) ⊎ IsVoidServer input (c.hosts i) → moved c (steady_input i input) ≡ voided c
 unfolding moved
 void_input c i (server.TimeOut callee) none = gone c i (server_timed c i callee (c.hosts i).down) (timed_void c i callee none)
 void_input c i server.Wake none = gone c i (server_wakes c i (c.hosts i).down) (either c i (server_wakes c i) (λ fall. refl) none)
-void_input c i (server.Crash pick) none = gone c i (server_stopped c i (c.hosts i).down) (either c i (server_stopped c i) (λ fall. refl) none)
+void_input c zero (server.Crash pick) none = refl
+void_input c (suc i) (server.Crash pick) none = gone c (suc i) (server_stopped c (suc i) (c.hosts (suc i)).down) (either c (suc i) (server_stopped c (suc i)) (λ fall. refl) none)
 void_input c i server.Restart none = void_restart c i false none
-void_input c i (server.Stop calls pick) none =
-    gone c i (server_armed c i (set_to_stop (server_kind (Server i)) (c.hosts i) calls pick) (c.hosts i).down)
-    (either c i (server_armed c i (set_to_stop (server_kind (Server i)) (c.hosts i) calls pick)) (λ fall. refl) none)
-void_input c i (server.Fail call) none =
-    gone c i (server_armed c i (set_to_fail (server_kind (Server i)) (c.hosts i) call) (c.hosts i).down)
-    (either c i (server_armed c i (set_to_fail (server_kind (Server i)) (c.hosts i) call)) (λ fall. refl) none)
+void_input c zero (server.Stop calls pick) none = refl
+void_input c (suc i) (server.Stop calls pick) none = void_set c (suc i) (set_to_stop (server_kind (Server (suc i))) (c.hosts (suc i)) calls pick) none
+void_input c zero (server.Fail call) none = refl
+void_input c (suc i) (server.Fail call) none = void_set c (suc i) (set_to_fail (server_kind (Server (suc i))) (c.hosts (suc i)) call) none
 
 -- a restart may always begin in some way
 some_begin : (d : Option Fall) → (after : Bool) × MayBegin d after
@@ -213,12 +233,21 @@ pub record Voided (is : Input → Type 0) (t : Turn) : Type 0 where
 pub link_void_message : (t : Turn) (i place : ℕ) (m : Message) → message_at t.cell.sent place ≡ Some m → m.head.to ≡ Server i → (has_host t.cell i ≡ false) ⊎ IsFallen (t.cell.hosts i) → Voided (IsInput t (events.Deliver place)) t
 link_void_message t i place m at to none = record { input = gives place steady; is_one = (steady, (refl, tt)); moves = void_message t.cell i place m at to none; left = refl; harmless = refl }
 
+numbered_void : (t : Turn) (i : ℕ) (x : Input) (is : Input → Type 0) → is (at_server i x) → moved t.cell (at_server i x) ≡ voided t.cell → left_by x t.left ≡ t.left → falls x ≡ 0 → Voided is t
+numbered_void t i x is one moves left harmless = record {
+  input = at_server i x;
+  is_one = one;
+  moves = moves;
+  left = at_any (λ (y : Input). left_by y t.left ≡ t.left) i x refl left;
+  harmless = at_any (λ (y : Input). falls y ≡ 0) i x refl harmless;
+}
+
 pub link_void : (t : Turn) (i : ℕ) (input : ServerInput) → (has_host t.cell i ≡ false) ⊎ IsVoidServer input (t.cell.hosts i) → Voided (IsGiven i input t) t
 link_void t i (server.TimeOut callee) none = record { input = server_waits i callee; is_one = refl; moves = void_input t.cell i (server.TimeOut callee) none; left = refl; harmless = refl }
 link_void t i server.Wake none = record { input = wakes i; is_one = refl; moves = void_input t.cell i server.Wake none; left = refl; harmless = refl }
-link_void t i (server.Crash pick) none = record { input = stops i; is_one = refl; moves = void_input t.cell i (server.Crash pick) none; left = refl; harmless = refl }
+link_void t i (server.Crash pick) none = numbered_void t i (stops i) (λ (y : Input). IsGiven i (server.Crash pick) t y) refl (void_input t.cell i (server.Crash pick) none) refl refl
 link_void t i server.Restart none =
     let a = some_begin (t.cell.hosts i).down in
-    record { input = starts_again i a.0 comes_up; is_one = (a.0, (comes_up, (a.1, refl))); moves = void_restart t.cell i a.0 none; left = refl; harmless = refl }
-link_void t i (server.Stop calls pick) none = record { input = sets_stop i calls pick; is_one = refl; moves = void_input t.cell i (server.Stop calls pick) none; left = refl; harmless = refl }
-link_void t i (server.Fail call) none = record { input = sets_fail i call; is_one = refl; moves = void_input t.cell i (server.Fail call) none; left = refl; harmless = refl }
+    numbered_void t i (starts_again i a.0 comes_up) (λ (y : Input). IsGiven i server.Restart t y) (a.0, (comes_up, (a.1, refl))) (void_restart t.cell i a.0 none) refl refl
+link_void t i (server.Stop calls pick) none = numbered_void t i (sets_stop i calls pick) (λ (y : Input). IsGiven i (server.Stop calls pick) t y) refl (void_input t.cell i (server.Stop calls pick) none) refl refl
+link_void t i (server.Fail call) none = numbered_void t i (sets_fail i call) (λ (y : Input). IsGiven i (server.Fail call) t y) refl (void_input t.cell i (server.Fail call) none) refl refl

@@ -19,7 +19,7 @@ use Rattle.afs_rows.specs.ClientRow.{begin_row, client_row, timeout_row, reborn}
 use Rattle.afs_rows.specs.Going.{ClientState, Going}
 use Rattle.afs_rows.specs.Runs.{server_waits, sets_fail, sets_stop, starts_again, stops, wakes, Input, MayBegin, Outcome}
 use Rattle.afs_rows.specs.Steps.{Step}
-use Rattle.afs_schedule.specs.Schedules.{client_act, IsInput, Turn}
+use Rattle.afs_schedule.specs.Schedules.{at_server, client_act, IsInput, Turn}
 use Rattle.afs_clients.specs.Places.{put_place}
 use Rattle.afs_clients.specs.Seating.{IsHanded}
 use Rattle.afs_clients.specs.declared.clients.ClientSeat.{ClientSeat}
@@ -36,10 +36,10 @@ use Rattle.afs_clients.specs.declared.happening.ServerInput.TheVariants as serve
 abbrev pub IsGiven : ℕ → ServerInput → Turn → Input → Type 0
 IsGiven i (server.TimeOut callee) t x = x ≡ server_waits i callee
 IsGiven i server.Wake t x = x ≡ wakes i
-IsGiven i (server.Crash pick) t x = x ≡ stops i
-IsGiven i server.Restart t x = (after : Bool) × ((outcome : Outcome) × (MayBegin (t.cell.hosts i).down after × (x ≡ starts_again i after outcome)))
-IsGiven i (server.Stop calls pick) t x = x ≡ sets_stop i calls pick
-IsGiven i (server.Fail call) t x = x ≡ sets_fail i call
+IsGiven i (server.Crash pick) t x = x ≡ at_server i (stops i)
+IsGiven i server.Restart t x = (after : Bool) × ((outcome : Outcome) × (MayBegin (t.cell.hosts i).down after × (x ≡ at_server i (starts_again i after outcome))))
+IsGiven i (server.Stop calls pick) t x = x ≡ at_server i (sets_stop i calls pick)
+IsGiven i (server.Fail call) t x = x ≡ at_server i (sets_fail i call)
 
 -- a failure is due at a call that is yet to come
 abbrev pub IsDue : ServerInput → Type 0

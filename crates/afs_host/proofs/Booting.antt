@@ -80,6 +80,7 @@ unfolding head_form
 fits_boot d can = record {
   head = ((omega (arith), (omega (arith), ((omega (arith), refl), (omega (arith), (omega (arith), omega (arith)))))), refl);
   body = (omega (arith, can_fits d can), tt);
+  caller = refl;
 }
 
 -- ---- a failure is no other refusal

@@ -18,8 +18,8 @@ use Rattle.afs_records.specs.LocDurable.{loc_has_room}
 use Rattle.afs_law.specs.DatabaseRuns.{begins_again, head_run, head_saved, is_given, loc_behind, loc_behind_all, IsAfter, IsOneBoot, IsSettled, LocBootsRise, LocCallsRunOnce, LocChangesAreOnce, LocEvent, LocStaysSettled}
 use Rattle.afs_law.proofs.Basics.{Above, above_up, at_seat, below_not, below_up_to, own_seat, runs_admitted, some_of, up_to_same}
 use Rattle.afs_law.proofs.Keeping.{at_placed}
-use Rattle.afs_rows.specs.LocRow.{admits, called, changes, decided, drops, hears, loc_decides, loc_durable_of, loc_left, loc_op, loc_record_of, reads, refused, refuses, repeats, reply_to, runs, runs_carried, saves, shows, tells_boot, LocDecision, LocResult, LocState}
-use Rattle.afs_rows.specs.ServerRow.{no_room, refusal, seat_for, seat_placed, whole}
+use Rattle.afs_rows.specs.LocRow.{admits, called, changes, decided, drops, hears, loc_decides, loc_durable_of, loc_left, loc_op, loc_record_of, reads, refused, refuses, repeats, reply_to, runs, runs_carried, runs_received, saves, shows, tells_boot, LocDecision, LocResult, LocState}
+use Rattle.afs_rows.specs.ServerRow.{no_room, not_served, refusal, seat_for, seat_placed, whole}
 use Rattle.afs_rows.specs.States.{Seat}
 
 -- ---- what is decided on a call runs that call
@@ -49,11 +49,14 @@ carried_of s head (carried.Refusal code) = tt
 carried_of s head (carried.Reply reply) = tt
 carried_of s head carried.Notice = tt
 
+received_of : (s : LocState) (head : Head) (r : Received) → IsOf head (runs_received s head r)
+received_of s head Nothing = tt
+received_of s head (Unserved other) = refl
+received_of s head (Unreadable other) = refl
+received_of s head (Whole m) = carried_of s head m.carried
+
 runs_of : (s : LocState) (head : Head) (r : Received) → IsOf head (runs s head r)
-runs_of s head Nothing = tt
-runs_of s head (Unserved other) = refl
-runs_of s head (Unreadable other) = refl
-runs_of s head (Whole m) = carried_of s head m.carried
+runs_of s head r = either_of head (same_node head.from Loc) (refuses head not_served) (runs_received s head r) refl (received_of s head r)
 
 no_head : (h : Head) → None ≡ Some h → ⊥
 no_head h e = absurd cc

@@ -16,7 +16,7 @@ use afs_xdr::writing::Writer;
 use std::alloc::Global;
 
 /// How values are spelled in a record. Of what a form reads nothing is limited but by the bytes that are there.
-pub(crate) trait Form {
+pub trait Form {
     ghost use Rattle.afs_records.specs.Forms as forms;
 
     type Value: Drop;
@@ -90,21 +90,21 @@ pub(crate) fn read_volume_kind(r: &mut Reader) -> Result<u32, RecordFault>
 }
 
 /// Reads the number of a server.
-pub(crate) fn read_server(r: &mut Reader) -> Result<u32, RecordFault>
+pub fn read_server(r: &mut Reader) -> Result<u32, RecordFault>
     ensures { ReadsForm server_form.at (λ n. n) r.old r.new result }
 {
     read_ranged(r, 1, 8)
 }
 
 /// A flag is 0 or 1.
-pub(crate) fn flag_number(flag: bool) -> u32
+pub fn flag_number(flag: bool) -> u32
     ensures { result ≡ flag_number flag }
 {
     if flag { 1 } else { 0 }
 }
 
 /// Reads a flag.
-pub(crate) fn read_flag(r: &mut Reader) -> Result<bool, RecordFault>
+pub fn read_flag(r: &mut Reader) -> Result<bool, RecordFault>
     ensures { ReadsForm flag_form.at (λ b. b) r.old r.new result }
 {
     match r.word()? {
@@ -115,7 +115,7 @@ pub(crate) fn read_flag(r: &mut Reader) -> Result<bool, RecordFault>
 }
 
 /// Reads a text of at most so many bytes.
-pub(crate) fn read_text(alloc: Global, r: &mut Reader, most: u32) -> Result<Octets, RecordFault>
+pub fn read_text(alloc: Global, r: &mut Reader, most: u32) -> Result<Octets, RecordFault>
     ensures { ReadsForm (forms.text_form most).at (λ b. b) r.old r.new result }
 {
     let bytes = r.opaque(most)?;

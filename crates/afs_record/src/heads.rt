@@ -1,7 +1,7 @@
 //! What stands before the fields of each record.
 
 ghost use Rattle.std.specs.Prelude.{◌≡◌, ◌++◌, OnOk};
-ghost use Rattle.afs_records.specs.Records.{caller_form, caller_number, head_form};
+ghost use Rattle.afs_records.specs.Records.{caller_form, caller_number, head_form, may_call, tells_call};
 ghost use Rattle.afs_record.specs.Reading.{ReadsForm};
 
 use crate::faults::RecordFault;
@@ -14,6 +14,9 @@ use std::alloc::Global;
 
 /// Any word counts the bytes of a kept reply.
 const MOST_REPLY: u32 = 4_294_967_295;
+
+/// The kind of a start's record.
+const START: u32 = 3;
 
 /// The number of a caller whose reply is kept, or 0.
 fn caller_number(caller: Option<Node>) -> u32
@@ -39,9 +42,16 @@ fn read_caller(r: &mut Reader) -> Result<Option<Node>, RecordFault>
     }
 }
 
+/// Tells whether these are of a call whose reply is kept, or all 0 and empty where none is.
+fn tells_call(caller: Option<Node>, epoch: u32, number: u32, reply: &[u8]) -> bool
+    ensures { result ≡ tells_call caller epoch number reply.now }
+{
+    caller.is_some() || epoch == 0 && number == 0 && reply.is_empty()
+}
+
 /// Reads a head.
 #[tactic(auto, unfolding(afs_records::specs::Records::head_form))]
-pub(crate) fn read_head(alloc: Global, r: &mut Reader) -> Result<RecordHead, RecordFault>
+pub fn read_head(alloc: Global, r: &mut Reader) -> Result<RecordHead, RecordFault>
     ensures { ReadsForm head_form.at (λ h. h) r.old r.new result }
 {
     let family = r.word()?;
@@ -50,6 +60,9 @@ pub(crate) fn read_head(alloc: Global, r: &mut Reader) -> Result<RecordHead, Rec
     let epoch = r.word()?;
     let number = r.word()?;
     let reply = read_text(alloc, r, MOST_REPLY)?;
+    if !tells_call(caller, epoch, number, reply.as_slice()) {
+        return Err(RecordFault::NoForm);
+    }
     Ok(RecordHead {
         family,
         stamp,
@@ -60,9 +73,16 @@ pub(crate) fn read_head(alloc: Global, r: &mut Reader) -> Result<RecordHead, Rec
     })
 }
 
+/// Tells whether a record of this kind may have this caller: nobody calls for a start.
+pub fn may_call(number: u32, caller: Option<Node>) -> bool
+    ensures { result ≡ may_call number caller }
+{
+    number != START || caller.is_none()
+}
+
 /// Appends a head.
 #[tactic(auto, unfolding(afs_records::specs::Records::head_form))]
-pub(crate) fn write_head(head: &RecordHead, w: &mut Writer) -> Mem<()>
+pub fn write_head(head: &RecordHead, w: &mut Writer) -> Mem<()>
     requires { head_form.Fits head.now }
     ensures { OnOk result (w.new ≡ w.old ++ head_form.spelled head.now) }
 {

@@ -2,9 +2,9 @@
 #![tactic(auto)]
 
 pub mod faults;
-mod forms;
-mod heads;
-mod lists;
+pub mod forms;
+pub mod heads;
+pub mod lists;
 pub mod records;
 mod tables;
 mod volumes;

@@ -42,7 +42,7 @@ pub(crate) fn write_many<F: Form>(items: &[F::Value], w: &mut Writer) -> Mem<()>
 }
 
 /// A count, and so many values of this form.
-pub(crate) struct ListOf<F> {
+pub struct ListOf<F> {
     form: PhantomData<F>,
 }
 

@@ -6,7 +6,7 @@ ghost use Rattle.afs_records.specs.Records.{body_at, row, record_at, record_byte
 ghost use Rattle.afs_record.specs.Reading.{GivesForm};
 
 use crate::faults::RecordFault;
-use crate::heads::{read_head, write_head};
+use crate::heads::{may_call, read_head, write_head};
 use crate::tables::{number_of, read_body, write_body};
 use afs_num::records::{RecordBody, StoreRecord};
 use afs_num::sequences::Octets;
@@ -62,6 +62,9 @@ fn read_record(alloc: Global, bytes: &[u8]) -> Result<StoreRecord, RecordFault>
     let mut r = Reader::new(bytes);
     let number = r.word()?;
     let head = read_head(alloc, &mut r)?;
+    if !may_call(number, head.caller) {
+        return Err(RecordFault::NoForm);
+    }
     let body = read_body(alloc, number, &mut r)?;
     Ok(StoreRecord { head, body })
 }

@@ -81,4 +81,5 @@ change_fits head id time es v fits can small =
     record {
       head = fits;
       body = (small.volume, (small.counter, (small.unique, ((omega (arith, few_left time es after, small.edits), images), ((omega (arith, few_gone es v after, small.edits), all_gone es v after small.gone), tt)))));
+      caller = refl;
     }

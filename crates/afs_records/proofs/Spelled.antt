@@ -14,7 +14,7 @@ use Rattle.afs_num.specs.declared.records.RecordBody.TheVariants as bodies
 use Rattle.afs_num.specs.declared.records.RecordHead.{RecordHead}
 use Rattle.afs_num.specs.declared.records.StoreRecord.{StoreRecord}
 use Rattle.afs_records.specs.Forms.{Form, word_form, text_form, image_form, ◌before◌, many_at, list_form}
-use Rattle.afs_records.specs.Records.{most_name, most_dump, most_reply, between, mark_form, kind_form, server_form, flag_number, flag_of, flag_form, caller_number, caller_of, caller_form, head_parts, head_made, head_form, volume_mark, vnode_mark, listed_form, marked_form, listed, are_listed, are_whole, vnodes_form, volume_parts, volume_made, volume_form, made_at_end, made_behind, row, each, made_in, body_at, body_in, read_in, record_bytes, record_at, spelled_in, store_record, store_table, FitsIn, FitsRecord, RecordTable}
+use Rattle.afs_records.specs.Records.{most_name, most_dump, most_reply, between, mark_form, kind_form, server_form, flag_number, flag_of, flag_form, caller_number, caller_of, caller_form, body_for, head_of, head_parts, head_made, head_form, may_call, tells_call, volume_mark, vnode_mark, listed_form, marked_form, listed, are_listed, are_whole, vnodes_form, volume_parts, volume_made, volume_form, made_at_end, made_behind, row, each, made_in, body_at, body_in, read_in, record_bytes, record_at, spelled_in, store_record, store_table, FitsIn, FitsRecord, RecordTable}
 use Rattle.afs_records.proofs.Forms.{IsSoundForm, bound, some_is, word_sound, text_sound, before_sound, known_sound, only_sound, many_takes, many_again, list_sound}
 use Rattle.afs_records.proofs.Images.{image_sound}
 
@@ -97,6 +97,12 @@ caller_sound = known_sound word_form caller_number caller_of word_sound caller_t
 
 -- ---- the head
 
+head_told : (p : ℕ × (ℕ × (Option Node × (ℕ × (ℕ × List ℕ))))) (h : RecordHead) → head_made p ≡ Some h → head_parts h ≡ p
+head_told p h e = elim (chosen (tells_call p.1.1.0 p.1.1.1.0 p.1.1.1.1.0 p.1.1.1.1.1) (Some (head_of p)) None (Some h) e) [
+  | inl a ↦ ap head_parts (sym (some_is (head_of p) h a.1))
+  | inr a ↦ absurd (none_is_some h a.1)
+]
+
 pub head_sound : IsSoundForm head_form
 unfolding head_form
 head_sound =
@@ -106,7 +112,7 @@ head_sound =
     (before_sound caller_form (word_form before word_form before text_form most_reply) caller_sound
     (before_sound word_form (word_form before text_form most_reply) word_sound
     (before_sound word_form (text_form most_reply) word_sound (text_sound most_reply))))))
-    (λ p h e. ap head_parts (sym (some_is _ h e)))
+    head_told
 
 -- ---- a whole volume
 
@@ -321,7 +327,14 @@ pub record IsSoundTable {X : Type 0} (table : RecordTable X) : Type 0 where
 
 pub table_read : {X R : Type 0} (table : RecordTable X) → IsSoundTable table → (make : RecordHead → X → R) (h : RecordHead) (b : X) → FitsIn table h b → read_in table make (spelled_in table h b) ≡ Some (make h b)
 table_read {X} {R} table sound make h b fits =
-    rw (word_sound.again (table.row b).number (head_form.spelled h ++ (table.row b).spelled) (sound.small b), head_sound.again h (table.row b).spelled fits.head, sound.again b fits.body) refl
+    rw (word_sound.again (table.row b).number (head_form.spelled h ++ (table.row b).spelled) (sound.small b), head_sound.again h (table.row b).spelled fits.head, fits.caller, sound.again b fits.body) refl
+
+-- a body that was read for a caller
+called : {X : Type 0} (table : RecordTable X) (number : ℕ) (caller : Option Node) (bytes : List ℕ) (x : X) → body_for table number caller bytes ≡ Some x → (may_call number caller ≡ true) × (body_in table number bytes ≡ Some x)
+called {X} table number caller bytes x e = elim (chosen (may_call number caller) (body_in table number bytes) None (Some x) e) [
+  | inl a ↦ a
+  | inr a ↦ absurd (none_is_some x a.1)
+]
 
 -- a record that was read: its head and its body
 pub record HasRead {X R : Type 0} (table : RecordTable X) (make : RecordHead → X → R) (bytes : List ℕ) (r : R) : Type 0 where
@@ -333,17 +346,18 @@ pub record HasRead {X R : Type 0} (table : RecordTable X) (make : RecordHead →
 
 pub table_spelled : {X R : Type 0} (table : RecordTable X) → IsSoundTable table → (make : RecordHead → X → R) (bytes : List ℕ) (r : R) → IsBytes bytes → read_in table make bytes ≡ Some r → HasRead table make bytes r
 table_spelled {X} {R} table sound make bytes r fits e =
-    let a = bound (word_form.at bytes) (λ number. (head_form.at number.1 >>= λ head. (body_in table number.0 head.1 >>= λ body. Some (make head.0 body)))) r e in
-    let b = bound (head_form.at a.0.1) (λ head. (body_in table a.0.0 head.1 >>= λ body. Some (make head.0 body))) r a.1.1 in
-    let c = bound (body_in table a.0.0 b.0.1) (λ body. Some (make b.0.0 body)) r b.1.1 in
+    let a = bound (word_form.at bytes) (λ number. (head_form.at number.1 >>= λ head. (body_for table number.0 head.0.caller head.1 >>= λ body. Some (make head.0 body)))) r e in
+    let b = bound (head_form.at a.0.1) (λ head. (body_for table a.0.0 head.0.caller head.1 >>= λ body. Some (make head.0 body))) r a.1.1 in
+    let c = bound (body_for table a.0.0 b.0.0.caller b.0.1) (λ body. Some (make b.0.0 body)) r b.1.1 in
+    let d = called table a.0.0 b.0.0.caller b.0.1 c.0 c.1.0 in
     let t = word_sound.takes bytes a.0.0 a.0.1 fits a.1.0 in
     let u = head_sound.takes a.0.1 b.0.0 b.0.1 t.0.rest_fits b.1.0 in
-    let w = sound.takes a.0.0 b.0.1 c.0 u.0.rest_fits c.1.0 in
+    let w = sound.takes a.0.0 b.0.1 c.0 u.0.rest_fits d.1 in
     record {
       head = b.0.0;
       body = c.0;
       is = some_is (make b.0.0 c.0) r c.1.1;
-      fits = record { head = u.1; body = w.fits };
+      fits = record { head = u.1; body = w.fits; caller = subst (λ (n : ℕ). may_call n b.0.0.caller ≡ true) (sym w.numbered) d.0 };
       spelled =
           ap (λ (n : ℕ). word_form.spelled n ++ (head_form.spelled b.0.0 ++ (table.row c.0).spelled)) w.numbered
           ∙ sym (t.0.parts ∙ ap (λ (s : List ℕ). word_form.spelled a.0.0 ++ s) (u.0.parts ∙ ap (λ (s : List ℕ). head_form.spelled b.0.0 ++ s) w.spelled));

@@ -1,6 +1,6 @@
 -- The records of a server's journal, and the one table that spells them in both directions.
 -- Where something is read from bytes, `.0` is what was read, and `.1` are the bytes behind it.
-use Rattle.std.specs.Prelude.{◌≡◌, ◌+◌, ℕ, List, [], ◌∷◌, ◌++◌, length, map, Bool, true, false, ◌&&◌, not, Option, Some, None, nat_eq, nat_lt, if◌then◌else◌}
+use Rattle.std.specs.Prelude.{◌≡◌, ◌+◌, ℕ, List, [], ◌∷◌, ◌++◌, length, map, Bool, true, false, ◌&&◌, not, Option, Some, None, is_some, nat_eq, nat_lt, if◌then◌else◌}
 use Rattle.std.specs.List.{flat_map, list_all, AllByRecursion}
 use Rattle.afs_num.specs.Nodes.{is_between, node_number, node_of}
 use Rattle.afs_num.specs.declared.types.Node.{Node}
@@ -72,8 +72,16 @@ caller_form = known_as word_form caller_number caller_of
 abbrev pub head_parts : RecordHead → ℕ × (ℕ × (Option Node × (ℕ × (ℕ × List ℕ))))
 head_parts h = (h.family, (h.stamp, (h.caller, (h.epoch, (h.number, h.reply)))))
 
+abbrev pub head_of : ℕ × (ℕ × (Option Node × (ℕ × (ℕ × List ℕ)))) → RecordHead
+head_of p = record { family = p.0; stamp = p.1.0; caller = p.1.1.0; epoch = p.1.1.1.0; number = p.1.1.1.1.0; reply = p.1.1.1.1.1 }
+
+-- where no reply is kept, all that would tell of one is 0 or empty
+abbrev pub tells_call : Option Node → ℕ → ℕ → List ℕ → Bool
+tells_call None epoch number reply = nat_eq epoch 0 && (nat_eq number 0 && nat_eq (length reply) 0)
+tells_call (Some caller) epoch number reply = true
+
 abbrev pub head_made : ℕ × (ℕ × (Option Node × (ℕ × (ℕ × List ℕ)))) → Option RecordHead
-head_made p = Some (record { family = p.0; stamp = p.1.0; caller = p.1.1.0; epoch = p.1.1.1.0; number = p.1.1.1.1.0; reply = p.1.1.1.1.1 })
+head_made p = if tells_call p.1.1.0 p.1.1.1.0 p.1.1.1.1.0 p.1.1.1.1.1 then Some (head_of p) else None
 
 unfoldable pub head_form : Form RecordHead
 head_form = known_as (word_form before word_form before caller_form before word_form before word_form before text_form most_reply) head_parts head_made
@@ -209,18 +217,31 @@ body_in {X} table number bytes = made_in table.row number bytes table.each
 abbrev pub spelled_in : {X : Type 0} → RecordTable X → RecordHead → X → List ℕ
 spelled_in {X} table head body = word_form.spelled (table.row body).number ++ (head_form.spelled head ++ (table.row body).spelled)
 
+-- the kind of a start's record, in each journal
+abbrev pub start_kind : ℕ
+start_kind = 3
+
+-- nobody calls for a start
+abbrev pub may_call : ℕ → Option Node → Bool
+may_call number caller = if nat_eq number start_kind then not (is_some caller) else true
+
+-- the body of this kind, where this caller may call for it
+abbrev pub body_for : {X : Type 0} → RecordTable X → ℕ → Option Node → List ℕ → Option X
+body_for {X} table number caller bytes = if may_call number caller then body_in table number bytes else None
+
 -- what `make` makes of the record that these bytes are, if they are one
 abbrev pub read_in : {X R : Type 0} → RecordTable X → (RecordHead → X → R) → List ℕ → Option R
 read_in {X} {R} table make bytes = do
   number ← word_form.at bytes
   head ← head_form.at number.1
-  body ← body_in table number.0 head.1
+  body ← body_for table number.0 head.0.caller head.1
   Some (make head.0 body)
 
 -- within the limits
 pub record FitsIn {X : Type 0} (table : RecordTable X) (h : RecordHead) (b : X) : Type 0 where
   pub head : head_form.Fits h
   pub body : (table.row b).Fits
+  pub caller : may_call (table.row b).number h.caller ≡ true
 
 -- ---- the fields of the rows
 

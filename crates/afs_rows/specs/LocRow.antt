@@ -260,12 +260,16 @@ runs_carried s head c = drops
 abbrev pub loc_serves : ℕ → Bool
 loc_serves opcode = list_any (nat_eq opcode) (501 ∷ 502 ∷ 503 ∷ 504 ∷ 505 ∷ 506 ∷ 508 ∷ 509 ∷ 510 ∷ [])
 
--- by what was found in its bytes, whoever calls
+-- by what was found in its bytes
+abbrev pub runs_received : LocState → Head → Received → LocDecision
+runs_received s head Nothing = drops
+runs_received s head (Unserved other) = refuses head not_served
+runs_received s head (Unreadable other) = refuses head (if loc_serves head.opcode then bad_fields else not_served)
+runs_received s head (Whole m) = runs_carried s head m.carried
+
+-- Whoever calls is served, but the database itself: it makes no calls, and a record can't keep a reply to it.
 abbrev pub runs : LocState → Head → Received → LocDecision
-runs s head Nothing = drops
-runs s head (Unserved other) = refuses head not_served
-runs s head (Unreadable other) = refuses head (if loc_serves head.opcode then bad_fields else not_served)
-runs s head (Whole m) = runs_carried s head m.carried
+runs s head r = if same_node head.from Loc then refuses head not_served else runs_received s head r
 
 -- none is in progress: a reply is kept at once
 abbrev pub admits : LocState → Head → Received → Admitted Message → LocDecision

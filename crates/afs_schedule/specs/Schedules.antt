@@ -84,9 +84,15 @@ abbrev pub IsLuck : Luck → Type 0
 IsLuck steady = Unit {0}
 IsLuck (gives_out call) = 1 ≤ call
 
+-- Servers are numbered from 1; number 0 of the inputs that stop a node with a disk, let it begin again or set its disk is the location
+-- database. So an event that names server 0, which no cell has, is nothing.
+abbrev pub at_server : ℕ → Input → Input
+at_server zero x = nothing
+at_server (suc i) x = x
+
 -- What each event is. A delivery leaves open whether the disk fails by itself. So does a restart of a server: it begins before the
 -- interrupted step or after it as the blow tells that ended it, where the disk was set to that, and this is open where it failed by
--- itself. The location database and administrators have no steps yet.
+-- itself. No event is a step of the location database or of an administrator yet.
 abbrev pub IsInput : Turn → Event → Input → Type 0
 IsInput t (events.Act (Client n)) x = x ≡ act_input t.cell n (client_act (slice_get (t.left (Client n)) 0))
 IsInput t (events.Act node) x = x ≡ nothing
@@ -99,14 +105,14 @@ IsInput t (events.Wake i) x = x ≡ wakes i
 IsInput t (events.Tick n) x = x ≡ ticks n
 IsInput t (events.Crash (Client n)) x = x ≡ client_stops n
 IsInput t (events.Crash node) x = x ≡ nothing
-IsInput t (events.CrashDisk (Server i) pick) x = x ≡ stops i
+IsInput t (events.CrashDisk (Server i) pick) x = x ≡ at_server i (stops i)
 IsInput t (events.CrashDisk node pick) x = x ≡ nothing
 IsInput t (events.Restart (Client n)) x = x ≡ client_starts n
-IsInput t (events.Restart (Server i)) x = (after : Bool) × ((outcome : Outcome) × (MayBegin (t.cell.hosts i).down after × (x ≡ starts_again i after outcome)))
+IsInput t (events.Restart (Server i)) x = (after : Bool) × ((outcome : Outcome) × (MayBegin (t.cell.hosts i).down after × (x ≡ at_server i (starts_again i after outcome))))
 IsInput t (events.Restart node) x = x ≡ nothing
-IsInput t (events.Stop (Server i) calls pick) x = x ≡ sets_stop i calls pick
+IsInput t (events.Stop (Server i) calls pick) x = x ≡ at_server i (sets_stop i calls pick)
 IsInput t (events.Stop node calls pick) x = x ≡ nothing
-IsInput t (events.Fail (Server i) call) x = x ≡ sets_fail i call
+IsInput t (events.Fail (Server i) call) x = x ≡ at_server i (sets_fail i call)
 IsInput t (events.Fail node call) x = x ≡ nothing
 
 -- ---- a schedule is a list of inputs

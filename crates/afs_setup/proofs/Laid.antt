@@ -330,7 +330,7 @@ small_most n le = omega (arith, le)
 
 pub first_fits : (h : RecordHead) (t : Table Volume) (ss : List StoredVolume) (n : ℕ) → head_form.Fits h → ss ≡ map (λ (p : ℕ × Stored). stored_volume p.0 p.1) (seen_as stored_of t) → length t ≤ n → n ≤ most_volumes → AllByRecursion volume_form.Fits ss
     → FitsRecord (record { head = h; body = bodies.First ss })
-first_fits h t ss n fits told few least all = record { head = fits; body = ((small_most (length ss) (told_few t ss n told few least), all), tt) }
+first_fits h t ss n fits told few least all = record { head = fits; body = ((small_most (length ss) (told_few t ss n told few least), all), tt); caller = refl }
 
 pub first_taken : (t : Table Volume) (ss : List StoredVolume) (n : ℕ) (d : Durable) → ss ≡ map (λ (p : ℕ × Stored). stored_volume p.0 p.1) (seen_as stored_of t) → length t ≤ n → n ≤ most_volumes → AllByRecursion (λ (s : StoredVolume). is_some (durable.stored_of s) ≡ true) ss
     → d.volumes ≡ [] → is_some (with_volumes ss d) ≡ true
