@@ -1,1 +1,9 @@
+pub mod Deciding
+pub mod VolKeeping
+pub mod VolStamps
+pub mod VolApart
+pub mod VolHolds
+pub mod VolTurns
+pub mod VolNodes
+pub mod VolWaiting
 pub mod VolWorked

@@ -3,3 +3,5 @@ pub mod FileRow
 pub mod VolStates
 pub mod VolRow
 pub mod VolSteps
+pub mod FileLaws
+pub mod VolLaws
