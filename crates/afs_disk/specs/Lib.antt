@@ -8,3 +8,4 @@ pub mod Lending
 pub mod Moments
 pub mod Past
 pub mod Spans
+pub mod Words

@@ -1,7 +1,7 @@
 -- A disk in memory, with all that a crash might have left of it since it was made.
-use Rattle.std.specs.Prelude.{◌≡◌, ◌≤◌, ◌⊎◌, ◌↔◌, ℕ, ◌+◌, ◌-◌, min, Some, List, [], ◌∷◌, length, drop, slice_get, Result, IsErr, OnOk, OnErr}
+use Rattle.std.specs.Prelude.{◌≡◌, ◌≤◌, ◌⊎◌, ◌↔◌, ℕ, ◌+◌, ◌-◌, min, None, Some, List, [], ◌∷◌, length, drop, slice_get, Result, IsErr, OnOk, OnErr}
 use Rattle.std.proofs.Common.{inl, inr, ap}
-use Rattle.afs_disk.specs.Disk.{Room}
+use Rattle.afs_disk.specs.Disk.{Passes, Ran, Room}
 use Rattle.afs_disk.specs.Fuses.{last_count}
 use Rattle.afs_disk.specs.Images.{Held, MayLeave, image}
 
@@ -31,6 +31,14 @@ pub record Planned {T E : Type 0} (old new : Memory) (result : Result T E) : Typ
   pub quiet : OnOk result (new.faults ≡ old.faults)
   pub never_falls : old.faults ≤ new.faults
   pub untouched : OnErr result ((new.held ≡ old.held) × (new.past ≡ old.past))
+
+-- its moments are how much it held before
+abbrev pub MomentPasses : Memory → Memory → Type 0
+MomentPasses old new = Passes (length old.past) (length new.past) (Since old.past old.held) (Since new.past new.held) (MayLeave new.held)
+
+-- no one can set it to stop or to fail, and each of its faults is its own
+abbrev pub RanUnset : {T E : Type 0} → Memory → Memory → Result T E → Type 0
+RanUnset old new result = Ran (record { stop = None; fail = None }) old.calls new.calls old.faults new.faults old.faults new.faults result
 
 abbrev pub memory_room : Memory → Room
 memory_room m = record { calls = min m.held.room.calls (last_count - m.calls); bytes = m.held.room.bytes; end = m.held.room.end }

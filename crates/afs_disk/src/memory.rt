@@ -2,9 +2,9 @@
 ghost use Rattle.std.specs.Prelude.{◌≡◌, ◌<◌, ◌≤◌, ◌+◌, ◌-◌, [], ◌↔◌, List, ℕ, Some, None, length, min, max, take, drop, slice_get, IsOk, IsErr, IfOk, OnOk, OnErr};
 ghost use Rattle.afs_disk.specs.Fuses.{last_count};
 ghost use Rattle.afs_disk.specs.Images.{MayLeave, image};
-ghost use Rattle.afs_disk.specs.Past.{Planned, Since, measured, memory_room, only_now, picked_leaves};
+ghost use Rattle.afs_disk.specs.Past.{Planned, Since, measured, memory_room, only_now, picked_leaves, MomentPasses, RanUnset};
 ghost use Rattle.std.proofs.Common.{inl, refl};
-ghost use Rattle.afs_disk.specs.Disk.{overwritten, written_by, cut_by, ComesBy, CutShort, Holds, NoSmaller, Passes, Ran, Rose, Takes, Torn};
+ghost use Rattle.afs_disk.specs.Disk.{overwritten, written_by, cut_by, ComesBy, CutShort, Holds, NoSmaller, Rose, Takes, Torn};
 
 use crate::disk::Disk;
 use crate::medium::Medium;
@@ -183,7 +183,7 @@ impl Disk for MemDisk {
     fn read(&mut self, at: u64, buf: &mut [u8]) -> Result<usize, Failed>
         requires { Holds 1 0 0 (memory_room self.old) }
         ensures planned { Planned self.old self.new result }
-        ensures cause { Ran (record { stop = None; fail = None }) self.old.calls self.new.calls self.old.faults self.new.faults self.old.faults self.new.faults result }
+        ensures cause { RanUnset self.old self.new result }
         ensures same { (self.new.held ≡ self.old.held) × (self.new.past ≡ self.old.past) }
         ensures count { IfOk result (λ n. n ≡ min (length buf.old) (length self.old.held.now - at)) }
         ensures bytes { IfOk result (λ n. take n buf.new ≡ take n (drop at self.old.held.now)) }
@@ -198,12 +198,12 @@ impl Disk for MemDisk {
         requires inside { at ≤ length self.old.held.now }
         requires room { Holds 1 (length bytes.now) (at + length bytes.now) (memory_room self.old) }
         ensures planned { Planned self.old self.new result }
-        ensures cause { Ran (record { stop = None; fail = None }) self.old.calls self.new.calls self.old.faults self.new.faults self.old.faults self.new.faults result }
+        ensures cause { RanUnset self.old self.new result }
         ensures written { OnOk result (self.new.held.now ≡ overwritten at bytes.now self.old.held.now) }
         ensures grown { OnOk result (length self.new.held.now ≡ max (length self.old.held.now) (at + length bytes.now)) }
         ensures picks { OnOk result ((pick : ℕ) → image pick self.new.held ≡ written_by pick at bytes.now (image pick self.old.held)) }
         ensures crash { ComesBy (Torn at (length bytes.now)) (MayLeave self.old.held) (MayLeave self.new.held) }
-        ensures time { Passes (length self.old.past) (length self.new.past) (Since self.old.past self.old.held) (Since self.new.past self.new.held) (MayLeave self.new.held) }
+        ensures time { MomentPasses self.old self.new }
         ensures room { Takes (length bytes.now) (memory_room self.old) (memory_room self.new) }
     {
         admits(&mut self.calls, self.failing.as_slice(), &mut self.faults)?;
@@ -216,11 +216,11 @@ impl Disk for MemDisk {
         requires inside { len ≤ length self.old.held.now }
         requires room { Holds 1 0 0 (memory_room self.old) }
         ensures planned { Planned self.old self.new result }
-        ensures cause { Ran (record { stop = None; fail = None }) self.old.calls self.new.calls self.old.faults self.new.faults self.old.faults self.new.faults result }
+        ensures cause { RanUnset self.old self.new result }
         ensures cut { OnOk result (self.new.held.now ≡ take len self.old.held.now) }
         ensures picks { OnOk result ((pick : ℕ) → image pick self.new.held ≡ cut_by pick len (image pick self.old.held)) }
         ensures crash { ComesBy (CutShort len) (MayLeave self.old.held) (MayLeave self.new.held) }
-        ensures time { Passes (length self.old.past) (length self.new.past) (Since self.old.past self.old.held) (Since self.new.past self.new.held) (MayLeave self.new.held) }
+        ensures time { MomentPasses self.old self.new }
         ensures room { Takes 0 (memory_room self.old) (memory_room self.new) }
     {
         admits(&mut self.calls, self.failing.as_slice(), &mut self.faults)?;
@@ -244,11 +244,11 @@ impl Disk for MemDisk {
     fn sync(&mut self) -> Result<(), Failed>
         requires { Holds 1 0 0 (memory_room self.old) }
         ensures planned { Planned self.old self.new result }
-        ensures cause { Ran (record { stop = None; fail = None }) self.old.calls self.new.calls self.old.faults self.new.faults self.old.faults self.new.faults result }
+        ensures cause { RanUnset self.old self.new result }
         ensures same { self.new.held.now ≡ self.old.held.now }
         ensures picks { OnOk result ((pick : ℕ) → image pick self.new.held ≡ self.new.held.now) }
         ensures crash { (c : List ℕ) → MayLeave self.new.held c → MayLeave self.old.held c }
-        ensures time { Passes (length self.old.past) (length self.new.past) (Since self.old.past self.old.held) (Since self.new.past self.new.held) (MayLeave self.new.held) }
+        ensures time { MomentPasses self.old self.new }
         ensures room { Takes 0 (memory_room self.old) (memory_room self.new) }
     {
         admits(&mut self.calls, self.failing.as_slice(), &mut self.faults)?;
@@ -260,7 +260,7 @@ impl Disk for MemDisk {
     fn crash(&mut self, pick: u8)
         ensures picked { self.new.held.now ≡ image pick self.old.held }
         ensures picks { (next : ℕ) → image next self.new.held ≡ self.new.held.now }
-        ensures time { Passes (length self.old.past) (length self.new.past) (Since self.old.past self.old.held) (Since self.new.past self.new.held) (MayLeave self.new.held) }
+        ensures time { MomentPasses self.old self.new }
         ensures same { (self.new.failing ≡ self.old.failing) × (self.new.limit ≡ self.old.limit) × (self.new.calls ≡ self.old.calls) × (self.new.faults ≡ self.old.faults) }
     {
         self.past.remember(&self.medium);

@@ -1,8 +1,8 @@
-ghost use Rattle.std.specs.Prelude.{◌≡◌, ◌≤◌, ◌<◌, ◌+◌, ◌++◌, ◌∷◌, [], ◌↔◌, ◌*◌, ◌^◌, List, ℕ, Some, true, false, length, MatchResult, IfOk, IfErr, OnOk, IsOk, IsErrOf, IsTrue, IsSome};
-ghost use Rattle.afs_disk.specs.Disk.{LeavesOnly, PassesAll};
-ghost use Rattle.afs_journal.specs.Left.{LeavesByPick, ReachesCall};
+ghost use Rattle.std.specs.Prelude.{◌≡◌, ◌≤◌, ◌<◌, ◌+◌, ◌++◌, ◌∷◌, [], ◌↔◌, ◌*◌, ◌^◌, List, ℕ, Some, true, false, length, MatchResult, IfOk, IfErr, OnOk, IsOk, IsErrOf, IsTrue};
+ghost use Rattle.afs_disk.specs.Words.{LeavesOnlyBy, TellsOn, CallsAtMost, SameFaults, PassesBy};
 ghost use Rattle.afs_journal.specs.Records.{whole_records, IsBeforeOrAfter};
-ghost use Rattle.afs_journal.specs.Log.{AlwaysStandsFor, Appended, HasRoom, IsCaused, IsJournal, KeepsRoom, LeavesUnchanged, Rests, SameCounts, Served, StandsAsBefore, Taken, Unchanged};
+ghost use Rattle.afs_journal.specs.Log.{AlwaysStandsFor, Appended, HasRoom, IsJournal, KeepsRoom, LeavesUnchanged, Rests, StandsAsBefore, Unchanged};
+ghost use Rattle.afs_journal.specs.Words.{ServedBy, SameCountsBy, TakenBy, LeavesByPickOf, IsCausedBy, ReachesBy};
 
 use crate::found::Found;
 use crate::mend::settle;
@@ -52,15 +52,15 @@ fn take_up<D: Disk>(alloc: Global, disk: &mut D) -> Result<(Found, u64), Journal
     ensures few { IfOk result (λ r. length r.0 < 2 ^ 32) }
     ensures found { IfOk result (λ r. (bytes : List ℕ) → D.seen disk.old ≡ Some bytes → r.0 ≡ whole_records bytes) }
     ensures empty { IfOk result (λ r. D.size disk.old ≡ 0 → (r.0 ≡ []) × (r.1 ≡ 0)) }
-    ensures told { IsSome (D.seen disk.new) ↔ IsSome (D.seen disk.old) }
+    ensures told { TellsOn D.Disk disk.old disk.new }
     ensures done { OnOk result ((bytes : List ℕ) → D.seen disk.old ≡ Some bytes → IsJournal (whole_records bytes) (D.seen disk.new) (D.may_leave disk.new)) }
-    ensures any_moment { (bytes : List ℕ) → D.seen disk.old ≡ Some bytes → LeavesOnly D.moment D.left_since disk.old disk.new (StandsAsBefore (D.may_leave disk.old)) }
+    ensures any_moment { (bytes : List ℕ) → D.seen disk.old ≡ Some bytes → LeavesOnlyBy D.Disk disk.old disk.new (StandsAsBefore (D.may_leave disk.old)) }
     ensures begins { D.calls disk.old + 2 ≤ D.calls disk.new → (bytes : List ℕ) → D.seen disk.old ≡ Some bytes → AlwaysStandsFor (whole_records bytes) (D.may_leave disk.new) }
     ensures reads { (bytes now : List ℕ) → D.seen disk.old ≡ Some bytes → D.seen disk.new ≡ Some now → whole_records now ≡ whole_records bytes }
     ensures rests { OnOk result ((bytes : List ℕ) → D.seen disk.old ≡ Some bytes → Rests bytes → D.calls disk.new ≡ D.calls disk.old + 2) }
-    ensures calls { (D.calls disk.old ≤ D.calls disk.new) × (D.calls disk.new ≤ D.calls disk.old + 6) }
+    ensures calls { CallsAtMost 6 D.Disk disk.old disk.new }
     ensures setting { D.setting disk.new ≡ D.setting disk.old }
-    ensures cause { Served (D.setting disk.old) (D.calls disk.old) (D.calls disk.new) (D.faults disk.old) (D.faults disk.new) (D.own_faults disk.old) (D.own_faults disk.new) result }
+    ensures cause { ServedBy D.Disk disk.old disk.new result }
     ensures limit { D.limit disk.new ≡ D.limit disk.old }
 {
     let bytes = open(alloc, disk)?;
@@ -83,14 +83,14 @@ impl<D: Disk> Journal<D> {
         ensures empty { IfOk result (λ j. D.size disk ≡ 0 → (j.found ≡ []) × (j.gate ≡ 0)) }
 
         ensures at_rest { IfOk result (λ j. (bytes : List ℕ) → D.seen disk ≡ Some bytes → IsJournal (whole_records bytes) (D.seen j.disk) (D.may_leave j.disk)) }
-        ensures told { MatchResult result (λ j. IsSome (D.seen j.disk) ↔ IsSome (D.seen disk)) (λ e. IsSome (D.seen e.1) ↔ IsSome (D.seen disk)) }
+        ensures told { MatchResult result (λ j. TellsOn D.Disk disk j.disk) (λ e. TellsOn D.Disk disk e.1) }
         ensures counts { IfOk result (λ j. (j.count ≡ length j.found) × (D.size j.disk ≡ j.gate + 1) × (j.closed ≡ false)) }
         ensures any_moment { (bytes : List ℕ) → D.seen disk ≡ Some bytes → MatchResult result
-            (λ j. LeavesOnly D.moment D.left_since disk j.disk (StandsAsBefore (D.may_leave disk)))
-            (λ e. LeavesOnly D.moment D.left_since disk e.1 (StandsAsBefore (D.may_leave disk))) }
-        ensures ok { IfOk result (λ j. Taken D.faults D.own_faults D.calls D.setting disk j.disk × PassesAll (D.setting disk) (D.calls disk) (D.calls j.disk)) }
-        ensures quiet { IfOk result (λ j. (D.faults j.disk ≡ D.faults disk) × (D.own_faults j.disk ≡ D.own_faults disk)) }
-        ensures err { IfErr result (λ e. Taken D.faults D.own_faults D.calls D.setting disk e.1 × IsCaused (D.setting disk) (D.calls e.1) (D.faults disk) (D.faults e.1) (D.own_faults disk) (D.own_faults e.1) e.0) }
+            (λ j. LeavesOnlyBy D.Disk disk j.disk (StandsAsBefore (D.may_leave disk)))
+            (λ e. LeavesOnlyBy D.Disk disk e.1 (StandsAsBefore (D.may_leave disk))) }
+        ensures ok { IfOk result (λ j. TakenBy D.Disk disk j.disk × PassesBy D.Disk disk j.disk) }
+        ensures quiet { IfOk result (λ j. SameFaults D.Disk disk j.disk) }
+        ensures err { IfErr result (λ e. TakenBy D.Disk disk e.1 × IsCausedBy D.Disk disk e.1 e.0) }
 
         // It begins with a sync: once it made another call, every crash leaves the records that a read gave.
         ensures begins { IfErr result (λ e. D.calls disk + 2 ≤ D.calls e.1 → (bytes : List ℕ) → D.seen disk ≡ Some bytes → AlwaysStandsFor (whole_records bytes) (D.may_leave e.1)) }
@@ -175,7 +175,7 @@ impl<D: Disk> Journal<D> {
         ensures succeeds { HasRoom D.limit D.space len self.old → IsOk result }
         ensures keeps { KeepsRoom D.limit D.space self.old self.new }
         ensures same { Unchanged D.seen D.left_by D.size D.may_leave D.moment D.left_since self.old self.new }
-        ensures disk { SameCounts D.faults D.own_faults D.calls D.setting D.limit self.old.disk self.new.disk }
+        ensures disk { SameCountsBy D.Disk self.old.disk self.new.disk }
     {
         let most = len.min(self.disk.capacity().saturating_sub(self.gate + TAKEN));
         make_room(&mut self.disk, &mut self.place, self.gate, most)?;
@@ -195,25 +195,25 @@ impl<D: Disk> Journal<D> {
         ensures memory { HasRoom D.limit D.space (length rec.now) self.old → IsErrOf result JournalFault.OutOfMemory → ⊥ }
         ensures number { IfOk result (λ n. (n ≡ self.old.count + 1) × (self.new.count ≡ n) × (self.new.gate ≡ self.old.gate + length rec.now + 9) × (self.new.closed ≡ false)) }
 
-        ensures told { IsSome (D.seen self.new.disk) ↔ IsSome (D.seen self.old.disk) }
+        ensures told { TellsOn D.Disk self.old.disk self.new.disk }
 
         // Where the disk tells: every crash leaves the new record too.
         ensures added { OnOk result ((bytes : List ℕ) → D.seen self.old.disk ≡ Some bytes → IsJournal (whole_records bytes ++ rec.now ∷ []) (D.seen self.new.disk) (D.may_leave self.new.disk)) }
 
         // A crash at any moment leaves the records from before the call, with the new one or without.
         ensures any_moment { self.old.closed ≡ false → (bytes : List ℕ) → D.seen self.old.disk ≡ Some bytes
-            → LeavesOnly D.moment D.left_since self.old.disk self.new.disk (IsBeforeOrAfter (whole_records bytes) rec.now) }
+            → LeavesOnlyBy D.Disk self.old.disk self.new.disk (IsBeforeOrAfter (whole_records bytes) rec.now) }
 
         // Where the disk was set to stop or to fail at one of the calls, that one tells what a crash with each pick leaves.
-        ensures reached { IsErrOf result JournalFault.Failed → ReachesCall (D.setting self.old.disk) (D.calls self.old.disk) (D.calls self.new.disk) }
+        ensures reached { IsErrOf result JournalFault.Failed → ReachesBy D.Disk self.old.disk self.new.disk }
         ensures left { IsErrOf result JournalFault.Failed → (bytes : List ℕ) → D.seen self.old.disk ≡ Some bytes
-            → LeavesByPick D.left_by D.calls D.setting (whole_records bytes) rec.now self.old.disk self.new.disk }
+            → LeavesByPickOf D.Disk (whole_records bytes) rec.now self.old.disk self.new.disk }
 
         ensures unchanged { LeavesUnchanged result (Unchanged D.seen D.left_by D.size D.may_leave D.moment D.left_since self.old self.new) }
         ensures keeps { LeavesUnchanged result (KeepsRoom D.limit D.space self.old self.new) }
-        ensures uncounted { LeavesUnchanged result (SameCounts D.faults D.own_faults D.calls D.setting D.limit self.old.disk self.new.disk) }
+        ensures uncounted { LeavesUnchanged result (SameCountsBy D.Disk self.old.disk self.new.disk) }
         ensures calls { OnOk result (D.calls self.new.disk ≡ D.calls self.old.disk + 4) }
-        ensures most { (D.calls self.old.disk ≤ D.calls self.new.disk) × (D.calls self.new.disk ≤ D.calls self.old.disk + 4) }
+        ensures most { CallsAtMost 4 D.Disk self.old.disk self.new.disk }
         ensures cause { Appended (D.setting self.old.disk) (D.calls self.old.disk) (D.calls self.new.disk) (D.faults self.old.disk) (D.faults self.new.disk) (D.own_faults self.old.disk) (D.own_faults self.new.disk) result }
         ensures kept { (self.new.found ≡ self.old.found) × (D.limit self.new.disk ≡ D.limit self.old.disk) × (D.setting self.new.disk ≡ D.setting self.old.disk) }
     {

@@ -1,9 +1,11 @@
 // What `attach` does to a disk whose bytes are no journal at rest.
-ghost use Rattle.std.specs.Prelude.{◌≡◌, ◌≤◌, ◌<◌, ◌+◌, ◌*◌, ◌^◌, List, ℕ, [], length, map, max, Some, IsSome, IfOk, OnOk, IsTrue, slice_index_or, ◌↔◌};
-ghost use Rattle.afs_disk.specs.Disk.{Ran, Holds, LeavesJust, LeavesOnly};
+ghost use Rattle.std.specs.Prelude.{◌≡◌, ◌≤◌, ◌<◌, ◌+◌, ◌*◌, ◌^◌, List, ℕ, [], length, map, max, Some, IfOk, OnOk, IsTrue, slice_index_or, ◌↔◌};
+ghost use Rattle.afs_disk.specs.Disk.{Holds, LeavesJust};
+ghost use Rattle.afs_disk.specs.Words.{LeavesOnlyBy, RanBy, TellsOn, CallsAtMost};
 ghost use Rattle.afs_journal.specs.Found.{piece_of};
 ghost use Rattle.afs_journal.specs.Records.{whole_records, EndsAt};
-ghost use Rattle.afs_journal.specs.Log.{IsJournal, Rests, Served};
+ghost use Rattle.afs_journal.specs.Log.{IsJournal, Rests};
+ghost use Rattle.afs_journal.specs.Words.{ServedBy};
 
 use crate::found::Piece;
 use crate::scan::scan;
@@ -21,14 +23,14 @@ pub(crate) fn begin<D: Disk>(disk: &mut D) -> Result<(), Failed>
     requires room { Holds 4 1 1 (D.space disk.old) }
 
     ensures size { OnOk result (D.size disk.new ≡ 1) }
-    ensures told { IsSome (D.seen disk.new) ↔ IsSome (D.seen disk.old) }
+    ensures told { TellsOn D.Disk disk.old disk.new }
     ensures done { OnOk result (D.seen disk.old ≡ Some [] → LeavesJust [] (D.may_leave disk.old) → IsJournal [] (D.seen disk.new) (D.may_leave disk.new)) }
     ensures any_moment { D.seen disk.old ≡ Some [] → LeavesJust [] (D.may_leave disk.old)
-        → LeavesOnly D.moment D.left_since disk.old disk.new (λ c. whole_records c ≡ []) }
+        → LeavesOnlyBy D.Disk disk.old disk.new (λ c. whole_records c ≡ []) }
     ensures made { OnOk result (D.calls disk.new ≡ D.calls disk.old + 2) }
-    ensures calls { (D.calls disk.old ≤ D.calls disk.new) × (D.calls disk.new ≤ D.calls disk.old + 2) }
+    ensures calls { CallsAtMost 2 D.Disk disk.old disk.new }
     ensures setting { D.setting disk.new ≡ D.setting disk.old }
-    ensures cause { Ran (D.setting disk.old) (D.calls disk.old) (D.calls disk.new) (D.faults disk.old) (D.faults disk.new) (D.own_faults disk.old) (D.own_faults disk.new) result }
+    ensures cause { RanBy D.Disk disk.old disk.new result }
     ensures limit { D.limit disk.new ≡ D.limit disk.old }
 {
     disk.write_at(0, &[CLOSED])?;
@@ -44,15 +46,15 @@ pub(crate) fn repair<D: Disk>(disk: &mut D, gate: u64) -> Result<(), Failed>
     requires room { Holds 4 1 (gate + 1) (D.space disk.old) }
 
     ensures size { OnOk result (D.size disk.new ≡ gate + 1) }
-    ensures told { IsSome (D.seen disk.new) ↔ IsSome (D.seen disk.old) }
+    ensures told { TellsOn D.Disk disk.old disk.new }
     ensures done { OnOk result ((bodies : List (List ℕ)) (bytes : List ℕ) → EndsAt gate bodies bytes → D.seen disk.old ≡ Some bytes → LeavesJust bytes (D.may_leave disk.old)
         → IsJournal bodies (D.seen disk.new) (D.may_leave disk.new)) }
     ensures any_moment { (bodies : List (List ℕ)) (bytes : List ℕ) → EndsAt gate bodies bytes → D.seen disk.old ≡ Some bytes → LeavesJust bytes (D.may_leave disk.old)
-        → LeavesOnly D.moment D.left_since disk.old disk.new (λ c. whole_records c ≡ bodies) }
+        → LeavesOnlyBy D.Disk disk.old disk.new (λ c. whole_records c ≡ bodies) }
     ensures made { OnOk result (D.calls disk.new ≡ D.calls disk.old + 4) }
-    ensures calls { (D.calls disk.old ≤ D.calls disk.new) × (D.calls disk.new ≤ D.calls disk.old + 4) }
+    ensures calls { CallsAtMost 4 D.Disk disk.old disk.new }
     ensures setting { D.setting disk.new ≡ D.setting disk.old }
-    ensures cause { Ran (D.setting disk.old) (D.calls disk.old) (D.calls disk.new) (D.faults disk.old) (D.faults disk.new) (D.own_faults disk.old) (D.own_faults disk.new) result }
+    ensures cause { RanBy D.Disk disk.old disk.new result }
     ensures limit { D.limit disk.new ≡ D.limit disk.old }
 {
     disk.cut(gate + 1)?;
@@ -85,15 +87,15 @@ pub(crate) fn settle<D: Disk>(
     ensures few { IfOk result (λ r. length r.0.items < 2 ^ 32) }
     ensures found { IfOk result (λ r. map (piece_of bytes.now) r.0.items ≡ whole_records bytes.now) }
     ensures empty { IfOk result (λ r. length bytes.now ≡ 0 → (r.0.items ≡ []) × (r.1 ≡ 0)) }
-    ensures told { IsSome (D.seen disk.new) ↔ IsSome (D.seen disk.old) }
+    ensures told { TellsOn D.Disk disk.old disk.new }
     ensures done { OnOk result (D.seen disk.old ≡ Some bytes.now → LeavesJust bytes.now (D.may_leave disk.old)
         → IsJournal (whole_records bytes.now) (D.seen disk.new) (D.may_leave disk.new)) }
     ensures any_moment { D.seen disk.old ≡ Some bytes.now → LeavesJust bytes.now (D.may_leave disk.old)
-        → LeavesOnly D.moment D.left_since disk.old disk.new (λ c. whole_records c ≡ whole_records bytes.now) }
+        → LeavesOnlyBy D.Disk disk.old disk.new (λ c. whole_records c ≡ whole_records bytes.now) }
     ensures rests { OnOk result (Rests bytes.now → D.calls disk.new ≡ D.calls disk.old) }
-    ensures calls { (D.calls disk.old ≤ D.calls disk.new) × (D.calls disk.new ≤ D.calls disk.old + 4) }
+    ensures calls { CallsAtMost 4 D.Disk disk.old disk.new }
     ensures setting { D.setting disk.new ≡ D.setting disk.old }
-    ensures cause { Served (D.setting disk.old) (D.calls disk.old) (D.calls disk.new) (D.faults disk.old) (D.faults disk.new) (D.own_faults disk.old) (D.own_faults disk.new) result }
+    ensures cause { ServedBy D.Disk disk.old disk.new result }
     ensures limit { D.limit disk.new ≡ D.limit disk.old }
 {
     if bytes.is_empty() {

@@ -1,7 +1,8 @@
 // What `attach` does first: it makes the disk's content durable, and reads it.
 ghost use Rattle.std.specs.Prelude.{◌≡◌, ◌<◌, ◌≤◌, ◌+◌, List, ℕ, Some, length, max, IfOk, OnOk};
-ghost use Rattle.afs_disk.specs.Disk.{Ran, Holds, LeavesJust, LeavesOnly, Takes};
-ghost use Rattle.afs_journal.specs.Log.{Served};
+ghost use Rattle.afs_disk.specs.Disk.{Holds, LeavesJust, Takes};
+ghost use Rattle.afs_disk.specs.Words.{LeavesOnlyBy, RanBy, CallsAtMost};
+ghost use Rattle.afs_journal.specs.Words.{ServedBy};
 
 use afs_disk::Disk;
 use afs_num::devices::Failed;
@@ -19,11 +20,11 @@ fn read_all<D: Disk>(disk: &mut D, bytes: &mut [u8]) -> Result<(), Failed>
     ensures seen { D.seen disk.new ≡ D.seen disk.old }
     ensures size { D.size disk.new ≡ D.size disk.old }
     ensures crash { (c : List ℕ) → D.may_leave disk.new c → D.may_leave disk.old c }
-    ensures steady { LeavesOnly D.moment D.left_since disk.old disk.new (D.may_leave disk.old) }
+    ensures steady { LeavesOnlyBy D.Disk disk.old disk.new (D.may_leave disk.old) }
     ensures made { OnOk result (0 < length bytes.old → D.calls disk.new ≡ D.calls disk.old + 1) }
-    ensures calls { (D.calls disk.old ≤ D.calls disk.new) × (D.calls disk.new ≤ D.calls disk.old + 1) }
+    ensures calls { CallsAtMost 1 D.Disk disk.old disk.new }
     ensures setting { D.setting disk.new ≡ D.setting disk.old }
-    ensures cause { Ran (D.setting disk.old) (D.calls disk.old) (D.calls disk.new) (D.faults disk.old) (D.faults disk.new) (D.own_faults disk.old) (D.own_faults disk.new) result }
+    ensures cause { RanBy D.Disk disk.old disk.new result }
     ensures room { Takes 0 (D.space disk.old) (D.space disk.new) }
     ensures limit { D.limit disk.new ≡ D.limit disk.old }
 {
@@ -42,12 +43,12 @@ pub(crate) fn open<D: Disk>(alloc: Global, disk: &mut D) -> Result<Vec<u8>, Jour
     ensures size { D.size disk.new ≡ D.size disk.old }
     ensures durable { OnOk result ((content : List ℕ) → D.seen disk.old ≡ Some content → LeavesJust content (D.may_leave disk.new)) }
     ensures begins { D.calls disk.old + 2 ≤ D.calls disk.new → (content : List ℕ) → D.seen disk.old ≡ Some content → LeavesJust content (D.may_leave disk.new) }
-    ensures steady { LeavesOnly D.moment D.left_since disk.old disk.new (D.may_leave disk.old) }
+    ensures steady { LeavesOnlyBy D.Disk disk.old disk.new (D.may_leave disk.old) }
     ensures room { OnOk result (Holds 6 1 (max (D.size disk.old) 1) (D.space disk.new)) }
     ensures made { OnOk result (0 < D.size disk.old → D.calls disk.new ≡ D.calls disk.old + 2) }
-    ensures calls { (D.calls disk.old ≤ D.calls disk.new) × (D.calls disk.new ≤ D.calls disk.old + 2) }
+    ensures calls { CallsAtMost 2 D.Disk disk.old disk.new }
     ensures setting { D.setting disk.new ≡ D.setting disk.old }
-    ensures cause { Served (D.setting disk.old) (D.calls disk.old) (D.calls disk.new) (D.faults disk.old) (D.faults disk.new) (D.own_faults disk.old) (D.own_faults disk.new) result }
+    ensures cause { ServedBy D.Disk disk.old disk.new result }
     ensures limit { D.limit disk.new ≡ D.limit disk.old }
 {
     let len = disk.len();

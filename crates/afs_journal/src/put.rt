@@ -1,9 +1,10 @@
 // The four device calls of an append.
-ghost use Rattle.std.specs.Prelude.{◌≡◌, ◌≤◌, ◌<◌, ◌+◌, ◌^◌, List, ℕ, [], ◌∷◌, ◌++◌, length, Some, IsSome, OnOk, ◌↔◌};
-ghost use Rattle.afs_disk.specs.Disk.{Ran, Holds, LeavesOnly};
+ghost use Rattle.std.specs.Prelude.{◌≡◌, ◌≤◌, ◌<◌, ◌+◌, ◌^◌, List, ℕ, [], ◌∷◌, ◌++◌, length, Some, OnOk};
+ghost use Rattle.afs_disk.specs.Disk.{Holds};
+ghost use Rattle.afs_disk.specs.Words.{LeavesOnlyBy, RanBy, TellsOn, CallsAtMost};
 ghost use Rattle.afs_journal.specs.Records.{whole_records, IsBeforeOrAfter};
-ghost use Rattle.afs_journal.specs.Left.{LeavesByPick, ReachesCall};
 ghost use Rattle.afs_journal.specs.Log.{IsJournal, IsSettled, Spells};
+ghost use Rattle.afs_journal.specs.Words.{LeavesByPickOf, ReachesBy};
 
 use afs_disk::Disk;
 use afs_num::devices::Failed;
@@ -20,7 +21,7 @@ pub(crate) fn put<D: Disk>(disk: &mut D, gate: u64, place: &[u8]) -> Result<(), 
 
     ensures size { OnOk result (D.size disk.new ≡ gate + 1 + length place.now) }
 
-    ensures told { IsSome (D.seen disk.new) ↔ IsSome (D.seen disk.old) }
+    ensures told { TellsOn D.Disk disk.old disk.new }
 
     // Where the disk tells: after Ok there is one record more, and every crash leaves it.
     ensures done { OnOk result ((count : ℕ) (body bytes : List ℕ) → Spells count body place.now → D.seen disk.old ≡ Some bytes → IsSettled count gate (D.may_leave disk.old) bytes
@@ -28,17 +29,17 @@ pub(crate) fn put<D: Disk>(disk: &mut D, gate: u64, place: &[u8]) -> Result<(), 
 
     // A crash at any moment leaves the records from before, with the new one or without.
     ensures any_moment { (count : ℕ) (body bytes : List ℕ) → Spells count body place.now → D.seen disk.old ≡ Some bytes → IsSettled count gate (D.may_leave disk.old) bytes
-        → LeavesOnly D.moment D.left_since disk.old disk.new (IsBeforeOrAfter (whole_records bytes) body) }
+        → LeavesOnlyBy D.Disk disk.old disk.new (IsBeforeOrAfter (whole_records bytes) body) }
 
     // Where the disk was set to stop or to fail at one of the calls, that one tells what a crash with each pick leaves.
-    ensures reached { ReachesCall (D.setting disk.old) (D.calls disk.old) (D.calls disk.new) }
+    ensures reached { ReachesBy D.Disk disk.old disk.new }
     ensures left { (count : ℕ) (body bytes : List ℕ) → Spells count body place.now → D.seen disk.old ≡ Some bytes → IsSettled count gate (D.may_leave disk.old) bytes
-        → LeavesByPick D.left_by D.calls D.setting (whole_records bytes) body disk.old disk.new }
+        → LeavesByPickOf D.Disk (whole_records bytes) body disk.old disk.new }
 
     ensures made { OnOk result (D.calls disk.new ≡ D.calls disk.old + 4) }
-    ensures calls { (D.calls disk.old ≤ D.calls disk.new) × (D.calls disk.new ≤ D.calls disk.old + 4) }
+    ensures calls { CallsAtMost 4 D.Disk disk.old disk.new }
     ensures setting { D.setting disk.new ≡ D.setting disk.old }
-    ensures cause { Ran (D.setting disk.old) (D.calls disk.old) (D.calls disk.new) (D.faults disk.old) (D.faults disk.new) (D.own_faults disk.old) (D.own_faults disk.new) result }
+    ensures cause { RanBy D.Disk disk.old disk.new result }
     ensures limit { D.limit disk.new ≡ D.limit disk.old }
 {
     disk.write_at(gate + 1, place)?;

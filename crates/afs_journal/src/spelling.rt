@@ -1,7 +1,8 @@
 // The bytes of a record's place, and the room for them.
 ghost use Rattle.std.specs.Prelude.{◌≡◌, ◌≤◌, ◌<◌, ◌+◌, ◌^◌, ◌++◌, ◌∷◌, [], length, OnOk, IsOk};
 ghost use Rattle.std.specs.Vec.{vec_capacity};
-ghost use Rattle.afs_disk.specs.Disk.{Holds, NoSmaller, SameDisk};
+ghost use Rattle.afs_disk.specs.Disk.{Holds, NoSmaller};
+ghost use Rattle.afs_disk.specs.Words.{SameDiskBy, SameFaults};
 ghost use Rattle.afs_journal.specs.Records.{place_of};
 
 use afs_disk::Disk;
@@ -23,8 +24,8 @@ pub(crate) fn make_room<D: Disk>(disk: &mut D, place: &mut Vec<u8>, gate: u64, m
     ensures succeeds { most + 9 ≤ vec_capacity place.old → Holds 8 (most + 10) (gate + most + 10) (D.space disk.old) → IsOk result }
     ensures no_shorter { vec_capacity place.old ≤ vec_capacity place.new }
     ensures grows { NoSmaller (D.space disk.old) (D.space disk.new) }
-    ensures same { SameDisk D.seen D.left_by D.size D.may_leave D.moment D.left_since disk.old disk.new }
-    ensures faults { (D.faults disk.new ≡ D.faults disk.old) × (D.own_faults disk.new ≡ D.own_faults disk.old) }
+    ensures same { SameDiskBy D.Disk disk.old disk.new }
+    ensures faults { SameFaults D.Disk disk.old disk.new }
     ensures calls { D.calls disk.new ≡ D.calls disk.old }
     ensures setting { D.setting disk.new ≡ D.setting disk.old }
     ensures limit { D.limit disk.new ≡ D.limit disk.old }

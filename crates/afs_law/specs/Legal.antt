@@ -1067,10 +1067,10 @@ IsOfScript s actors.Clock = ⊤
 IsOfScript s actors.Nobody = ⊤
 
 -- An entry lays no volumes, for the set-up alone does; and it is of a node of the script. A server that begins again was down, and is then in
--- a boot above the last one that it began. A node that is down does nothing but begin again, or fail to. What an entry is given was sent to its
--- node. A client that runs a call which breaks promises drops what these are on, and one that is given the answer to its last call answers its act, where
+-- a boot above the last one that it began. A client or a server that is down does nothing but begin again, or fail to. What an entry is given
+-- was sent to its node. A client that runs a call which breaks promises drops what these are on, and one that is given the answer to its last call answers its act, where
 -- that call may change something. A server answers in the boot in which it is, and to a changing call only where no other call of its act had changed
--- something before that ran. A notice tells the boot of its sender
+-- something before that ran. A notice of a client or a server tells its boot. Of the location database no such thing is asked
 abbrev pub IsEntryOf : Script → List Entry → Entry → Type 0
 IsEntryOf s past e = ((e.volumes ≡ []) × IsOfScript s e.actor) × (AreRising (lines_of past) e.lines × (IsLivedBy e.actor past e.lines e.sent × (IsDelivered e.actor past e.lines × ((HandlesBreaks e.actor past e.lines × TakesReply s e.actor past e.lines) × ArePresent (e ∷ past) e.sent))))
 

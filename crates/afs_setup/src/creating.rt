@@ -1,15 +1,16 @@
 //! A store is made of a disk at set-up.
 
-ghost use Rattle.std.specs.Prelude.{◌≡◌, ◌≤◌, ◌<◌, ◌^◌, ◌∷◌, ◌⊎◌, ◌↔◌, ℕ, [], None, Some, true, false, is_some, length, map, IfErr, IfOk, IsSome, MatchResult};
+ghost use Rattle.std.specs.Prelude.{◌≡◌, ◌≤◌, ◌<◌, ◌^◌, ◌∷◌, ◌⊎◌, ℕ, [], None, Some, true, false, is_some, length, map, IfErr, IfOk, IsSome, MatchResult};
 ghost use Rattle.afs_num.specs.declared.faults.StoreFault.TheVariants as faults;
 ghost use Rattle.afs_num.specs.declared.records.StoreRecord as records;
-ghost use Rattle.afs_disk.specs.Disk.{LeavesJust, LeavesOnly, PassesAll};
+ghost use Rattle.afs_disk.specs.Disk.{LeavesJust};
+ghost use Rattle.afs_disk.specs.Words.{LeavesOnlyBy, TellsOn, SameFaults, PassesBy};
 ghost use Rattle.afs_journal.specs.Log.{IsJournal};
 ghost use Rattle.afs_records.specs.Changes.{first_record, set_up};
 ghost use Rattle.afs_records.specs.Durable.{Durable, body_taken, is_first};
 ghost use Rattle.afs_records.specs.Records.{record_bytes, FitsRecord};
-ghost use Rattle.afs_volstore.specs.Opening.{CanBeSetUp, IsSetUpFault, IsSetUpSoFar, Moved};
-ghost use Rattle.afs_volstore.specs.Stores.{IsCaused, IsKept};
+ghost use Rattle.afs_volstore.specs.Opening.{CanBeSetUp, IsSetUpFault, IsSetUpSoFar};
+ghost use Rattle.afs_volstore.specs.Stores.{IsKept, IsCausedBy, MovedBy};
 
 use crate::laying::{first_record, record_length};
 use afs_disk::Disk;
@@ -64,7 +65,7 @@ pub fn create<D: Disk>(
 
     // Where the disk told its bytes, the first record alone stands there, and every crash leaves it.
     ensures first { IfOk result (λ s. IsSome (D.seen disk) → (r : records.StoreRecord) → first_record (map (λ l. l.now) volumes.now) ≡ Some r → IsJournal (record_bytes r ∷ []) (D.seen s.disk) (D.may_leave s.disk)) }
-    ensures told { MatchResult result (λ s. IsSome (D.seen s.disk) ↔ IsSome (D.seen disk)) (λ e. IsSome (D.seen e.1) ↔ IsSome (D.seen disk)) }
+    ensures told { MatchResult result (λ s. TellsOn D.Disk disk s.disk) (λ e. TellsOn D.Disk disk e.1) }
 
     ensures full { IfErr result (λ e. (used capacity : ℕ) → e.0 ≡ faults.Full used capacity → (used ≡ 1) × ((capacity ≡ D.limit disk) × (set_up (D.limit disk) (map (λ l. l.now) volumes.now) ≡ None))) }
     ensures untouched { IfErr result (λ e. (used capacity : ℕ) → e.0 ≡ faults.Full used capacity → e.1 ≡ disk) }
@@ -76,13 +77,13 @@ pub fn create<D: Disk>(
 
     // On an empty disk a crash at any moment leaves no record, or the first.
     ensures any_moment { D.seen disk ≡ Some [] → LeavesJust [] (D.may_leave disk) → MatchResult result
-        (λ s. LeavesOnly D.moment D.left_since disk s.disk (IsSetUpSoFar (D.limit disk) (map (λ l. l.now) volumes.now)))
-        (λ e. LeavesOnly D.moment D.left_since disk e.1 (IsSetUpSoFar (D.limit disk) (map (λ l. l.now) volumes.now))) }
+        (λ s. LeavesOnlyBy D.Disk disk s.disk (IsSetUpSoFar (D.limit disk) (map (λ l. l.now) volumes.now)))
+        (λ e. LeavesOnlyBy D.Disk disk e.1 (IsSetUpSoFar (D.limit disk) (map (λ l. l.now) volumes.now))) }
 
     // It makes at most twelve device calls.
-    ensures ok { IfOk result (λ s. Moved 12 D.faults D.own_faults D.calls D.setting D.limit disk s.disk × PassesAll (D.setting disk) (D.calls disk) (D.calls s.disk)) }
-    ensures quiet { IfOk result (λ s. (D.faults s.disk ≡ D.faults disk) × (D.own_faults s.disk ≡ D.own_faults disk)) }
-    ensures err { IfErr result (λ e. Moved 12 D.faults D.own_faults D.calls D.setting D.limit disk e.1 × IsCaused (D.setting disk) (D.calls e.1) (D.faults disk) (D.faults e.1) (D.own_faults disk) (D.own_faults e.1) e.0) }
+    ensures ok { IfOk result (λ s. MovedBy 12 D.Disk disk s.disk × PassesBy D.Disk disk s.disk) }
+    ensures quiet { IfOk result (λ s. SameFaults D.Disk disk s.disk) }
+    ensures err { IfErr result (λ e. MovedBy 12 D.Disk disk e.1 × IsCausedBy D.Disk disk e.1 e.0) }
 {
     records_are_read_again();
     let (rec, len) = match first_spelled(alloc, volumes) {

@@ -5,3 +5,4 @@ pub mod Rereading
 pub mod Sound
 pub mod Stores
 pub mod Waiting
+pub mod Words

@@ -1,13 +1,14 @@
 //! A journal is begun on a disk, and a store is made of it with its first record.
 
-ghost use Rattle.std.specs.Prelude.{◌≡◌, ◌≤◌, ◌+◌, ◌++◌, ◌∷◌, ◌⊎◌, ◌↔◌, ℕ, List, [], None, Some, true, false, is_some, length, IfErr, IfOk, IsOk, IsSome, MatchResult, OnOk};
+ghost use Rattle.std.specs.Prelude.{◌≡◌, ◌≤◌, ◌+◌, ◌++◌, ◌∷◌, ◌⊎◌, ℕ, List, [], None, Some, true, false, is_some, length, IfErr, IfOk, IsOk, IsSome, MatchResult, OnOk};
 ghost use Rattle.afs_num.specs.declared.faults.StoreFault.TheVariants as faults;
-ghost use Rattle.afs_disk.specs.Disk.{LeavesJust, LeavesOnly, PassesAll};
+ghost use Rattle.afs_disk.specs.Disk.{LeavesJust};
+ghost use Rattle.afs_disk.specs.Words.{LeavesOnlyBy, TellsOn, SameFaults, PassesBy};
 ghost use Rattle.afs_journal.specs.Log.{IsJournal};
 ghost use Rattle.afs_journal.specs.Records.{whole_records, IsBeforeOrAfter};
 ghost use Rattle.afs_store.specs.Folds.{taken_as};
-ghost use Rattle.afs_store.specs.Opening.{Moved};
-ghost use Rattle.afs_store.specs.Stores.{IsCaused, IsKept, Served};
+ghost use Rattle.afs_store.specs.Stores.{IsKept};
+ghost use Rattle.afs_store.specs.Words.{ServedBy, IsCausedBy, MovedBy};
 
 use crate::committing::{append, place};
 use crate::fold::{Fold, Unfit};
@@ -22,10 +23,10 @@ use std::alloc::Global;
 /// Cuts a disk to nothing. An empty one stays as it is.
 fn clear<D: Disk>(disk: &mut D) -> Result<(), StoreFault>
     ensures empty { OnOk result (D.size disk.new ≡ 0) }
-    ensures told { IsSome (D.seen disk.new) ↔ IsSome (D.seen disk.old) }
+    ensures told { TellsOn D.Disk disk.old disk.new }
     ensures untouched { D.size disk.old ≡ 0 → (disk.new ≡ disk.old) × IsOk result }
-    ensures moved { Moved 1 D.faults D.own_faults D.calls D.setting D.limit disk.old disk.new }
-    ensures served { Served (D.setting disk.old) (D.calls disk.old) (D.calls disk.new) (D.faults disk.old) (D.faults disk.new) (D.own_faults disk.old) (D.own_faults disk.new) result }
+    ensures moved { MovedBy 1 D.Disk disk.old disk.new }
+    ensures served { ServedBy D.Disk disk.old disk.new result }
     ensures refusals { IfErr result (λ e. (e ≡ faults.Failed) ⊎ (e ≡ faults.OutOfMemory)) }
 {
     if disk.len() == 0 {
@@ -46,13 +47,13 @@ pub fn begin<D: Disk>(alloc: Global, disk: D) -> Result<Journal<D>, (StoreFault,
     requires { D.limit disk ≤ 268435456 }
     ensures empty { IfOk result (λ j. (j.gate ≡ 0) × ((j.count ≡ 0) × (j.closed ≡ false))) }
     ensures begun { IfOk result (λ j. IsSome (D.seen disk) → IsJournal [] (D.seen j.disk) (D.may_leave j.disk)) }
-    ensures told { MatchResult result (λ j. IsSome (D.seen j.disk) ↔ IsSome (D.seen disk)) (λ e. IsSome (D.seen e.1) ↔ IsSome (D.seen disk)) }
+    ensures told { MatchResult result (λ j. TellsOn D.Disk disk j.disk) (λ e. TellsOn D.Disk disk e.1) }
     ensures any_moment { D.seen disk ≡ Some [] → LeavesJust [] (D.may_leave disk) → MatchResult result
-        (λ j. LeavesOnly D.moment D.left_since disk j.disk (λ c. whole_records c ≡ []))
-        (λ e. LeavesOnly D.moment D.left_since disk e.1 (λ c. whole_records c ≡ [])) }
-    ensures ok { IfOk result (λ j. Moved 7 D.faults D.own_faults D.calls D.setting D.limit disk j.disk × PassesAll (D.setting disk) (D.calls disk) (D.calls j.disk)) }
-    ensures quiet { IfOk result (λ j. (D.faults j.disk ≡ D.faults disk) × (D.own_faults j.disk ≡ D.own_faults disk)) }
-    ensures err { IfErr result (λ e. Moved 7 D.faults D.own_faults D.calls D.setting D.limit disk e.1 × IsCaused (D.setting disk) (D.calls e.1) (D.faults disk) (D.faults e.1) (D.own_faults disk) (D.own_faults e.1) e.0) }
+        (λ j. LeavesOnlyBy D.Disk disk j.disk (λ c. whole_records c ≡ []))
+        (λ e. LeavesOnlyBy D.Disk disk e.1 (λ c. whole_records c ≡ [])) }
+    ensures ok { IfOk result (λ j. MovedBy 7 D.Disk disk j.disk × PassesBy D.Disk disk j.disk) }
+    ensures quiet { IfOk result (λ j. SameFaults D.Disk disk j.disk) }
+    ensures err { IfErr result (λ e. MovedBy 7 D.Disk disk e.1 × IsCausedBy D.Disk disk e.1 e.0) }
     ensures refusals { IfErr result (λ e. (e.0 ≡ faults.Failed) ⊎ (e.0 ≡ faults.OutOfMemory)) }
 {
     let mut disk = disk;
@@ -77,12 +78,12 @@ fn put_first<D: Disk, R: Drop, T: Drop, S: Fold<R, T>>(
     requires room { journal.old.gate + length (S.fold.spelled rec.now) + 10 ≤ D.limit journal.old.disk }
     ensures held { OnOk result (S.fold.done rec.now (S.fold.held state.old) ≡ Some (S.fold.held state.new)) }
     ensures number { OnOk result ((journal.new.count ≡ journal.old.count + 1) × ((journal.new.gate ≡ journal.old.gate + length (S.fold.spelled rec.now) + 9) × (journal.new.closed ≡ false))) }
-    ensures seen { IsSome (D.seen journal.new.disk) ↔ IsSome (D.seen journal.old.disk) }
+    ensures seen { TellsOn D.Disk journal.old.disk journal.new.disk }
     ensures added { OnOk result ((content : List ℕ) → D.seen journal.old.disk ≡ Some content → IsJournal (whole_records content ++ S.fold.spelled rec.now ∷ []) (D.seen journal.new.disk) (D.may_leave journal.new.disk)) }
     ensures any_moment { (content : List ℕ) → D.seen journal.old.disk ≡ Some content → LeavesJust content (D.may_leave journal.old.disk)
-        → LeavesOnly D.moment D.left_since journal.old.disk journal.new.disk (IsBeforeOrAfter (whole_records content) (S.fold.spelled rec.now)) }
-    ensures moved { Moved 4 D.faults D.own_faults D.calls D.setting D.limit journal.old.disk journal.new.disk }
-    ensures served { Served (D.setting journal.old.disk) (D.calls journal.old.disk) (D.calls journal.new.disk) (D.faults journal.old.disk) (D.faults journal.new.disk) (D.own_faults journal.old.disk) (D.own_faults journal.new.disk) result }
+        → LeavesOnlyBy D.Disk journal.old.disk journal.new.disk (IsBeforeOrAfter (whole_records content) (S.fold.spelled rec.now)) }
+    ensures moved { MovedBy 4 D.Disk journal.old.disk journal.new.disk }
+    ensures served { ServedBy D.Disk journal.old.disk journal.new.disk result }
     ensures refusals { IfErr result (λ e. (e ≡ faults.Failed) ⊎ (e ≡ faults.OutOfMemory)) }
 {
     let ready = match S::ready(alloc, rec) {
@@ -113,14 +114,14 @@ pub fn filled<D: Disk, R: Drop, T: Drop, S: Fold<R, T>>(
     ensures rest { IfOk result (λ s. s ≡ record { durable = s.durable; disk = s.disk; node = node; prepared = None; closed = false; count = 1; drawn = 0 }) }
     ensures kept { IfOk result (λ s. IsKept S.fold s.durable (D.seen s.disk) (D.may_leave s.disk)) }
     ensures first { IfOk result (λ s. IsSome (D.seen journal.disk) → IsJournal (S.fold.spelled rec.now ∷ []) (D.seen s.disk) (D.may_leave s.disk)) }
-    ensures told { MatchResult result (λ s. IsSome (D.seen s.disk) ↔ IsSome (D.seen journal.disk)) (λ e. IsSome (D.seen e.1) ↔ IsSome (D.seen journal.disk)) }
+    ensures told { MatchResult result (λ s. TellsOn D.Disk journal.disk s.disk) (λ e. TellsOn D.Disk journal.disk e.1) }
     ensures refusals { IfErr result (λ e. (e.0 ≡ faults.Failed) ⊎ (e.0 ≡ faults.OutOfMemory)) }
     ensures any_moment { IsSome (D.seen journal.disk) → MatchResult result
-        (λ s. LeavesOnly D.moment D.left_since journal.disk s.disk (IsBeforeOrAfter [] (S.fold.spelled rec.now)))
-        (λ e. LeavesOnly D.moment D.left_since journal.disk e.1 (IsBeforeOrAfter [] (S.fold.spelled rec.now))) }
-    ensures ok { IfOk result (λ s. Moved 4 D.faults D.own_faults D.calls D.setting D.limit journal.disk s.disk × PassesAll (D.setting journal.disk) (D.calls journal.disk) (D.calls s.disk)) }
-    ensures quiet { IfOk result (λ s. (D.faults s.disk ≡ D.faults journal.disk) × (D.own_faults s.disk ≡ D.own_faults journal.disk)) }
-    ensures err { IfErr result (λ e. Moved 4 D.faults D.own_faults D.calls D.setting D.limit journal.disk e.1 × IsCaused (D.setting journal.disk) (D.calls e.1) (D.faults journal.disk) (D.faults e.1) (D.own_faults journal.disk) (D.own_faults e.1) e.0) }
+        (λ s. LeavesOnlyBy D.Disk journal.disk s.disk (IsBeforeOrAfter [] (S.fold.spelled rec.now)))
+        (λ e. LeavesOnlyBy D.Disk journal.disk e.1 (IsBeforeOrAfter [] (S.fold.spelled rec.now))) }
+    ensures ok { IfOk result (λ s. MovedBy 4 D.Disk journal.disk s.disk × PassesBy D.Disk journal.disk s.disk) }
+    ensures quiet { IfOk result (λ s. SameFaults D.Disk journal.disk s.disk) }
+    ensures err { IfErr result (λ e. MovedBy 4 D.Disk journal.disk e.1 × IsCausedBy D.Disk journal.disk e.1 e.0) }
 {
     let mut journal = journal;
     let mut state = S::nothing(alloc);

@@ -2,13 +2,14 @@
 
 ghost use Rattle.std.specs.Prelude.{◌≡◌, ◌≤◌, ◌+◌, ◌++◌, ◌↔◌, ◌⊎◌, ◌∷◌, ◌&&◌, ℕ, List, [], None, Some, true, false, length, nat_lt, IfErr, IsErrOf, IsOk, IsSome, OnErr, OnOk};
 ghost use Rattle.afs_num.specs.declared.faults.StoreFault.TheVariants as faults;
-ghost use Rattle.afs_disk.specs.Disk.{LeavesOnly, SameDisk};
-ghost use Rattle.afs_journal.specs.Left.{LeavesByPick, ReachesCall};
-ghost use Rattle.afs_journal.specs.Log.{HasRoom, IsJournal, KeepsRoom, SameCounts, Unchanged};
+ghost use Rattle.afs_disk.specs.Words.{SameDiskBy, LeavesOnlyBy, TellsOn, SetAs, CallsAtMost};
+ghost use Rattle.afs_journal.specs.Log.{HasRoom, IsJournal, KeepsRoom, Unchanged};
 ghost use Rattle.afs_journal.specs.Records.{whole_records, IsBeforeOrAfter};
+ghost use Rattle.afs_journal.specs.Words.{SameCountsBy, LeavesByPickOf, ReachesBy};
 ghost use Rattle.afs_store.specs.Folds.{has_room};
-ghost use Rattle.afs_store.specs.Stores.{IsEarly, IsKept, LeftAround, SameBut, Served};
+ghost use Rattle.afs_store.specs.Stores.{IsEarly, IsKept, LeftAround, SameBut};
 ghost use Rattle.afs_store.specs.Waiting.{HasPlaceOn, IsTooLong, KeepsMemory};
+ghost use Rattle.afs_store.specs.Words.{ServedBy};
 
 use crate::fold::{Fold, Unfit};
 use crate::store::Store;
@@ -34,7 +35,7 @@ fn make_room<D: Disk, R: Drop, T: Drop, S: Fold<R, T>>(
     ensures keeps { KeepsMemory S.fold state.old state.new }
     ensures keeps_places { KeepsRoom D.limit D.space journal.old journal.new }
     ensures same { Unchanged D.seen D.left_by D.size D.may_leave D.moment D.left_since journal.old journal.new }
-    ensures counts { SameCounts D.faults D.own_faults D.calls D.setting D.limit journal.old.disk journal.new.disk }
+    ensures counts { SameCountsBy D.Disk journal.old.disk journal.new.disk }
 {
     state.reserve(ready)?;
     journal.reserve(len)?;
@@ -54,7 +55,7 @@ pub(crate) fn place<D: Disk, R: Drop, T: Drop, S: Fold<R, T>>(
     ensures keeps { KeepsMemory S.fold state.old state.new }
     ensures keeps_places { KeepsRoom D.limit D.space journal.old journal.new }
     ensures same { Unchanged D.seen D.left_by D.size D.may_leave D.moment D.left_since journal.old journal.new }
-    ensures counts { SameCounts D.faults D.own_faults D.calls D.setting D.limit journal.old.disk journal.new.disk }
+    ensures counts { SameCountsBy D.Disk journal.old.disk journal.new.disk }
     ensures full { (used capacity : ℕ) → IsErrOf result (faults.Full used capacity) → (journal.old.closed ≡ false) × ((used ≡ journal.old.gate + 1) × ((capacity ≡ D.limit journal.old.disk) × IsTooLong S.fold journal.old.gate (D.limit journal.old.disk) (S.fold.record_of ready.now))) }
     ensures fitting { journal.old.closed ≡ false → IsTooLong S.fold journal.old.gate (D.limit journal.old.disk) (S.fold.record_of ready.now) → OnOk result ⊥ }
     ensures refusals { IfErr result (λ e. (e ≡ faults.OutOfMemory) ⊎ (e ≡ faults.Full (journal.old.gate + 1) (D.limit journal.old.disk))) }
@@ -77,16 +78,16 @@ pub(crate) fn append<D: Disk>(journal: &mut Journal<D>, bytes: &[u8]) -> Result<
     ensures stays { OnErr result ((journal.new.count ≡ journal.old.count) × (journal.new.gate ≡ journal.old.gate)) }
     ensures refusals { IfErr result (λ e. e ≡ faults.Failed) }
     ensures number { OnOk result ((journal.new.count ≡ journal.old.count + 1) × ((journal.new.gate ≡ journal.old.gate + length bytes.now + 9) × (journal.new.closed ≡ false))) }
-    ensures told { IsSome (D.seen journal.new.disk) ↔ IsSome (D.seen journal.old.disk) }
+    ensures told { TellsOn D.Disk journal.old.disk journal.new.disk }
     ensures added { OnOk result ((content : List ℕ) → D.seen journal.old.disk ≡ Some content → IsJournal (whole_records content ++ bytes.now ∷ []) (D.seen journal.new.disk) (D.may_leave journal.new.disk)) }
     ensures any_moment { (content : List ℕ) → D.seen journal.old.disk ≡ Some content
-        → LeavesOnly D.moment D.left_since journal.old.disk journal.new.disk (IsBeforeOrAfter (whole_records content) bytes.now) }
-    ensures reached { OnErr result (ReachesCall (D.setting journal.old.disk) (D.calls journal.old.disk) (D.calls journal.new.disk)) }
-    ensures left { OnErr result ((content : List ℕ) → D.seen journal.old.disk ≡ Some content → LeavesByPick D.left_by D.calls D.setting (whole_records content) bytes.now journal.old.disk journal.new.disk) }
+        → LeavesOnlyBy D.Disk journal.old.disk journal.new.disk (IsBeforeOrAfter (whole_records content) bytes.now) }
+    ensures reached { OnErr result (ReachesBy D.Disk journal.old.disk journal.new.disk) }
+    ensures left { OnErr result ((content : List ℕ) → D.seen journal.old.disk ≡ Some content → LeavesByPickOf D.Disk (whole_records content) bytes.now journal.old.disk journal.new.disk) }
     ensures calls { OnOk result (D.calls journal.new.disk ≡ D.calls journal.old.disk + 4) }
-    ensures most { (D.calls journal.old.disk ≤ D.calls journal.new.disk) × (D.calls journal.new.disk ≤ D.calls journal.old.disk + 4) }
-    ensures served { Served (D.setting journal.old.disk) (D.calls journal.old.disk) (D.calls journal.new.disk) (D.faults journal.old.disk) (D.faults journal.new.disk) (D.own_faults journal.old.disk) (D.own_faults journal.new.disk) result }
-    ensures setting { (D.limit journal.new.disk ≡ D.limit journal.old.disk) × (D.setting journal.new.disk ≡ D.setting journal.old.disk) }
+    ensures most { CallsAtMost 4 D.Disk journal.old.disk journal.new.disk }
+    ensures served { ServedBy D.Disk journal.old.disk journal.new.disk result }
+    ensures setting { SetAs D.Disk journal.old.disk journal.new.disk }
 {
     match journal.append(bytes) {
         Ok(_) => Ok(()),
@@ -108,8 +109,8 @@ impl<D: Disk, R: Drop, T: Drop, S: Fold<R, T>> Store<D, R, T, S> {
         ensures full { (used capacity : ℕ) → IsErrOf result (faults.Full used capacity) → (self.old.closed ≡ false) × ((used ≡ S.fold.journal self.old.durable) × ((capacity ≡ S.fold.capacity self.old.durable) × (has_room S.fold self.old.durable (S.fold.record_of ready) ≡ false))) }
         ensures room { self.old.closed ≡ false → has_room S.fold self.old.durable (S.fold.record_of ready) ≡ false → OnOk result ⊥ }
         ensures refusals { IfErr result (λ e. (e ≡ faults.OutOfMemory) ⊎ IsErrOf result (faults.Full (S.fold.journal self.old.durable) (S.fold.capacity self.old.durable))) }
-        ensures disk { SameDisk D.seen D.left_by D.size D.may_leave D.moment D.left_since self.old.disk self.new.disk }
-        ensures counts { SameCounts D.faults D.own_faults D.calls D.setting D.limit self.old.disk self.new.disk }
+        ensures disk { SameDiskBy D.Disk self.old.disk self.new.disk }
+        ensures counts { SameCountsBy D.Disk self.old.disk self.new.disk }
     {
         place::<D, R, T, S>(&mut self.journal, &mut self.state, &ready)?;
         self.prepared = Some(ready);
@@ -125,8 +126,8 @@ impl<D: Disk, R: Drop, T: Drop, S: Fold<R, T>> Store<D, R, T, S> {
         ensures full { (used capacity : ℕ) → IsErrOf result (faults.Full used capacity) → (self.old.closed ≡ false) × ((used ≡ S.fold.journal self.old.durable) × ((capacity ≡ S.fold.capacity self.old.durable) × (has_room S.fold self.old.durable rec.now ≡ false))) }
         ensures room { self.old.closed ≡ false → has_room S.fold self.old.durable rec.now ≡ false → OnOk result ⊥ }
         ensures refusals { IfErr result (λ e. (e ≡ faults.OutOfMemory) ⊎ IsErrOf result (faults.Full (S.fold.journal self.old.durable) (S.fold.capacity self.old.durable))) }
-        ensures disk { SameDisk D.seen D.left_by D.size D.may_leave D.moment D.left_since self.old.disk self.new.disk }
-        ensures counts { SameCounts D.faults D.own_faults D.calls D.setting D.limit self.old.disk self.new.disk }
+        ensures disk { SameDiskBy D.Disk self.old.disk self.new.disk }
+        ensures counts { SameCountsBy D.Disk self.old.disk self.new.disk }
     {
         match S::ready(self.alloc, rec) {
             Ok(ready) => self.prepare_ready(ready),
@@ -146,7 +147,7 @@ impl<D: Disk, R: Drop, T: Drop, S: Fold<R, T>> Store<D, R, T, S> {
         ensures closed_same { IsErrOf result faults.Closed → self.new ≡ self.old }
         ensures failed { IsErrOf result faults.Failed → self.new ≡ record self.old { disk = self.new.disk; prepared = None; closed = true } }
         ensures refusals { IfErr result (λ e. (e ≡ faults.Failed) ⊎ (e ≡ faults.Closed)) }
-        ensures told { IsSome (D.seen self.new.disk) ↔ IsSome (D.seen self.old.disk) }
+        ensures told { TellsOn D.Disk self.old.disk self.new.disk }
 
         // Where the disk tells: every crash leaves what is kept now.
         ensures kept { OnOk result (IsKept S.fold self.new.durable (D.seen self.new.disk) (D.may_leave self.new.disk)) }
@@ -156,17 +157,17 @@ impl<D: Disk, R: Drop, T: Drop, S: Fold<R, T>> Store<D, R, T, S> {
 
         // A crash at any moment leaves what was kept before, or what is kept with the record.
         ensures any_moment { self.old.closed ≡ false → (r : R) → self.old.prepared ≡ Some r → (bytes : List ℕ) → D.seen self.old.disk ≡ Some bytes
-            → LeavesOnly D.moment D.left_since self.old.disk self.new.disk (LeftAround S.fold (whole_records bytes) r self.old.durable) }
+            → LeavesOnlyBy D.Disk self.old.disk self.new.disk (LeftAround S.fold (whole_records bytes) r self.old.durable) }
 
         // Where the disk was set to stop or to fail at one of the calls, that one tells what a crash with each pick leaves.
-        ensures reached { IsErrOf result faults.Failed → ReachesCall (D.setting self.old.disk) (D.calls self.old.disk) (D.calls self.new.disk) }
+        ensures reached { IsErrOf result faults.Failed → ReachesBy D.Disk self.old.disk self.new.disk }
         ensures left { IsErrOf result faults.Failed → (r : R) → self.old.prepared ≡ Some r → (bytes : List ℕ) → D.seen self.old.disk ≡ Some bytes
-            → LeavesByPick D.left_by D.calls D.setting (whole_records bytes) (S.fold.spelled r) self.old.disk self.new.disk }
+            → LeavesByPickOf D.Disk (whole_records bytes) (S.fold.spelled r) self.old.disk self.new.disk }
 
         ensures calls { OnOk result (D.calls self.new.disk ≡ D.calls self.old.disk + 4) }
-        ensures most { (D.calls self.old.disk ≤ D.calls self.new.disk) × (D.calls self.new.disk ≤ D.calls self.old.disk + 4) }
-        ensures served { Served (D.setting self.old.disk) (D.calls self.old.disk) (D.calls self.new.disk) (D.faults self.old.disk) (D.faults self.new.disk) (D.own_faults self.old.disk) (D.own_faults self.new.disk) result }
-        ensures setting { (D.limit self.new.disk ≡ D.limit self.old.disk) × (D.setting self.new.disk ≡ D.setting self.old.disk) }
+        ensures most { CallsAtMost 4 D.Disk self.old.disk self.new.disk }
+        ensures served { ServedBy D.Disk self.old.disk self.new.disk result }
+        ensures setting { SetAs D.Disk self.old.disk self.new.disk }
     {
         if self.journal.is_closed() {
             return Err(StoreFault::Closed);
@@ -190,16 +191,16 @@ impl<D: Disk, R: Drop, T: Drop, S: Fold<R, T>> Store<D, R, T, S> {
             → IfErr result (λ e. (e ≡ faults.OutOfMemory) ⊎ IsErrOf result (faults.Full (S.fold.journal self.old.durable) (S.fold.capacity self.old.durable))) × (IsOk result → ⊥) }
         ensures early { IsEarly result (SameBut self.old self.new) }
         ensures failed { IsErrOf result faults.Failed → self.new ≡ record self.old { disk = self.new.disk; prepared = None; closed = true } }
-        ensures told { IsSome (D.seen self.new.disk) ↔ IsSome (D.seen self.old.disk) }
+        ensures told { TellsOn D.Disk self.old.disk self.new.disk }
         ensures never { (IsErrOf result faults.Closed → ⊥) × ((n : ℕ) → IsErrOf result (faults.BadRecord n) → ⊥) }
         ensures kept { OnOk result (IsKept S.fold self.new.durable (D.seen self.new.disk) (D.may_leave self.new.disk)) }
         ensures added { OnOk result ((bytes : List ℕ) → D.seen self.old.disk ≡ Some bytes → IsJournal (whole_records bytes ++ S.fold.spelled (S.fold.start (S.fold.boot self.old.durable + 1)) ∷ []) (D.seen self.new.disk) (D.may_leave self.new.disk)) }
         ensures any_moment { (bytes : List ℕ) → D.seen self.old.disk ≡ Some bytes
-            → LeavesOnly D.moment D.left_since self.old.disk self.new.disk (LeftAround S.fold (whole_records bytes) (S.fold.start (S.fold.boot self.old.durable + 1)) self.old.durable) }
+            → LeavesOnlyBy D.Disk self.old.disk self.new.disk (LeftAround S.fold (whole_records bytes) (S.fold.start (S.fold.boot self.old.durable + 1)) self.old.durable) }
         ensures calls { OnOk result (D.calls self.new.disk ≡ D.calls self.old.disk + 4) }
-        ensures most { (D.calls self.old.disk ≤ D.calls self.new.disk) × (D.calls self.new.disk ≤ D.calls self.old.disk + 4) }
-        ensures served { Served (D.setting self.old.disk) (D.calls self.old.disk) (D.calls self.new.disk) (D.faults self.old.disk) (D.faults self.new.disk) (D.own_faults self.old.disk) (D.own_faults self.new.disk) result }
-        ensures setting { (D.limit self.new.disk ≡ D.limit self.old.disk) × (D.setting self.new.disk ≡ D.setting self.old.disk) }
+        ensures most { CallsAtMost 4 D.Disk self.old.disk self.new.disk }
+        ensures served { ServedBy D.Disk self.old.disk self.new.disk result }
+        ensures setting { SetAs D.Disk self.old.disk self.new.disk }
     {
         let boot = self.state.boot();
         if boot == LAST_BOOT {

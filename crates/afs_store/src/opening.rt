@@ -5,8 +5,10 @@ ghost use Rattle.afs_journal.specs.Log.{IsJournal};
 ghost use Rattle.afs_journal.specs.Records.{whole_records};
 ghost use Rattle.afs_store.specs.Folds.{TellsLast};
 ghost use Rattle.afs_store.specs.Opening.{lines_begun, same_mark};
-ghost use Rattle.afs_store.specs.Rereading.{IsAttached, IsMade, IsNotMade, IsRefused, IsTakenUp};
+ghost use Rattle.afs_store.specs.Rereading.{IsAttached, IsMade, IsNotMade, IsRefused};
 ghost use Rattle.afs_store.specs.Stores.{IsCounted, Stands};
+ghost use Rattle.afs_store.specs.Words.{IsTakenUpBy};
+ghost use Rattle.afs_disk.specs.Words.{SameFaults};
 
 use crate::fold::Fold;
 use crate::replaying::fold;
@@ -59,13 +61,13 @@ impl<D: Disk, R: Drop, T: Drop, S: Fold<R, T>> Store<D, R, T, S> {
     ) -> Result<(Store<D, R, T, S>, Lines), (StoreFault, D)>
         requires { D.limit disk ≤ 268435456 }
         ensures disk { MatchResult result
-            (λ r. IsTakenUp D.seen D.may_leave D.moment D.left_since D.faults D.own_faults D.calls D.setting D.limit disk r.0.disk)
-            (λ e. IsTakenUp D.seen D.may_leave D.moment D.left_since D.faults D.own_faults D.calls D.setting D.limit disk e.1) }
+            (λ r. IsTakenUpBy D.Disk disk r.0.disk)
+            (λ e. IsTakenUpBy D.Disk disk e.1) }
         ensures attached { MatchResult result
             (λ r. IsAttached (Stands S.fold) S.fold.capacity D.seen D.may_leave D.calls D.setting D.limit node disk r.0)
             (IsRefused S.fold.first_bad D.seen D.faults D.own_faults D.calls D.setting D.limit disk) }
         ensures lines { IfOk result (λ r. (bytes : List ℕ) → D.seen disk ≡ Some bytes → lines_begun S.fold node told (D.limit disk) (whole_records bytes) ≡ Some r.1) }
-        ensures quiet { IfOk result (λ r. (D.faults r.0.disk ≡ D.faults disk) × (D.own_faults r.0.disk ≡ D.own_faults disk)) }
+        ensures quiet { IfOk result (λ r. SameFaults D.Disk disk r.0.disk) }
         ensures reads { IfErr result (λ e. (bytes now : List ℕ) → D.seen disk ≡ Some bytes → D.seen e.1 ≡ Some now → whole_records now ≡ whole_records bytes) }
     {
         let journal = take_up(alloc, disk)?;

@@ -2,8 +2,10 @@
 
 ghost use Rattle.std.specs.Prelude.{◌≡◌, ◌≤◌, ◌+◌, ℕ, List, Some, false, MatchResult, OnOk};
 ghost use Rattle.afs_journal.specs.Log.{IsJournal};
-ghost use Rattle.afs_store.specs.Rereading.{disk_after, IsAttached, IsMade, IsNotMade, IsRefused, IsTakenUp};
+ghost use Rattle.afs_store.specs.Rereading.{disk_after, IsAttached, IsMade, IsNotMade, IsRefused};
 ghost use Rattle.afs_store.specs.Stores.{IsCounted, IsKept, Stands};
+ghost use Rattle.afs_store.specs.Words.{IsTakenUpBy};
+ghost use Rattle.afs_disk.specs.Words.{SameFaults};
 
 use crate::fold::Fold;
 use crate::opening::made;
@@ -48,8 +50,8 @@ fn again<D: Disk, R: Drop, T: Drop, S: Fold<R, T>>(
 ) -> Result<Store<D, R, T, S>, (StoreFault, D)>
     requires limit { D.limit disk ≤ 268435456 }
     requires kept { IsKept S.fold (S.fold.placed len (D.limit disk) (S.fold.held state)) (D.seen disk) (D.may_leave disk) }
-    ensures disk { IsTakenUp D.seen D.may_leave D.moment D.left_since D.faults D.own_faults D.calls D.setting D.limit disk (disk_after result) }
-    ensures quiet { OnOk result ((D.faults (disk_after result) ≡ D.faults disk) × (D.own_faults (disk_after result) ≡ D.own_faults disk)) }
+    ensures disk { IsTakenUpBy D.Disk disk (disk_after result) }
+    ensures quiet { OnOk result (SameFaults D.Disk disk (disk_after result)) }
     ensures attached { MatchResult result (IsAttached (Stands S.fold) S.fold.capacity D.seen D.may_leave D.calls D.setting D.limit node disk) (IsRefused S.fold.first_bad D.seen D.faults D.own_faults D.calls D.setting D.limit disk) }
 {
     let journal = take_up(alloc, disk)?;
@@ -63,8 +65,8 @@ impl<D: Disk, R: Drop, T: Drop, S: Fold<R, T>> Store<Fuse<D>, R, T, S> {
         requires open { self.closed ≡ false }
         requires limit { D.limit self.disk.disk ≤ 268435456 }
         ensures was { IsKept S.fold self.durable (D.seen self.disk.disk) (D.may_leave self.disk.disk) × (S.fold.capacity self.durable ≡ D.limit self.disk.disk) }
-        ensures disk { IsTakenUp D.seen D.may_leave D.moment D.left_since D.faults D.own_faults D.calls D.setting D.limit self.disk.disk (disk_after result) }
-        ensures quiet { OnOk result ((D.faults (disk_after result) ≡ D.faults self.disk.disk) × (D.own_faults (disk_after result) ≡ D.own_faults self.disk.disk)) }
+        ensures disk { IsTakenUpBy D.Disk self.disk.disk (disk_after result) }
+        ensures quiet { OnOk result (SameFaults D.Disk self.disk.disk (disk_after result)) }
         ensures attached { MatchResult result (IsAttached (Stands S.fold) S.fold.capacity D.seen D.may_leave D.calls D.setting D.limit self.node self.disk.disk) (IsRefused S.fold.first_bad D.seen D.faults D.own_faults D.calls D.setting D.limit self.disk.disk) }
     {
         let Store {

@@ -7,6 +7,7 @@ use Rattle.afs_records.specs.Records.{record_bytes}
 use Rattle.afs_store.specs.Stores.{Keeps, StoreOf}
 use Rattle.afs_volstore.specs.Stands.{Stands}
 pub use Rattle.afs_store.specs.Stores.{IsCaused, IsCounted, IsEarly, SameBut, Served}
+pub use Rattle.afs_store.specs.Words.{IsCausedBy, MovedBy}
 
 -- A store of a server's records: what it keeps is the durable part of the server.
 abbrev pub Store : Type 0 → Type 0

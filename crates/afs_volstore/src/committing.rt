@@ -3,16 +3,17 @@
 ghost use Rattle.std.specs.Prelude.{◌≡◌, ◌≤◌, ◌+◌, ◌++◌, ◌↔◌, ◌⊎◌, ◌∷◌, ℕ, List, [], None, Some, true, false, IfErr, IfOk, IsErrOf, IsOk, IsSome, OnErr, OnOk};
 ghost use Rattle.afs_num.specs.declared.faults.StoreFault.TheVariants as faults;
 ghost use Rattle.afs_num.specs.declared.records.StoreRecord as records;
-ghost use Rattle.afs_disk.specs.Disk.{LeavesOnly, SameDisk};
-ghost use Rattle.afs_journal.specs.Left.{LeavesByPick, ReachesCall};
-ghost use Rattle.afs_journal.specs.Log.{IsJournal, SameCounts};
+ghost use Rattle.afs_disk.specs.Words.{SameDiskBy, LeavesOnlyBy, TellsOn, SetAs, CallsAtMost};
+ghost use Rattle.afs_journal.specs.Log.{IsJournal};
 ghost use Rattle.afs_journal.specs.Records.{whole_records};
+ghost use Rattle.afs_journal.specs.Words.{SameCountsBy, LeavesByPickOf, ReachesBy};
 ghost use Rattle.afs_records.specs.Records.{record_bytes, FitsRecord};
 ghost use Rattle.afs_records.specs.Changes.{boot_record, can_boot};
 ghost use Rattle.afs_records.specs.Durable.{effect_of, folded, has_room};
 ghost use Rattle.afs_records.specs.Laws.{started};
 ghost use Rattle.afs_memory.specs.Named.{IsNamed};
-ghost use Rattle.afs_volstore.specs.Stores.{IsEarly, IsFull, IsKept, LeftAround, SameBut, Served};
+ghost use Rattle.afs_volstore.specs.Stores.{IsEarly, IsFull, IsKept, LeftAround, SameBut};
+ghost use Rattle.afs_store.specs.Words.{ServedBy};
 
 use crate::store::VolStore;
 use afs_disk::Disk;
@@ -34,8 +35,8 @@ impl<D: Disk> VolStore<D> {
         ensures full { (used capacity : ℕ) → IsErrOf result (faults.Full used capacity) → (self.old.closed ≡ false) × IsFull self.old.durable rec.now used capacity }
         ensures room { self.old.closed ≡ false → has_room self.old.durable rec.now ≡ false → OnOk result ⊥ }
         ensures refusals { IfErr result (λ e. (e ≡ faults.OutOfMemory) ⊎ IsErrOf result (faults.Full self.old.durable.journal self.old.durable.capacity)) }
-        ensures disk { SameDisk D.seen D.left_by D.size D.may_leave D.moment D.left_since self.old.disk self.new.disk }
-        ensures counts { SameCounts D.faults D.own_faults D.calls D.setting D.limit self.old.disk self.new.disk }
+        ensures disk { SameDiskBy D.Disk self.old.disk self.new.disk }
+        ensures counts { SameCountsBy D.Disk self.old.disk self.new.disk }
     {
         self.store.prepare(rec)
     }
@@ -51,8 +52,8 @@ impl<D: Disk> VolStore<D> {
         ensures full { (used capacity : ℕ) → IsErrOf result (faults.Full used capacity) → (self.old.closed ≡ false) × IsFull self.old.durable rec.now used capacity }
         ensures room { self.old.closed ≡ false → has_room self.old.durable rec.now ≡ false → OnOk result ⊥ }
         ensures refusals { IfErr result (λ e. (e ≡ faults.OutOfMemory) ⊎ IsErrOf result (faults.Full self.old.durable.journal self.old.durable.capacity)) }
-        ensures disk { SameDisk D.seen D.left_by D.size D.may_leave D.moment D.left_since self.old.disk self.new.disk }
-        ensures counts { SameCounts D.faults D.own_faults D.calls D.setting D.limit self.old.disk self.new.disk }
+        ensures disk { SameDiskBy D.Disk self.old.disk self.new.disk }
+        ensures counts { SameCountsBy D.Disk self.old.disk self.new.disk }
     {
         match prepared_change(self.alloc, rec, names) {
             Ok(ready) => self.store.prepare_ready(ready),
@@ -71,7 +72,7 @@ impl<D: Disk> VolStore<D> {
         ensures closed_same { IsErrOf result faults.Closed → self.new ≡ self.old }
         ensures failed { IsErrOf result faults.Failed → self.new ≡ record self.old { disk = self.new.disk; prepared = None; closed = true } }
         ensures refusals { IfErr result (λ e. (e ≡ faults.Failed) ⊎ (e ≡ faults.Closed)) }
-        ensures told { IsSome (D.seen self.new.disk) ↔ IsSome (D.seen self.old.disk) }
+        ensures told { TellsOn D.Disk self.old.disk self.new.disk }
 
         // Where the disk tells: every crash leaves what is kept now.
         ensures kept { OnOk result (IsKept self.new.durable (D.seen self.new.disk) (D.may_leave self.new.disk)) }
@@ -81,17 +82,17 @@ impl<D: Disk> VolStore<D> {
 
         // A crash at any moment leaves what was kept before, or what is kept with the record.
         ensures any_moment { self.old.closed ≡ false → (r : records.StoreRecord) → self.old.prepared ≡ Some r → (bytes : List ℕ) → D.seen self.old.disk ≡ Some bytes
-            → LeavesOnly D.moment D.left_since self.old.disk self.new.disk (LeftAround (whole_records bytes) r self.old.durable) }
+            → LeavesOnlyBy D.Disk self.old.disk self.new.disk (LeftAround (whole_records bytes) r self.old.durable) }
 
         // Where the disk was set to stop or to fail at one of the calls, that one tells what a crash with each pick leaves.
-        ensures reached { IsErrOf result faults.Failed → ReachesCall (D.setting self.old.disk) (D.calls self.old.disk) (D.calls self.new.disk) }
+        ensures reached { IsErrOf result faults.Failed → ReachesBy D.Disk self.old.disk self.new.disk }
         ensures left { IsErrOf result faults.Failed → (r : records.StoreRecord) → self.old.prepared ≡ Some r → (bytes : List ℕ) → D.seen self.old.disk ≡ Some bytes
-            → LeavesByPick D.left_by D.calls D.setting (whole_records bytes) (record_bytes r) self.old.disk self.new.disk }
+            → LeavesByPickOf D.Disk (whole_records bytes) (record_bytes r) self.old.disk self.new.disk }
 
         ensures calls { OnOk result (D.calls self.new.disk ≡ D.calls self.old.disk + 4) }
-        ensures most { (D.calls self.old.disk ≤ D.calls self.new.disk) × (D.calls self.new.disk ≤ D.calls self.old.disk + 4) }
-        ensures served { Served (D.setting self.old.disk) (D.calls self.old.disk) (D.calls self.new.disk) (D.faults self.old.disk) (D.faults self.new.disk) (D.own_faults self.old.disk) (D.own_faults self.new.disk) result }
-        ensures setting { (D.limit self.new.disk ≡ D.limit self.old.disk) × (D.setting self.new.disk ≡ D.setting self.old.disk) }
+        ensures most { CallsAtMost 4 D.Disk self.old.disk self.new.disk }
+        ensures served { ServedBy D.Disk self.old.disk self.new.disk result }
+        ensures setting { SetAs D.Disk self.old.disk self.new.disk }
     {
         self.store.commit()
     }
@@ -106,16 +107,16 @@ impl<D: Disk> VolStore<D> {
         ensures room { can_boot self.old.durable ≡ false → IfErr result (λ e. (e ≡ faults.OutOfMemory) ⊎ IsErrOf result (faults.Full self.old.durable.journal self.old.durable.capacity)) × (IsOk result → ⊥) }
         ensures early { IsEarly result (SameBut self.old self.new) }
         ensures failed { IsErrOf result faults.Failed → self.new ≡ record self.old { disk = self.new.disk; prepared = None; closed = true } }
-        ensures told { IsSome (D.seen self.new.disk) ↔ IsSome (D.seen self.old.disk) }
+        ensures told { TellsOn D.Disk self.old.disk self.new.disk }
         ensures never { (IsErrOf result faults.Closed → ⊥) × ((n : ℕ) → IsErrOf result (faults.BadRecord n) → ⊥) }
         ensures kept { OnOk result (IsKept self.new.durable (D.seen self.new.disk) (D.may_leave self.new.disk)) }
         ensures added { OnOk result ((bytes : List ℕ) → D.seen self.old.disk ≡ Some bytes → IsJournal (whole_records bytes ++ record_bytes (boot_record (self.old.durable.boot + 1)) ∷ []) (D.seen self.new.disk) (D.may_leave self.new.disk)) }
         ensures any_moment { (bytes : List ℕ) → D.seen self.old.disk ≡ Some bytes
-            → LeavesOnly D.moment D.left_since self.old.disk self.new.disk (LeftAround (whole_records bytes) (boot_record (self.old.durable.boot + 1)) self.old.durable) }
+            → LeavesOnlyBy D.Disk self.old.disk self.new.disk (LeftAround (whole_records bytes) (boot_record (self.old.durable.boot + 1)) self.old.durable) }
         ensures calls { OnOk result (D.calls self.new.disk ≡ D.calls self.old.disk + 4) }
-        ensures most { (D.calls self.old.disk ≤ D.calls self.new.disk) × (D.calls self.new.disk ≤ D.calls self.old.disk + 4) }
-        ensures served { Served (D.setting self.old.disk) (D.calls self.old.disk) (D.calls self.new.disk) (D.faults self.old.disk) (D.faults self.new.disk) (D.own_faults self.old.disk) (D.own_faults self.new.disk) result }
-        ensures setting { (D.limit self.new.disk ≡ D.limit self.old.disk) × (D.setting self.new.disk ≡ D.setting self.old.disk) }
+        ensures most { CallsAtMost 4 D.Disk self.old.disk self.new.disk }
+        ensures served { ServedBy D.Disk self.old.disk self.new.disk result }
+        ensures setting { SetAs D.Disk self.old.disk self.new.disk }
     {
         starts_are_kept();
         self.store.boot()?;

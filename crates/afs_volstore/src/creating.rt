@@ -1,15 +1,15 @@
 //! A store is made of a journal that was begun, with its first record.
 
-ghost use Rattle.std.specs.Prelude.{◌≡◌, ◌≤◌, ◌+◌, ◌∷◌, ◌⊎◌, ◌↔◌, [], None, Some, true, false, is_some, length, IfErr, IfOk, IsSome, MatchResult};
+ghost use Rattle.std.specs.Prelude.{◌≡◌, ◌≤◌, ◌+◌, ◌∷◌, ◌⊎◌, [], None, Some, true, false, is_some, length, IfErr, IfOk, IsSome, MatchResult};
 ghost use Rattle.afs_num.specs.declared.faults.StoreFault.TheVariants as faults;
-ghost use Rattle.afs_disk.specs.Disk.{LeavesOnly, PassesAll};
+ghost use Rattle.afs_disk.specs.Words.{LeavesOnlyBy, TellsOn, SameFaults, PassesBy};
 ghost use Rattle.afs_journal.specs.Log.{IsJournal};
 ghost use Rattle.afs_journal.specs.Records.{IsBeforeOrAfter};
 ghost use Rattle.afs_records.specs.Changes.{boot_record, no_head};
 ghost use Rattle.afs_records.specs.Durable.{Durable, body_taken, first_folded, is_first, nothing_on};
 ghost use Rattle.afs_records.specs.Records.{head_form, record_bytes, FitsRecord};
-ghost use Rattle.afs_volstore.specs.Opening.{Moved};
-ghost use Rattle.afs_volstore.specs.Stores.{IsCaused, IsKept};
+ghost use Rattle.afs_volstore.specs.Stores.{IsKept};
+ghost use Rattle.afs_store.specs.Words.{IsCausedBy, MovedBy};
 
 use crate::held::{Held, Part};
 use crate::store::VolStore;
@@ -67,14 +67,14 @@ pub fn filled<D: Disk>(
     ensures rest { IfOk result (λ s. s ≡ record { durable = s.durable; disk = s.disk; node = node; prepared = None; closed = false; count = 1; drawn = 0 }) }
     ensures kept { IfOk result (λ s. IsKept s.durable (D.seen s.disk) (D.may_leave s.disk)) }
     ensures first { IfOk result (λ s. IsSome (D.seen journal.disk) → IsJournal (record_bytes rec.now ∷ []) (D.seen s.disk) (D.may_leave s.disk)) }
-    ensures told { MatchResult result (λ s. IsSome (D.seen s.disk) ↔ IsSome (D.seen journal.disk)) (λ e. IsSome (D.seen e.1) ↔ IsSome (D.seen journal.disk)) }
+    ensures told { MatchResult result (λ s. TellsOn D.Disk journal.disk s.disk) (λ e. TellsOn D.Disk journal.disk e.1) }
     ensures refusals { IfErr result (λ e. (e.0 ≡ faults.Failed) ⊎ (e.0 ≡ faults.OutOfMemory)) }
     ensures any_moment { IsSome (D.seen journal.disk) → MatchResult result
-        (λ s. LeavesOnly D.moment D.left_since journal.disk s.disk (IsBeforeOrAfter [] (record_bytes rec.now)))
-        (λ e. LeavesOnly D.moment D.left_since journal.disk e.1 (IsBeforeOrAfter [] (record_bytes rec.now))) }
-    ensures ok { IfOk result (λ s. Moved 4 D.faults D.own_faults D.calls D.setting D.limit journal.disk s.disk × PassesAll (D.setting journal.disk) (D.calls journal.disk) (D.calls s.disk)) }
-    ensures quiet { IfOk result (λ s. (D.faults s.disk ≡ D.faults journal.disk) × (D.own_faults s.disk ≡ D.own_faults journal.disk)) }
-    ensures err { IfErr result (λ e. Moved 4 D.faults D.own_faults D.calls D.setting D.limit journal.disk e.1 × IsCaused (D.setting journal.disk) (D.calls e.1) (D.faults journal.disk) (D.faults e.1) (D.own_faults journal.disk) (D.own_faults e.1) e.0) }
+        (λ s. LeavesOnlyBy D.Disk journal.disk s.disk (IsBeforeOrAfter [] (record_bytes rec.now)))
+        (λ e. LeavesOnlyBy D.Disk journal.disk e.1 (IsBeforeOrAfter [] (record_bytes rec.now))) }
+    ensures ok { IfOk result (λ s. MovedBy 4 D.Disk journal.disk s.disk × PassesBy D.Disk journal.disk s.disk) }
+    ensures quiet { IfOk result (λ s. SameFaults D.Disk journal.disk s.disk) }
+    ensures err { IfErr result (λ e. MovedBy 4 D.Disk journal.disk e.1 × IsCausedBy D.Disk journal.disk e.1 e.0) }
 {
     match first_put::<D, StoreRecord, Part, Held>(alloc, journal, node, rec) {
         Ok(store) => Ok(VolStore { alloc, store }),

@@ -1,14 +1,16 @@
 //! A store is made of a disk at a restart.
 
-ghost use Rattle.std.specs.Prelude.{◌≡◌, ◌≤◌, ◌+◌, ◌↔◌, ℕ, List, None, Some, false, length, IfOk, IfErr, MatchResult, IsSome};
+ghost use Rattle.std.specs.Prelude.{◌≡◌, ◌≤◌, ◌+◌, ℕ, List, None, Some, false, length, IfOk, IfErr, MatchResult, IsSome};
 ghost use Rattle.afs_num.specs.declared.faults.StoreFault.TheVariants as faults;
-ghost use Rattle.afs_disk.specs.Disk.{LeavesOnly, PassesAll};
-ghost use Rattle.afs_journal.specs.Log.{IsJournal, Rests, StandsAsBefore, Taken};
+ghost use Rattle.afs_disk.specs.Words.{LeavesOnlyBy, TellsOn, SameFaults, PassesBy};
+ghost use Rattle.afs_journal.specs.Log.{IsJournal, Rests, StandsAsBefore};
 ghost use Rattle.afs_journal.specs.Records.{whole_records};
+ghost use Rattle.afs_journal.specs.Words.{TakenBy};
 ghost use Rattle.afs_records.specs.Durable.{first_bad};
 ghost use Rattle.afs_volstore.specs.Stands.{Stands};
 ghost use Rattle.afs_volstore.specs.Opening.{lines_begun, IsAttachFault};
-ghost use Rattle.afs_volstore.specs.Stores.{IsCaused, IsKept};
+ghost use Rattle.afs_volstore.specs.Stores.{IsKept};
+ghost use Rattle.afs_store.specs.Words.{IsCausedBy};
 
 use crate::held::{Held, Part};
 use crate::store::VolStore;
@@ -35,7 +37,7 @@ impl<D: Disk> VolStore<D> {
         ensures stands { IfOk result (λ r. (bytes : List ℕ) → D.seen disk ≡ Some bytes → Stands bytes r.0.durable) }
         ensures lines { IfOk result (λ r. (bytes : List ℕ) → D.seen disk ≡ Some bytes → lines_begun node told (D.limit disk) (whole_records bytes) ≡ Some r.1) }
         ensures at_rest { IfOk result (λ r. (bytes : List ℕ) → D.seen disk ≡ Some bytes → IsJournal (whole_records bytes) (D.seen r.0.disk) (D.may_leave r.0.disk)) }
-        ensures told { MatchResult result (λ r. IsSome (D.seen r.0.disk) ↔ IsSome (D.seen disk)) (λ e. IsSome (D.seen e.1) ↔ IsSome (D.seen disk)) }
+        ensures told { MatchResult result (λ r. TellsOn D.Disk disk r.0.disk) (λ e. TellsOn D.Disk disk e.1) }
         ensures count { IfOk result (λ r. (bytes : List ℕ) → D.seen disk ≡ Some bytes → r.0.count ≡ length (whole_records bytes)) }
         ensures rest { IfOk result (λ r. r.0 ≡ record { durable = r.0.durable; disk = r.0.disk; node = node; prepared = None; closed = false; count = r.0.count; drawn = 0 }) }
         ensures capacity { IfOk result (λ r. r.0.durable.capacity ≡ D.limit disk) }
@@ -43,11 +45,11 @@ impl<D: Disk> VolStore<D> {
         ensures bad { IfErr result (λ e. (n : ℕ) → e.0 ≡ faults.BadRecord n → (bytes : List ℕ) → D.seen disk ≡ Some bytes → first_bad (D.limit disk) (whole_records bytes) ≡ Some n) }
         ensures refusals { IfErr result (λ e. IsAttachFault e.0) }
         ensures any_moment { (bytes : List ℕ) → D.seen disk ≡ Some bytes → MatchResult result
-            (λ r. LeavesOnly D.moment D.left_since disk r.0.disk (StandsAsBefore (D.may_leave disk)))
-            (λ e. LeavesOnly D.moment D.left_since disk e.1 (StandsAsBefore (D.may_leave disk))) }
-        ensures ok { IfOk result (λ r. Taken D.faults D.own_faults D.calls D.setting disk r.0.disk × PassesAll (D.setting disk) (D.calls disk) (D.calls r.0.disk)) }
-        ensures quiet { IfOk result (λ r. (D.faults r.0.disk ≡ D.faults disk) × (D.own_faults r.0.disk ≡ D.own_faults disk)) }
-        ensures err { IfErr result (λ e. Taken D.faults D.own_faults D.calls D.setting disk e.1 × IsCaused (D.setting disk) (D.calls e.1) (D.faults disk) (D.faults e.1) (D.own_faults disk) (D.own_faults e.1) e.0) }
+            (λ r. LeavesOnlyBy D.Disk disk r.0.disk (StandsAsBefore (D.may_leave disk)))
+            (λ e. LeavesOnlyBy D.Disk disk e.1 (StandsAsBefore (D.may_leave disk))) }
+        ensures ok { IfOk result (λ r. TakenBy D.Disk disk r.0.disk × PassesBy D.Disk disk r.0.disk) }
+        ensures quiet { IfOk result (λ r. SameFaults D.Disk disk r.0.disk) }
+        ensures err { IfErr result (λ e. TakenBy D.Disk disk e.1 × IsCausedBy D.Disk disk e.1 e.0) }
         ensures reads { IfErr result (λ e. (bytes now : List ℕ) → D.seen disk ≡ Some bytes → D.seen e.1 ≡ Some now → whole_records now ≡ whole_records bytes) }
         ensures rests { IfOk result (λ r. (bytes : List ℕ) → D.seen disk ≡ Some bytes → Rests bytes → D.calls r.0.disk ≡ D.calls disk + 2) }
         ensures limit { MatchResult result (λ r. D.limit r.0.disk ≡ D.limit disk) (λ e. D.limit e.1 ≡ D.limit disk) }

@@ -1,8 +1,10 @@
 //! The disk of a store that is there is taken up anew.
 
 ghost use Rattle.std.specs.Prelude.{◌≡◌, ◌≤◌, false, MatchResult, OnOk};
-ghost use Rattle.afs_volstore.specs.Rereading.{disk_after, IsAttached, IsRefused, IsTakenUp};
+ghost use Rattle.afs_volstore.specs.Rereading.{disk_after, IsAttached, IsRefused};
 ghost use Rattle.afs_volstore.specs.Stores.{IsKept};
+ghost use Rattle.afs_store.specs.Words.{IsTakenUpBy};
+ghost use Rattle.afs_disk.specs.Words.{SameFaults};
 
 use crate::store::VolStore;
 use afs_disk::{Disk, Fuse};
@@ -15,8 +17,8 @@ impl<D: Disk> VolStore<Fuse<D>> {
         requires open { self.closed ≡ false }
         requires limit { D.limit self.disk.disk ≤ 268435456 }
         ensures was { IsKept self.durable (D.seen self.disk.disk) (D.may_leave self.disk.disk) × (self.durable.capacity ≡ D.limit self.disk.disk) }
-        ensures disk { IsTakenUp D.seen D.may_leave D.moment D.left_since D.faults D.own_faults D.calls D.setting D.limit self.disk.disk (disk_after result) }
-        ensures quiet { OnOk result ((D.faults (disk_after result) ≡ D.faults self.disk.disk) × (D.own_faults (disk_after result) ≡ D.own_faults self.disk.disk)) }
+        ensures disk { IsTakenUpBy D.Disk self.disk.disk (disk_after result) }
+        ensures quiet { OnOk result (SameFaults D.Disk self.disk.disk (disk_after result)) }
         ensures attached { MatchResult result (IsAttached D.seen D.may_leave D.calls D.setting D.limit self.node self.disk.disk) (IsRefused D.seen D.faults D.own_faults D.calls D.setting D.limit self.disk.disk) }
     {
         let VolStore { alloc, store } = self;

@@ -1,0 +1,7 @@
+use Rattle.std.proofs.Common.{◌≡◌, take}
+use Rattle.afs_locrecord.proofs.copying.copy_sites.Given as goal
+
+abbrev pub invariant-loop-site : goal.invariant-loop-site
+invariant-loop-site l = record {
+  copied : l.copy ≡ take l.site-index l.sites;
+}

@@ -1,0 +1,9 @@
+-- What a deed of the code does, as the definitions have it.
+use Rattle.afs_records.specs.LocRecords.{leaves, removes, sets, Deed}
+use Rattle.afs_locrecord.specs.declared.types.Doing.{Doing}
+use Rattle.afs_locrecord.specs.declared.types.Doing.TheVariants as doings
+
+abbrev pub deed_of : Doing → Deed
+deed_of (doings.Sets l) = sets l
+deed_of (doings.Removes e) = removes e
+deed_of doings.Leaves = leaves
