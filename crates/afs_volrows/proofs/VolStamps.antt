@@ -21,7 +21,7 @@ use Rattle.afs_ideal.specs.Operations.{is_last_count}
 use Rattle.afs_ideal.specs.Tables.{Table, get, set, unset}
 use Rattle.afs_ideal.proofs.Tables.{get_set}
 use Rattle.afs_dumps.specs.Restores.{fed, finished}
-use Rattle.afs_fold.specs.Deeds.{clone_put, done_by, flagged, has_volume, has_volume_room, on_stored, or_as_was}
+use Rattle.afs_fold.specs.Deeds.{clone_put, done_by, flagged, has_volume, has_volume_room, on_stored, or_as_was, clone_made}
 use Rattle.afs_records.specs.Durable.{Durable, Stored, has_room, or_zero, stamp_of, with_stamp}
 use Rattle.afs_records.specs.Records.{most_dump}
 use Rattle.afs_rows.specs.ServerRow.{not_served}

@@ -1,5 +1,5 @@
 -- Replies of a volume server that wait for breaks are held until these end.
-use Rattle.std.proofs.Common.{◌≡◌, ℕ, ℤ, negsuc, inl, inr, Bool, true, false, cond, List, [], ◌∷◌, ◌++◌, map, filter, Option, Some, None, refl, sym, subst, eqb-true}
+use Rattle.std.proofs.Common.{◌≡◌, ◌⊎◌, ℕ, ℤ, negsuc, inl, inr, Bool, true, false, cond, List, [], ◌∷◌, ◌++◌, map, filter, Option, Some, None, refl, sym, subst, eqb-true, eq-eqb}
 use Rattle.std.specs.Prelude.{nat_eq, nat_lt, not, ◌&&◌, ◌||◌}
 use Rattle.std.specs.List.{AllByRecursion}
 use Rattle.afs_num.specs.Nodes.{same_node}
@@ -17,7 +17,7 @@ use Rattle.afs_history.specs.declared.lines.Line.TheVariants as lines
 use Rattle.afs_volrows.proofs.VolTurns.{pumped_lists, saved_row}
 use Rattle.afs_ideal.specs.Operations.{is_number}
 use Rattle.afs_model.specs.Calls.{finished, is_sent_again}
-use Rattle.afs_rows.specs.Callbacks.{alls, expired, is_ready, owe_line, put_at, timeout_line, waits_none, is_all, numbers}
+use Rattle.afs_rows.specs.Callbacks.{alls, expired, is_ready, owe_line, put_at, timeout_line, waits_none, is_all, numbers, pumped}
 use Rattle.afs_rows.specs.ServerRow.{key_of}
 use Rattle.afs_rows.specs.ServerSteps.{back_timeout_row, wake_row}
 use Rattle.afs_rows.specs.States.{Backs, Held, Lasting, ServerState, durable_of}
