@@ -1,6 +1,7 @@
 pub mod Deciding
 pub mod FileOpen
 pub mod FileServed
+pub mod FileClosed
 pub mod VolKeeping
 pub mod VolStamps
 pub mod VolApart

@@ -34,11 +34,6 @@ use Rattle.afs_volrows.specs.VolRow.{Dispatch, holds_of}
 use Rattle.afs_volrows.specs.VolStates.{NodeState, PieceCall, Sending, Transaction, VolState}
 use Rattle.afs_volrows.specs.VolSteps.{Deed, VolDecision, VolTurn, answered_by, deed_done, dispatches, drops, ends_sending, forward_reply, from_of, goes_on, in_progress, is_awaited, is_of_client, moved_on, next_by, next_piece, node_back_timeout_row, node_begun_after, node_row, node_start_row, node_wake_row, piece_timeout_row, queued, repeats, replies_to, saves, sent_whole, tells_boot, vol_answers, vol_begun_after, vol_decides, vol_renews, vol_repeats, vol_rests, vol_seated, vol_stepped, vol_timed, vol_told, vol_told_by, vol_turn, vol_turned, vol_turned_by, with_transactions}
 
-
-
-
-
-
 -- ---- turns: most leave the disk and the transactions alone
 
 pub record Same (l : Lasting) (w : VolState) (t : VolTurn) : Type 0 where

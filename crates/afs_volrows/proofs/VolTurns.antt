@@ -26,7 +26,6 @@ use Rattle.afs_volrows.specs.VolRow.{Dispatch}
 use Rattle.afs_volrows.specs.VolStates.{NodeState, PieceCall, Sending, VolState}
 use Rattle.afs_volrows.specs.VolSteps.{answered_by, code_told, deed_done, deed_lines, dispatches, drops, ends_sending, forward_reply, from_of, given_up, goes_on, in_progress, is_awaited, is_of_client, moved_on, next_by, next_piece, node_row, owes_of, piece_timeout_row, queued, repeats, replies_to, saves, sent_whole, tells_boot, vol_answers, vol_decides, vol_hears, vol_renews, vol_repeats, vol_rests, vol_seated, vol_stepped, vol_timed, vol_told, vol_told_by, vol_turn, vol_turned, vol_turned_by, with_transactions, withdraws_from, Deed, VolDecision, VolTurn}
 
-
 -- ---- calls to clients leave promises and owed breaks
 
 starts_lists_by : (me : Node) (boot : ℕ) (t : Started) (o : OwedBreak) (c : Option BackCall) → (starts_by me boot t o c).backs.lists ≡ t.backs.lists

@@ -1,5 +1,5 @@
 -- Replies of a volume server that wait for breaks are held until these end.
-use Rattle.std.proofs.Common.{◌≡◌, ◌⊎◌, ℕ, ℤ, negsuc, inl, inr, Bool, true, false, cond, List, [], ◌∷◌, ◌++◌, map, filter, Option, Some, None, refl, sym, subst, eqb-true, eq-eqb}
+use Rattle.std.proofs.Common.{◌≡◌, ◌⊎◌, ℕ, ℤ, negsuc, inl, inr, Bool, true, false, cond, List, [], ◌∷◌, ◌++◌, map, filter, Option, Some, None, refl, sym, subst, ◌∙◌, eqb-true, eq-eqb}
 use Rattle.std.specs.Prelude.{nat_eq, nat_lt, not, ◌&&◌, ◌||◌}
 use Rattle.std.specs.List.{AllByRecursion}
 use Rattle.afs_num.specs.Nodes.{same_node}
@@ -28,9 +28,7 @@ use Rattle.afs_volrows.specs.VolStates.{NodeState, PieceCall, Sending, VolState}
 use Rattle.afs_volrows.specs.VolSteps.{VolDecision, VolTurn, answered_by, code_told, deed_done, deed_lines, dispatches, drops, ends_sending, forward_reply, from_of, in_progress, is_awaited, is_of_client, is_waiting, moved_on, next_by, node_back_timeout_row, node_row, node_wake_row, owes_of, piece_timeout_row, queued, released, repeats, replies_to, saves, sent_whole, tells_boot, vol_answers, vol_decides, vol_renews, vol_repeats, vol_rests, vol_seated, vol_stepped, vol_timed, vol_told_by, vol_turn, vol_turned, vol_turned_by, with_transactions, withdraws_from, Deed, file_stepped, given_up}
 use Rattle.afs_volrows.specs.LinedSteps.{LinedStep}
 use Rattle.afs_fold.specs.ServerLines.{ServerLine, plain, plain_lines}
-
 use Rattle.afs_volrows.specs.VolRow.{holds_of}
-
 
 -- ---- breaks that are owed
 
@@ -255,4 +253,4 @@ all_out os [] = tt
 all_out os (h ∷ hs) = out_by (is_ready os h) os h (filter (is_ready os) hs) refl (all_out os hs)
 
 pub held_go_out : HeldGoOutLast
-held_go_out v ls after = record { sent = refl; ended = all_out after.state.backs.lists.owed v.held }
+held_go_out v ls after = record { sent = refl; ended = all_out after.state.backs.lists.owed v.held; left = refl }

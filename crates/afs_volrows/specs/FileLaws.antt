@@ -1,18 +1,26 @@
 -- What the row of a file server beside a volume server (FileRow) has to do with that of one alone (ServerRow).
-use Rattle.std.specs.Prelude.{◌≡◌, ◌⊎◌, ◌++◌, ◌+◌, ℕ, List, [], ◌∷◌, pos}
+use Rattle.std.specs.Prelude.{◌≡◌, ◌⊎◌, ◌++◌, ℕ, true, List, [], Option, Some, None, Err, pos}
 use Rattle.std.specs.List.{AllByRecursion}
+use Rattle.afs_num.specs.Nodes.{same_node}
+use Rattle.afs_num.specs.declared.calls.FsCall.{FsCall}
+use Rattle.afs_num.specs.declared.messages.Call.TheVariants as ask
+use Rattle.afs_num.specs.declared.messages.Carried.TheVariants as carried
 use Rattle.afs_num.specs.declared.messages.Received.{Received}
+use Rattle.afs_num.specs.declared.types.Fid.{Fid}
 use Rattle.afs_num.specs.declared.types.Head.{Head}
 use Rattle.afs_num.specs.declared.types.Node.{Node}
 use Rattle.afs_history.specs.declared.lines.Line.{Line}
-use Rattle.afs_ideal.specs.Tables.{Table}
+use Rattle.afs_ideal.specs.Operations.{volume_called, Caller}
+use Rattle.afs_ideal.specs.Tables.{get, Table}
+use Rattle.afs_model.specs.Calls.{admitted}
+use Rattle.afs_model.specs.Calls as pairs
 use Rattle.afs_records.specs.Durable.{Stored}
 use Rattle.afs_rows.specs.Callbacks.{expired, turned_in}
-use Rattle.afs_rows.specs.ServerRow.{begun_after, decides, no_volume, refuses, Decision}
+use Rattle.afs_rows.specs.ServerRow.{begun_after, decides, is_client, no_volume, refuses, serves_call, sight_in, whole, Decision}
 use Rattle.afs_rows.specs.ServerSteps.{back_timeout_row, done, server_row, start_row, wake_row}
 use Rattle.afs_rows.specs.States.{BackCall, ServerState}
 use Rattle.afs_rows.specs.Steps.{begun_before, Begun}
-use Rattle.afs_volrows.specs.FileRow.{busy, file_decides, file_row, file_start, out_of_service, start_lines, went_on}
+use Rattle.afs_volrows.specs.FileRow.{busy, closed_code, file_decides, file_row, file_serves, file_sight, file_start, missing_code, out_of_service, went_on}
 use Rattle.afs_volrows.specs.LinedSteps.{plain_begun, plain_step, LinedBegun}
 
 -- ---- a server without volume calls: none of its volumes is held, out of service or elsewhere
@@ -73,6 +81,26 @@ pub record IsClosingStep (me : Node) (holds : Table ℕ) (s : ServerState) (cloc
 abbrev pub FileStepsAreServedOrClose : Type 0
 FileStepsAreServedOrClose = (me : Node) (holds : Table ℕ) (s : ServerState) (clock place : ℕ) (m : Received) →
     (file_row me holds s clock place m ≡ server_row me s clock place m) ⊎ IsClosingStep me holds s clock place m
+
+-- the code with which the volume of this number refuses every call, if it does
+abbrev pub code_by : Table ℕ → ServerState → ℕ → Option Stored → Option ℕ
+code_by holds s id None = Some (missing_code s id)
+code_by holds s id (Some st) = closed_code st (get id holds)
+
+abbrev pub volume_code : Table ℕ → ServerState → ℕ → Option ℕ
+volume_code holds s id = code_by holds s id (get id s.lasting.volumes)
+
+-- A call of a client that runs is refused with just that code where the volume on which it is has one, and is served as by the other
+-- where it has none. Each of several statuses is so, by the volume of its fid.
+pub record ClosedAreRefused : Type 0 where
+  pub runs : (me : Node) (holds : Table ℕ) (s : ServerState) (clock : ℕ) (head : Head) (user : List ℕ) (call : FsCall) → same_node head.to me ≡ true → admitted s.lasting.boot s.seats head ≡ pairs.runs → is_client head.from ≡ true →
+      file_decides me holds s clock (whole head (carried.Call user (ask.File call))) ≡ file_serves holds s clock head user call
+  pub refused : (holds : Table ℕ) (s : ServerState) (clock : ℕ) (head : Head) (user : List ℕ) (call : FsCall) (id code : ℕ) → volume_called call ≡ Some id → volume_code holds s id ≡ Some code →
+      file_serves holds s clock head user call ≡ refuses head (pos code)
+  pub served : (holds : Table ℕ) (s : ServerState) (clock : ℕ) (head : Head) (user : List ℕ) (call : FsCall) (id : ℕ) → volume_called call ≡ Some id → volume_code holds s id ≡ None →
+      file_serves holds s clock head user call ≡ serves_call s clock head user call
+  pub unseen : (holds : Table ℕ) (s : ServerState) (caller : Caller) (f : Fid) (code : ℕ) → volume_code holds s f.volume ≡ Some code → file_sight holds s caller f (get f.volume s.lasting.volumes) ≡ Err code
+  pub seen : (holds : Table ℕ) (s : ServerState) (caller : Caller) (f : Fid) → volume_code holds s f.volume ≡ None → file_sight holds s caller f (get f.volume s.lasting.volumes) ≡ sight_in caller f (get f.volume s.lasting.volumes)
 
 -- It begins again as the other does: only its lines are told besides.
 pub record StartsAlike : Type 0 where

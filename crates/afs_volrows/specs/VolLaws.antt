@@ -24,7 +24,7 @@ use Rattle.afs_volrows.specs.FileRow.{file_row}
 use Rattle.afs_volrows.specs.LinedSteps.{LinedBegun, LinedStep}
 use Rattle.afs_volrows.specs.VolRow.{gave, holds_of, takes_out}
 use Rattle.afs_volrows.specs.VolStates.{NodeState, PieceCall, Transaction, VolState}
-use Rattle.afs_volrows.specs.VolSteps.{deed_done, deed_head, deed_lines, deed_record, dispatches, drops, from_of, is_of_client, node_back_timeout_row, node_begun_after, node_row, node_start_row, node_wake_row, owes_of, piece_timeout_row, released, repeats, replies_to, saves, tells_boot, vol_begun_after, vol_decides, withdraws_from, Deed, VolDecision}
+use Rattle.afs_volrows.specs.VolSteps.{deed_done, deed_head, deed_lines, deed_record, dispatches, drops, from_of, is_of_client, is_waiting, node_back_timeout_row, node_begun_after, node_row, node_start_row, node_wake_row, owes_of, piece_timeout_row, released, repeats, replies_to, saves, tells_boot, vol_begun_after, vol_decides, withdraws_from, Deed, VolDecision}
 
 -- ---- its disk
 
@@ -225,10 +225,11 @@ pub record HeldAreKept : Type 0 where
   pub piece : (me : Node) (s : NodeState) (clock : ℕ) (n : Node) (c : PieceCall) → KeepsHeld s (piece_timeout_row me s clock n c)
   pub woken : (me : Node) (s : NodeState) (clock : ℕ) → KeepsHeld s (node_wake_row me s clock)
 
--- What was held goes out behind all else, where none of its breaks is owed.
+-- What was held goes out behind all else, where none of its breaks is owed, and is held no more.
 pub record HeldGoOut (v : VolState) (ls : List ServerLine) (after : Step ServerState) : Type 0 where
   pub sent : (released v ls after).sent ≡ after.sent ++ replies_of (filter (is_ready after.state.backs.lists.owed) v.held)
   pub ended : AllByRecursion (λ (h : Held). (n : ℕ) → IsAmong n h.waits → has_break n after.state.backs.lists.owed ≡ false) (filter (is_ready after.state.backs.lists.owed) v.held)
+  pub left : (released v ls after).state.vol.held ≡ filter (is_waiting after.state.backs.lists.owed) v.held
 
 abbrev pub HeldGoOutLast : Type 0
 HeldGoOutLast = (v : VolState) (ls : List ServerLine) (after : Step ServerState) → HeldGoOut v ls after

@@ -1,6 +1,6 @@
 //! Laws about the steps of a volume server, and of the file server beside it. Each is the contract of a function that does nothing.
 
-ghost use Rattle.afs_volrows.specs.FileLaws.{FilesAreServedOrClosed, FileStepsAreServedOrClose, OpenServersArePlain, OpenServersStayOpen, StartsAlike};
+ghost use Rattle.afs_volrows.specs.FileLaws.{ClosedAreRefused, FilesAreServedOrClosed, FileStepsAreServedOrClose, OpenServersArePlain, OpenServersStayOpen, StartsAlike};
 ghost use Rattle.afs_volrows.specs.VolLaws.{ClientsLeaveVolumesAlone, DeedsAreFolded, DeedsAreShown, DeedsAreTold, DeedsAreWritable, FencesWait, HeldAreKept, HeldGoOutLast, HoldsFollow, NodesStayApart, NodesStayStamped, OthersLeaveFiles, StampsStand, TransactionsStayApart};
 
 /// Where no volume is held, out of service or elsewhere, the file server steps as one without a volume server.
@@ -21,6 +21,11 @@ pub fn files_are_served_or_closed()
 /// Its step is the other's, or the refusal, which changes nothing that is kept.
 pub fn file_steps_are_served_or_close()
     ensures { FileStepsAreServedOrClose }
+{}
+
+/// A call on a closed volume is refused with the code that says why, and every other is served as by the other.
+pub fn closed_are_refused()
+    ensures { ClosedAreRefused }
 {}
 
 /// It begins again as the other does.
