@@ -11,7 +11,7 @@ use Rattle.afs_ideal.specs.Tables.{Table}
 use Rattle.afs_records.specs.Durable.{is_first, is_flagged, noted, nothing_on, placing, with_journal, Durable, Stored}
 use Rattle.afs_records.specs.Durable as landed
 use Rattle.afs_records.specs.Records.{record_at}
-use Rattle.afs_records.proofs.Forms.{bound, some_is}
+use Rattle.afs_records.proofs.Forms.{bound}
 use Rattle.afs_fold.specs.Effects.{effect_by, vanished_lines}
 use Rattle.afs_fold.specs.Fold.{body_taken, first_folded, fold_all, fold_from, folded}
 use Rattle.afs_fold.specs.Laws.{HasOpenVolumes, PlainRecordsFoldAlike}

@@ -10,7 +10,6 @@ use Rattle.afs_xdr.specs.Words.{word, words, opaque, pad, word_at, opaque_at, co
 use Rattle.afs_ideal.specs.AccessLists as acls
 use Rattle.afs_ideal.specs.Directories as directories
 use Rattle.afs_ideal.specs.Images.{value_of}
-use Rattle.afs_ideal.specs.SetUp.{new_volume}
 use Rattle.afs_ideal.specs.Tables.{Table}
 use Rattle.afs_ideal.specs.VnodeImage.{kind_fits}
 use Rattle.afs_records.specs.Changes.{no_head}
@@ -21,7 +20,7 @@ use Rattle.afs_dumps.specs.Streams.{dump_at, dump_field, dump_header_field, imag
 use Rattle.afs_fold.specs.Deeds.{created}
 use Rattle.afs_fold.specs.Effects.{effect_by}
 use Rattle.afs_fold.specs.Fold.{body_taken, first_folded}
-use Rattle.afs_fold.specs.ServerLines.{enable, fence, made, plain, released, vanish, version_lines, ServerLine}
+use Rattle.afs_fold.specs.ServerLines.{enable, fence, made, released, vanish, version_lines}
 
 -- ---- a server with one volume, in service, and a forwarding of another
 

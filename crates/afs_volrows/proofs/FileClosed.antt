@@ -16,7 +16,7 @@ use Rattle.afs_model.specs.Calls as pairs
 use Rattle.afs_records.specs.Durable.{Stored}
 use Rattle.afs_rows.specs.ServerRow.{decided, in_volume, is_client, refuses, serves_call, sight_by, sight_in, whole, with_volume}
 use Rattle.afs_rows.specs.States.{ServerState}
-use Rattle.afs_volrows.specs.FileLaws.{code_by, volume_code, ClosedAreRefused}
+use Rattle.afs_volrows.specs.FileLaws.{code_by, ClosedAreRefused}
 use Rattle.afs_volrows.specs.FileRow.{file_decides, file_in, file_serves, file_sight, file_volume, missing_code, sight_unless, unless_closed}
 
 some_is : {A : Type 0} (x y : A) → Some x ≡ Some y → x ≡ y

@@ -1,38 +1,30 @@
 -- What a volume server writes can be taken, and leaves the fold of its record.
-use Rattle.std.proofs.Common.{◌≡◌, ℕ, ◌+◌, Bool, true, false, cond, List, [], ◌∷◌, ◌++◌, Option, Some, None, Result, Ok, Err, refl, sym, ap, ◌∙◌, eq-eqb, eqb-true}
+use Rattle.std.proofs.Common.{◌≡◌, ℕ, Bool, true, false, cond, List, [], ◌∷◌, ◌++◌, Option, Some, None, Result, Ok, Err, refl, sym, ap, ◌∙◌, eq-eqb, eqb-true}
 use Rattle.std.specs.Prelude.{⊤, nat_eq, nat_lt, not, ◌||◌, length}
 use Rattle.std.specs.List.{AllByRecursion}
 use Rattle.afs_num.specs.Nodes.{node_number, node_of, same_node, IsNode}
 use Rattle.afs_num.specs.declared.types.Head.{Head}
 use Rattle.afs_num.specs.declared.types.Node.{Node}
 use Rattle.afs_num.specs.declared.types.Node.TheVariants.{Loc, Server, Client, Admin}
-use Rattle.afs_num.specs.declared.messages.Carried.{Carried}
-use Rattle.afs_num.specs.declared.messages.Carried.TheVariants as carried
-use Rattle.afs_num.specs.declared.messages.Call.TheVariants as ask
-use Rattle.afs_num.specs.declared.messages.Message.{Message}
-use Rattle.afs_num.specs.declared.messages.Received.{Received}
-use Rattle.afs_num.specs.declared.messages.Received.TheVariants.{Nothing, Unserved, Unreadable, Whole}
 use Rattle.afs_num.specs.declared.volume_calls.VolCall.{VolCall}
 use Rattle.afs_num.specs.declared.volume_calls.VolCall.TheVariants as calls
 use Rattle.afs_num.specs.declared.records.RecordBody.{RecordBody}
 use Rattle.afs_num.specs.declared.records.RecordBody.TheVariants as bodies
 use Rattle.afs_num.specs.declared.records.RecordHead.{RecordHead}
-use Rattle.afs_model.specs.Calls.{Admitted, admitted}
-use Rattle.afs_model.specs.Calls as pairs
 use Rattle.afs_ideal.specs.Operations.{is_last_count}
 use Rattle.afs_ideal.specs.Tables.{Table, get, set}
 use Rattle.afs_dumps.specs.Restores.{fed, finished}
 use Rattle.afs_fold.specs.Deeds.{can_take, clone_put, done_by, flagged, has_volume, has_volume_room, on_stored, or_as_was, clone_made}
 use Rattle.afs_fold.specs.Fold.{body_taken, folded}
-use Rattle.afs_records.specs.Durable.{Durable, Kept, Stored, has_room, place_length, with_stamp, with_journal}
+use Rattle.afs_records.specs.Durable.{Durable, Kept, Stored, has_room, with_stamp, with_journal}
 use Rattle.afs_records.specs.Records.{most_dump}
-use Rattle.afs_rows.specs.ServerRow.{not_served, seat_for, seat_placed, journal_with}
+use Rattle.afs_rows.specs.ServerRow.{seat_for, seat_placed, journal_with}
 use Rattle.afs_rows.specs.States.{Lasting, Seat, durable_of, kept_by_number, kept_of}
 use Rattle.afs_volrows.proofs.Deciding.{each_decision}
 use Rattle.afs_volrows.specs.VolLaws.{DeedsAreFolded, DeedsAreTold, DeedsAreWritable, OfSaved, if_there, withdrawn_by, IsWritable, taken_out}
 use Rattle.afs_volrows.specs.VolRow.{Plan, Verdict, accepted, bad_dump, begins_on, clones_anew, dumps_piece, found, gives, in_its_volume, in_transaction, is_held, is_held_by_other, is_there_already, no_more, part_given, refused, sends, unless, verdict, volume_of_family, whole_given, without_family}
-use Rattle.afs_volrows.specs.VolStates.{Transaction, VolState}
-use Rattle.afs_volrows.specs.VolSteps.{Deed, VolDecision, deed_head, deed_record, drops, is_vol_caller, judged_by, not_written, or_stamp, raised_by, refuses_vol, same_by, same_written, saves, vol_admits, vol_called, vol_carried, vol_hears, vol_received, written}
+use Rattle.afs_volrows.specs.VolStates.{Transaction}
+use Rattle.afs_volrows.specs.VolSteps.{Deed, VolDecision, deed_head, deed_record, judged_by, not_written, or_stamp, raised_by, same_by, same_written, saves, written}
 
 -- ---- verdicts: what an accepted call writes can be taken
 

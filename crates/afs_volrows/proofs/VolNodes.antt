@@ -1,5 +1,5 @@
 -- At each step of a node no stored stamp falls, each transaction has its family's, and the volumes held are the transactions'.
-use Rattle.std.proofs.Common.{◌≡◌, ℕ, ◌≤◌, Bool, true, false, cond, List, [], ◌∷◌, Option, Some, None, is_some, ℤ, negsuc, nat_eq, nat_lt, refl, sym, ap, subst, ◌∙◌, arith}
+use Rattle.std.proofs.Common.{◌≡◌, ℕ, ◌≤◌, Bool, true, false, cond, List, [], ◌∷◌, Option, Some, None, is_some, ℤ, nat_eq, refl, sym, ap, subst, ◌∙◌, arith}
 use Rattle.std.specs.Prelude.{not, ◌&&◌, ◌||◌}
 use Rattle.afs_num.specs.Nodes.{same_node}
 use Rattle.afs_num.specs.declared.types.Head.{Head}
@@ -27,7 +27,6 @@ use Rattle.afs_rows.specs.Callbacks.{expired, is_ready, put_at}
 use Rattle.afs_rows.specs.ServerRow.{begun_after, does, drops as rests, key_of, refuses, repeats as says_again, saves as changes, shows, stored_by, tells_boot as tells, Decision}
 use Rattle.afs_rows.specs.ServerSteps.{back_timeout_row, wake_row}
 use Rattle.afs_rows.specs.States.{BackCall, Backs, Held, Lasting, ServerState, durable_of}
-use Rattle.afs_rows.specs.Steps.{Step}
 use Rattle.afs_volrows.specs.FileRow.{file_decides, file_row, file_start}
 use Rattle.afs_volrows.specs.VolLaws.{AreApart, AreStamped, Follows, IsApart, IsStamped, KeepsApart, KeepsStamps, NodesStayApart, NodesStayStamped, StandsAfter, stamp_at}
 use Rattle.afs_volrows.specs.VolRow.{Dispatch, holds_of}

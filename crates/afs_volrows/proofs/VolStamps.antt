@@ -3,20 +3,10 @@ use Rattle.std.proofs.Common.{◌≡◌, ℕ, ◌+◌, ◌≤◌, ◌<◌, Bool,
 use Rattle.std.specs.Prelude.{⊤, not, ◌||◌, length}
 use Rattle.std.proofs.lemmas.Bool.Decides.{nat_tests}
 use Rattle.afs_num.specs.declared.types.Head.{Head}
-use Rattle.afs_num.specs.declared.types.Node.{Node}
-use Rattle.afs_num.specs.Nodes.{same_node}
-use Rattle.afs_num.specs.declared.messages.Carried.{Carried}
-use Rattle.afs_num.specs.declared.messages.Carried.TheVariants as carried
-use Rattle.afs_num.specs.declared.messages.Call.TheVariants as ask
-use Rattle.afs_num.specs.declared.messages.Message.{Message}
-use Rattle.afs_num.specs.declared.messages.Received.{Received}
-use Rattle.afs_num.specs.declared.messages.Received.TheVariants.{Nothing, Unserved, Unreadable, Whole}
 use Rattle.afs_num.specs.declared.volume_calls.VolCall.{VolCall}
 use Rattle.afs_num.specs.declared.volume_calls.VolCall.TheVariants as calls
 use Rattle.afs_num.specs.declared.records.RecordBody.{RecordBody}
 use Rattle.afs_num.specs.declared.records.RecordBody.TheVariants as bodies
-use Rattle.afs_model.specs.Calls.{Admitted, admitted}
-use Rattle.afs_model.specs.Calls as pairs
 use Rattle.afs_ideal.specs.Operations.{is_last_count}
 use Rattle.afs_ideal.specs.Tables.{Table, get, set, unset}
 use Rattle.afs_ideal.proofs.Tables.{get_set}
@@ -24,12 +14,11 @@ use Rattle.afs_dumps.specs.Restores.{fed, finished}
 use Rattle.afs_fold.specs.Deeds.{clone_put, done_by, flagged, has_volume, has_volume_room, on_stored, or_as_was, clone_made}
 use Rattle.afs_records.specs.Durable.{Durable, Stored, has_room, or_zero, stamp_of, with_stamp}
 use Rattle.afs_records.specs.Records.{most_dump}
-use Rattle.afs_rows.specs.ServerRow.{not_served}
 use Rattle.afs_volrows.proofs.Deciding.{each_decision}
 use Rattle.afs_volrows.specs.VolLaws.{AreStamped, KeepsStamps, StampsStand, StandsAfter}
 use Rattle.afs_volrows.specs.VolRow.{After, Plan, Verdict, accepted, bad_dump, begins, begins_on, clones_anew, dumps_piece, ends, family_of, found, gave, gives, in_its_volume, in_transaction, is_held, is_held_by_other, is_there_already, last_after, no_more, part_given, refused, sends, stay, transactions_after, unless, verdict, volume_of_family, whole_given, without_family}
-use Rattle.afs_volrows.specs.VolStates.{Transaction, VolState}
-use Rattle.afs_volrows.specs.VolSteps.{Deed, VolDecision, deed_head, deed_record, drops, is_vol_caller, judged_by, not_written, or_stamp, raised_by, refuses_vol, same_by, same_written, saves, vol_admits, vol_called, vol_carried, vol_hears, vol_received, vol_refusal, vol_reply, when_full}
+use Rattle.afs_volrows.specs.VolStates.{Transaction}
+use Rattle.afs_volrows.specs.VolSteps.{Deed, VolDecision, deed_head, deed_record, judged_by, not_written, or_stamp, raised_by, same_by, same_written, saves, vol_refusal, vol_reply, when_full}
 
 -- ---- what a verdict begins has the call's family and stamp
 

@@ -11,7 +11,6 @@ use Rattle.afs_num.specs.declared.types.Head.{Head}
 use Rattle.afs_num.specs.declared.types.Node.{Node}
 use Rattle.afs_num.specs.declared.types.Node.TheVariants.{Server}
 use Rattle.afs_breaks.specs.declared.types.OwedBreak.{OwedBreak}
-use Rattle.afs_breaks.specs.Promises.{Lists}
 use Rattle.afs_history.specs.declared.lines.Line.TheVariants as lines
 use Rattle.afs_ideal.specs.Operations.{is_number}
 use Rattle.afs_records.specs.Durable.{Durable}
@@ -20,7 +19,6 @@ use Rattle.afs_rows.specs.Callbacks.{expired, is_ready, owe_line, pumped, put_at
 use Rattle.afs_rows.specs.ServerRow.{key_of}
 use Rattle.afs_rows.specs.States.{durable_of, BackCall, Backs, Held, Lasting, ServerState}
 use Rattle.afs_fold.specs.ServerLines.{plain, plain_lines, ServerLine}
-use Rattle.afs_volrows.specs.LinedSteps.{LinedStep}
 use Rattle.afs_volrows.specs.VolLaws.{is_saved, waits_of, DeedsAreShown, LeavesFiles, OthersLeaveFiles, ShowsDeed}
 use Rattle.afs_volrows.specs.VolRow.{Dispatch}
 use Rattle.afs_volrows.specs.VolStates.{NodeState, PieceCall, Sending, VolState}

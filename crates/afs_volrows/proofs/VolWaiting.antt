@@ -1,6 +1,6 @@
 -- Replies of a volume server that wait for breaks are held until these end.
-use Rattle.std.proofs.Common.{◌≡◌, ◌⊎◌, ℕ, ℤ, negsuc, inl, inr, Bool, true, false, cond, List, [], ◌∷◌, ◌++◌, map, filter, Option, Some, None, refl, sym, subst, ◌∙◌, eqb-true, eq-eqb}
-use Rattle.std.specs.Prelude.{nat_eq, nat_lt, not, ◌&&◌, ◌||◌}
+use Rattle.std.proofs.Common.{◌≡◌, ◌⊎◌, ℕ, ℤ, inl, inr, Bool, true, false, cond, List, [], ◌∷◌, ◌++◌, map, filter, Option, Some, None, refl, sym, subst, ◌∙◌, eq-eqb}
+use Rattle.std.specs.Prelude.{nat_eq, not, ◌&&◌, ◌||◌}
 use Rattle.std.specs.List.{AllByRecursion}
 use Rattle.afs_num.specs.Nodes.{same_node}
 use Rattle.afs_num.specs.declared.types.Head.{Head}
@@ -17,7 +17,7 @@ use Rattle.afs_history.specs.declared.lines.Line.TheVariants as lines
 use Rattle.afs_volrows.proofs.VolTurns.{pumped_lists, saved_row}
 use Rattle.afs_ideal.specs.Operations.{is_number}
 use Rattle.afs_model.specs.Calls.{finished, is_sent_again}
-use Rattle.afs_rows.specs.Callbacks.{alls, expired, is_ready, owe_line, put_at, timeout_line, waits_none, is_all, numbers, pumped}
+use Rattle.afs_rows.specs.Callbacks.{alls, expired, is_ready, owe_line, put_at, waits_none, is_all, numbers, pumped}
 use Rattle.afs_rows.specs.ServerRow.{key_of}
 use Rattle.afs_rows.specs.ServerSteps.{back_timeout_row, wake_row}
 use Rattle.afs_rows.specs.States.{Backs, Held, Lasting, ServerState, durable_of}
@@ -25,7 +25,7 @@ use Rattle.afs_rows.specs.Steps.{Step}
 use Rattle.afs_volrows.specs.FileRow.{file_row}
 use Rattle.afs_volrows.specs.VolLaws.{FencesWait, HeldAreKept, HeldGoOutLast, IsAmong, IsHeldFor, KeepsHeld, waits_of, IsHeldBack}
 use Rattle.afs_volrows.specs.VolStates.{NodeState, PieceCall, Sending, VolState}
-use Rattle.afs_volrows.specs.VolSteps.{VolDecision, VolTurn, answered_by, code_told, deed_done, deed_lines, dispatches, drops, ends_sending, forward_reply, from_of, in_progress, is_awaited, is_of_client, is_waiting, moved_on, next_by, node_back_timeout_row, node_row, node_wake_row, owes_of, piece_timeout_row, queued, released, repeats, replies_to, saves, sent_whole, tells_boot, vol_answers, vol_decides, vol_renews, vol_repeats, vol_rests, vol_seated, vol_stepped, vol_timed, vol_told_by, vol_turn, vol_turned, vol_turned_by, with_transactions, withdraws_from, Deed, file_stepped, given_up}
+use Rattle.afs_volrows.specs.VolSteps.{VolDecision, VolTurn, answered_by, code_told, deed_done, deed_lines, dispatches, drops, ends_sending, forward_reply, from_of, in_progress, is_awaited, is_of_client, is_waiting, moved_on, next_by, node_back_timeout_row, node_row, node_wake_row, owes_of, piece_timeout_row, queued, repeats, replies_to, saves, sent_whole, tells_boot, vol_answers, vol_decides, vol_renews, vol_repeats, vol_rests, vol_seated, vol_stepped, vol_timed, vol_told_by, vol_turn, vol_turned, vol_turned_by, with_transactions, withdraws_from, Deed, file_stepped, given_up}
 use Rattle.afs_volrows.specs.LinedSteps.{LinedStep}
 use Rattle.afs_fold.specs.ServerLines.{ServerLine, plain, plain_lines}
 use Rattle.afs_volrows.specs.VolRow.{holds_of}

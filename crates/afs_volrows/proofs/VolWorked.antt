@@ -1,13 +1,12 @@
 -- Worked calls of a volume server: what each is answered and tells, and what the file server beside it answers meanwhile.
-use Rattle.std.proofs.Common.{◌≡◌, ℕ, ◌+◌, List, [], ◌∷◌, ◌++◌, Option, Some, None, map, pos, ℤ, negsuc, refl}
-use Rattle.std.specs.Prelude.{codes, false, length}
+use Rattle.std.proofs.Common.{◌≡◌, ℕ, List, [], ◌∷◌, ◌++◌, Some, None, map, pos, negsuc, refl}
+use Rattle.std.specs.Prelude.{codes, false}
 use Rattle.std.specs.Fmt.{digits}
 use Rattle.afs_num.specs.Names.{name_ok}
 use Rattle.afs_num.specs.declared.calls.AfsStoreStatus.{AfsStoreStatus}
 use Rattle.afs_num.specs.declared.calls.FsCall.TheVariants as files
 use Rattle.afs_num.specs.declared.calls.FsReply.TheVariants as file_replies
 use Rattle.afs_num.specs.declared.histories.Body.TheVariants as shapes
-use Rattle.afs_num.specs.declared.histories.Version.{Version}
 use Rattle.afs_num.specs.declared.messages.Call.{Call}
 use Rattle.afs_num.specs.declared.messages.Call.TheVariants as ask
 use Rattle.afs_num.specs.declared.messages.Carried.{Carried}
@@ -40,11 +39,11 @@ use Rattle.afs_dumps.specs.Restores.{fed, finished}
 use Rattle.afs_dumps.specs.Streams.{dump_at, dump_bytes, dump_field, dump_header_field, image_field, live_field, volume_header_field}
 use Rattle.afs_rows.specs.Runs.{first_server}
 use Rattle.afs_fold.specs.Deeds.{created}
-use Rattle.afs_fold.specs.ServerLines.{enable, fence, made, plain, released, vanish, version_lines, ServerLine}
+use Rattle.afs_fold.specs.ServerLines.{enable, fence, made, plain, vanish, version_lines, ServerLine}
 use Rattle.afs_volrows.specs.FileRow.{file_row, file_start}
 use Rattle.afs_volrows.specs.LinedSteps.{nothing_before}
 use Rattle.afs_volrows.specs.VolStates.{fresh_vol, NodeState}
-use Rattle.afs_volrows.specs.VolSteps.{node_begun_after, node_row, node_start_row, piece_timeout_row}
+use Rattle.afs_volrows.specs.VolSteps.{node_begun_after, node_row, node_start_row}
 
 -- ---- a server, and calls to it one after the other
 

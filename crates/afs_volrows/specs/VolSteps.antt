@@ -1,6 +1,6 @@
 -- The steps of a server node: a message of a client goes to its file server, every other to its volume server; then the file server
 -- sends what waited for breaks, and breaks; and last the volume server sends what waited for breaks.
-use Rattle.std.specs.Prelude.{ℕ, ◌+◌, List, [], ◌∷◌, ◌++◌, Bool, true, false, not, ◌&&◌, ◌||◌, Option, Some, None, ℤ, pos, negsuc, nat_eq, nat_lt, map, filter, length, take, drop, if◌then◌else◌}
+use Rattle.std.specs.Prelude.{ℕ, ◌+◌, List, [], ◌∷◌, ◌++◌, Bool, true, false, not, ◌&&◌, ◌||◌, Option, Some, None, ℤ, pos, negsuc, nat_eq, nat_lt, map, filter, length, drop, if◌then◌else◌}
 use Rattle.std.specs.List.{list_any}
 use Rattle.afs_num.specs.Nodes.{same_node}
 use Rattle.afs_num.specs.declared.messages.Call.TheVariants as ask
@@ -22,7 +22,6 @@ use Rattle.afs_num.specs.declared.volume_calls.VolCall.{VolCall}
 use Rattle.afs_num.specs.declared.volume_calls.VolCall.TheVariants as calls
 use Rattle.afs_num.specs.declared.volume_calls.VolReply.{VolReply}
 use Rattle.afs_num.specs.declared.volume_calls.VolReply.TheVariants as replies
-use Rattle.afs_history.specs.declared.lines.Line.{Line}
 use Rattle.afs_history.specs.declared.lines.Line.TheVariants as lines
 use Rattle.afs_breaks.specs.declared.types.OwedBreak.{OwedBreak}
 use Rattle.afs_breaks.specs.Promises as lists
