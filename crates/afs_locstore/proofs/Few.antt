@@ -1,5 +1,5 @@
 -- Each record is longer than the number of entries that it adds.
-use Rattle.std.proofs.Common.{◌≡◌, ◌≤◌, ℕ, suc, ◌+◌, Bool, true, false, not, List, [], ◌∷◌, ◌++◌, length, Option, Some, None, filter, nat_eq, nat_lt, refl, sym, ap, ◌∙◌, arith, if◌then◌else◌}
+use Rattle.std.proofs.Common.{◌≡◌, ◌≤◌, ℕ, suc, ◌+◌, Bool, true, false, not, List, [], ◌∷◌, ◌++◌, length, Option, Some, None, nat_eq, nat_lt, refl, sym, ap, ◌∙◌, arith, if◌then◌else◌}
 use Rattle.std.specs.List.{flat_map}
 use Rattle.std.proofs.lemmas.List.{length-append}
 use Rattle.std.proofs.lemmas.List.Concat.{flat_map-cons}
@@ -9,7 +9,7 @@ use Rattle.afs_ideal.specs.Tables.{set, unset, Table}
 use Rattle.afs_shape.specs.Taking.{◌>>=◌}
 use Rattle.afs_xdr.specs.Words.{opaque, word}
 use Rattle.afs_records.specs.LocDurable.{can_do, entries_after, entries_set, loc_body_taken, loc_first_folded, loc_fold_all, loc_fold_from, loc_folded, loc_is_first, loc_place_length, loc_placing, loc_with_journal, loc_with_reply, nothing_listed, numbered_as, LocDurable}
-use Rattle.afs_records.specs.LocRecords.{deed, entry_form, leaves, listed_form, loc_record_at, loc_record_bytes, removes, sets, Boot, Database, Deed, First, Listed, LocBody, LocRecord}
+use Rattle.afs_records.specs.LocRecords.{entry_form, leaves, listed_form, loc_record_at, loc_record_bytes, removes, sets, Boot, Database, Deed, First, Listed, LocBody, LocRecord}
 use Rattle.afs_records.specs.Records.{head_form}
 use Rattle.afs_records.proofs.Forms.{bound, some_is}
 use Rattle.afs_locstore.specs.Few.{EntriesAreFew}

@@ -1,14 +1,12 @@
 -- The servers of an entry that has a spelling.
-use Rattle.std.proofs.Common.{◌≡◌, ◌<◌, ℕ, Bool, true, false, List, [], ◌∷◌, Option, Some, None, find, arith, if◌then◌else◌, refl, ap, sym, ◌∙◌}
+use Rattle.std.proofs.Common.{◌≡◌, ◌<◌, ℕ, Bool, true, false, List, [], ◌∷◌, Option, Some, None, find, arith, if◌then◌else◌, refl}
 use Rattle.std.specs.Prelude.{IfSome}
 use Rattle.std.specs.List.{AllByRecursion}
 use Rattle.std.specs.Option.{option_map}
 use Rattle.std.proofs.lemmas.Bool.Decides.{nat_tests}
 use Rattle.afs_num.specs.Nodes.{is_between}
-use Rattle.afs_num.specs.declared.location_calls.LocEntry.{LocEntry}
 use Rattle.afs_num.specs.declared.location_calls.LocSite.{LocSite}
 use Rattle.afs_records.specs.Entries.{is_read_write, site_of}
-use Rattle.afs_records.specs.Forms.{passing}
 use Rattle.afs_records.specs.LocRecords.{listed_form, entry_form, site_form, Listed}
 
 between_by : (n : ℕ) (b : Bool) → is_between 1 8 n ≡ b → (if b then Some n else None) ≡ Some n → n < 256

@@ -1,5 +1,5 @@
 -- A record that was read does what its parts do, or can't be taken.
-use Rattle.std.proofs.Common.{◌≡◌, Bool, true, false, Option, Some, None, is_some, not, refl, sym, ap, ◌∙◌}
+use Rattle.std.proofs.Common.{◌≡◌, Bool, true, Option, Some, None, is_some, not, refl, sym, ap, ◌∙◌}
 use Rattle.std.specs.Option.{option_map}
 use Rattle.afs_records.specs.LocDurable.{loc_body_taken, loc_with_reply, LocDurable}
 use Rattle.afs_records.specs.LocRecords.{LocBody, LocRecord}

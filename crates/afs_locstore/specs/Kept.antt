@@ -1,5 +1,5 @@
 -- Kept replies in memory, by the numbers of their callers.
-use Rattle.std.specs.Prelude.{◌≡◌, ℕ, List, [], ◌∷◌, ⊤, Bool, true, Option, Some, None, is_some}
+use Rattle.std.specs.Prelude.{◌≡◌, ℕ, [], ◌∷◌, ⊤, Bool, true, Option, Some, None, is_some}
 use Rattle.std.specs.List.{AllByRecursion}
 use Rattle.afs_num.specs.Nodes.{node_number, node_of}
 use Rattle.afs_num.specs.declared.types.Node.{Node}

@@ -1,5 +1,5 @@
 -- What the database's disk keeps, as it stands in memory; what a record says, ready to be done, and the record that says it.
-use Rattle.std.specs.Prelude.{◌≡◌, ◌<◌, ℕ, length, Option, Some, None}
+use Rattle.std.specs.Prelude.{◌≡◌, ◌<◌, ℕ, length, Option}
 use Rattle.std.specs.Option.{option_map}
 use Rattle.afs_num.specs.declared.records.RecordHead.{RecordHead}
 use Rattle.afs_records.specs.LocDurable.{loc_body_taken, loc_with_reply, LocDurable}

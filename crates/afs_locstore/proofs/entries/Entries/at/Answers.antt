@@ -1,4 +1,4 @@
-use Rattle.std.proofs.Common.{◌≡◌, ◌∙◌, ℕ, Option, Some, None, ap, sym, subst}
+use Rattle.std.proofs.Common.{◌≡◌, ◌∙◌, ℕ, Some, None, ap, sym, subst}
 use Rattle.std.specs.Option.{option_map}
 use Rattle.afs_records.specs.LocRecords.{Listed}
 use Rattle.afs_rows.specs.LocRow.{all_listed, nth}

@@ -1,8 +1,6 @@
 use Rattle.std.proofs.Common.{◌≡◌, ◌∙◌, subst}
 use Rattle.std.specs.Option.{option_copied}
 use Rattle.std.specs.Prelude.{nat_eq, nat_lt}
-use Rattle.std.specs.Str.{bytes_eq}
-use Rattle.afs_ideal.specs.Directories.{bytes_below}
 use Rattle.afs_rows.specs.LocRow.{found_id, has_id}
 use Rattle.afs_locstore.specs.Indexed.{first_under}
 use Rattle.afs_locstore.specs.Listings.{Listings}

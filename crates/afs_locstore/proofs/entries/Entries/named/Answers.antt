@@ -1,6 +1,5 @@
 use Rattle.std.proofs.Common.{◌≡◌, ◌∙◌, subst}
 use Rattle.std.specs.Option.{option_copied}
-use Rattle.std.specs.Prelude.{nat_eq, nat_lt}
 use Rattle.std.specs.Str.{bytes_eq}
 use Rattle.afs_ideal.specs.Directories.{bytes_below}
 use Rattle.afs_rows.specs.LocRow.{found_name, is_named}

@@ -1,4 +1,4 @@
-use Rattle.std.proofs.Common.{◌≡◌, ◌∷◌, ◌∙◌, ℕ, List, length, ap, sym, subst, rules, arith}
+use Rattle.std.proofs.Common.{◌≡◌, ◌∷◌, ◌∙◌, List, length, ap, sym, subst, rules, arith}
 use Rattle.std.specs.Vec.Iter.{into_iter_items}
 use Rattle.afs_records.specs.LocDurable.{entries_set}
 use Rattle.afs_locstore.specs.Listings.{are_placed, CanBeAllPut, HasRoomOf}
