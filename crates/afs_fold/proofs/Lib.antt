@@ -1,0 +1,4 @@
+pub mod Plain
+pub mod Grows
+pub mod Storing
+pub mod Worked

@@ -1,0 +1,5 @@
+pub mod Deeds
+pub mod Fold
+pub mod ServerLines
+pub mod Effects
+pub mod Laws

@@ -1,0 +1,6 @@
+mod Few
+pub mod Listed
+mod Pairs
+mod Replies
+mod Sites
+mod Taking

@@ -1,0 +1,34 @@
+-- Kept replies in memory, by the numbers of their callers.
+use Rattle.std.specs.Prelude.{◌≡◌, ℕ, [], ◌∷◌, ⊤, Bool, true, Option, Some, None, is_some}
+use Rattle.std.specs.List.{AllByRecursion}
+use Rattle.afs_num.specs.Nodes.{node_number, node_of}
+use Rattle.afs_num.specs.declared.types.Node.{Node}
+use Rattle.afs_ideal.specs.DirectoryLaws.{IsBytes}
+use Rattle.afs_ideal.specs.Tables.{Table}
+use Rattle.afs_records.specs.Durable.{Kept}
+use Rattle.afs_locstore.specs.declared.kept.KeptReply.{KeptReply}
+
+abbrev pub kept_seen : KeptReply → Kept
+kept_seen k = record { epoch = k.epoch; number = k.number; reply = k.reply }
+
+-- the number is a node's
+abbrev pub is_known : ℕ → Bool
+is_known n = is_some (node_of n)
+
+-- a reply stands by the number of its caller, which is a node's; and it is bytes
+abbrev pub IsCalled : ℕ × KeptReply → Type 0
+IsCalled p = (node_number p.1.caller ≡ p.0) × ((is_known p.0 ≡ true) × IsBytes p.1.reply)
+
+-- each of these does
+abbrev pub AreCalled : Table KeptReply → Type 0
+AreCalled [] = ⊤
+AreCalled (p ∷ ps) = IsCalled p × AreCalled ps
+
+-- the caller is one of the cell's nodes, if there is one
+abbrev pub IsCaller : Option Node → Type 0
+IsCaller None = ⊤
+IsCaller (Some n) = is_known (node_number n) ≡ true
+
+-- each of these numbers is a node's, and each reply is bytes
+abbrev pub AreOfNodes : Table Kept → Type 0
+AreOfNodes t = AllByRecursion (λ (p : ℕ × Kept). (is_known p.0 ≡ true) × IsBytes p.1.reply) t

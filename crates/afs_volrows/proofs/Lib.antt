@@ -1,0 +1,13 @@
+pub mod Deciding
+pub mod FileOpen
+pub mod FileServed
+pub mod FileClosed
+pub mod VolKeeping
+pub mod VolStamps
+pub mod VolApart
+pub mod VolHolds
+pub mod VolTurns
+pub mod VolNodes
+pub mod VolResting
+pub mod VolWaiting
+pub mod VolWorked

@@ -1,0 +1,5 @@
+use Rattle.afs_volrows.proofs.FileServed.{starts_alike}
+use Rattle.afs_volrows.proofs.laws.starts_alike.Goals as goal
+
+pub returns : goal.returns
+returns c = starts_alike
