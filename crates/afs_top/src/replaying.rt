@@ -19,10 +19,10 @@ use afs_command::statuses::Status;
 use afs_disk::{Bank, Disk, Disks, LendFault, Place};
 use afs_history::scripts::Script;
 use afs_law::laws::{runs_are_legal, runs_end_well};
+use afs_lending::telling::{give_up, put_no_more, returned, status_of_lend, tell_left, tell_none};
 use afs_lending::{give_back, lend_all};
 use afs_outside::outside::{Failed, Sink};
 use afs_scripts::laws::volumes_are_in_cell;
-use afs_lending::telling::{give_up, put_no_more, returned, status_of_lend, tell_left, tell_none};
 use std::alloc::Global;
 
 /// The status where the cell wasn't set up.
