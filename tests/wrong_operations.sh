@@ -2,7 +2,8 @@
 # Tries wrong operations: the ideal operation can't be judged by a law of the cell, since it is what the cell does, so rows by
 # computation judge it. Each tests/wrong_operations/NAME.edit changes one definition of crate afs_ideal, and the row that it
 # names has to be refused; laws on all operations may be refused as well, and are counted. WRONG=dumps tries the clones and dumps of
-# crate afs_dumps in the same way, by tests/wrong_dumps.
+# crate afs_dumps in the same way, by tests/wrong_dumps; WRONG=fold and WRONG=volrows try the records and the rows of a volume server
+# (crates afs_fold and afs_volrows), by tests/wrong_fold and tests/wrong_volrows.
 # Run it when the definitions or the rows have changed. It takes some 15 s an edit, so it is no part of the gate. With NAMEs it
 # tries these alone. All is done in a copy: the repository stays as it is.
 #
@@ -19,7 +20,9 @@ cd "$(dirname "$0")/.."
 case ${WRONG:-operations} in
     operations) changed_crate=afs_ideal edits=tests/wrong_operations law=operations_leave_sound ;;
     dumps) changed_crate=afs_dumps edits=tests/wrong_dumps law=dumps_finish ;;
-    *) echo 'WRONG is operations or dumps'; exit 1 ;;
+    fold) changed_crate=afs_fold edits=tests/wrong_fold law=plain_records_fold_alike ;;
+    volrows) changed_crate=afs_volrows edits=tests/wrong_volrows law=deeds_are_told ;;
+    *) echo 'WRONG is operations, dumps, fold or volrows'; exit 1 ;;
 esac
 
 work=$(mktemp -d)
