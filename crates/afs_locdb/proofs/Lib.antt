@@ -1,0 +1,13 @@
+pub mod Created
+pub mod Decides
+pub mod Formed
+pub mod Kept
+pub mod Keyed
+pub mod Numbered
+pub mod OnDisks
+pub mod Recorded
+pub mod Saved
+pub mod Saves
+pub mod Started
+pub mod Still
+pub mod Wholly

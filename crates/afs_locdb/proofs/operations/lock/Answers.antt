@@ -1,0 +1,7 @@
+use Rattle.std.proofs.Common.{refl, sym, subst}
+use Rattle.afs_records.specs.LocRecords.{entry_form, Listed}
+use Rattle.afs_locdb.proofs.Formed.{entry_within}
+use Rattle.afs_locdb.proofs.operations.lock.Goals as goal
+
+pub returns-clause-told : goal.returns-clause-told
+returns-clause-told c = c.locks.ensures.told 508 (refl, (tt, (entry_within _ (subst entry_form.Fits (sym c.in_ok-copy_entry.ensures) (subst (λ (l : Listed). entry_form.Fits l.entry) (sym c.listed.view_is) c.in-Some.ensures.fits.0.0)), tt)))

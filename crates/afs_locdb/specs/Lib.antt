@@ -1,0 +1,5 @@
+pub mod Creating
+pub mod Deciding
+pub mod Handling
+pub mod Saving
+pub mod Seen
