@@ -1,4 +1,3 @@
-pub mod Below
 pub mod Lengths
 pub mod Finding
 pub mod Reach

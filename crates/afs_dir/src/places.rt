@@ -1,30 +1,19 @@
 //! Where a name stands among a directory's.
 
-ghost use Rattle.std.specs.Prelude.{◌≡◌, ◌≤◌, ◌⊎◌, IfOk, IfErr, slice_get};
+ghost use Rattle.std.specs.Prelude.{◌≡◌, IfOk, IfErr, slice_get};
 ghost use Rattle.afs_ideal.specs.Directories.{IsDirectory, bytes_below};
 ghost use Rattle.afs_dir.specs.Places.{place_of, IsFound, IsGap, is_at};
 
 use afs_num::directories::Name;
-
-/// The shorter one of two lengths.
-fn shorter(len: usize, other: usize) -> usize
-    ensures within { (result ≤ len) × (result ≤ other) }
-    ensures one { (len ≤ result) ⊎ (other ≤ result) }
-{
-    if len < other { len } else { other }
-}
+use std::cmp::Ord;
 
 /// Whether one name is below the other in byte order: the first byte that differs decides, and where none does the shorter is
 /// below the longer.
+#[tactic(auto, unfolding(afs_ideal::specs::Directories::bytes_below))]
 pub fn is_below(name: &[u8], other: &[u8]) -> bool
     ensures { result ≡ bytes_below name.now other.now }
 {
-    for place in 0..shorter(name.len(), other.len()) {
-        if name[place] != other[place] {
-            return name[place] < other[place];
-        }
-    }
-    name.len() < other.len()
+    name.cmp(&other).is_lt()
 }
 
 // How many names are below this one.
