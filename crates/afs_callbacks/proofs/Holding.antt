@@ -10,10 +10,10 @@ use Rattle.afs_breaks.specs.declared.types.OwedBreak.{OwedBreak}
 use Rattle.afs_breaks.specs.declared.types.Promise.{Promise}
 use Rattle.afs_rows.specs.Callbacks.{alls, no_turn, numbers}
 use Rattle.afs_rows.specs.States.{Backs}
-use Rattle.afs_server_parts.specs.Turning.{backs_with, IsTurn}
+use Rattle.afs_server_parts.specs.Turning.{backs_with, IsTurn, answer_turn}
 use Rattle.afs_server_parts.specs.declared.turns.Turn.{Turn}
 use Rattle.afs_server_parts.proofs.Turning.{backs_of}
-use Rattle.afs_callbacks.specs.Answering.{answer_turn, with_lists}
+use Rattle.afs_callbacks.specs.Answering.{with_lists}
 use Rattle.afs_callbacks.proofs.Withdrawn.{filter_few}
 
 -- the turn of a reply that is held, as the code makes it: with any promises that owe the breaks

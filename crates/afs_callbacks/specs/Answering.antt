@@ -16,15 +16,11 @@ use Rattle.afs_rows.specs.States.{Backs}
 use Rattle.afs_server_parts.specs.Ending.{IsPlan}
 use Rattle.afs_server_parts.specs.declared.ending.Ended.{Ended}
 use Rattle.afs_server_parts.specs.declared.turns.Stand.{Stand}
+use Rattle.afs_server_parts.specs.Turning.{answer_turn}
 use Rattle.afs_callbacks.specs.States.{backs_at, CallbackState}
-
--- a message goes out
-abbrev pub sent_turn : Message → Backs → row.Turn
-sent_turn m b = record (no_turn b) { sent = m ∷ [] }
-
--- a reply goes out, now or once these breaks have ended
-abbrev pub answer_turn : Message → List ℕ → Bool → Backs → row.Turn
-answer_turn reply waits again b = record (no_turn b) { outs = record { reply = reply; waits = waits; again = again } ∷ [] }
+use Rattle.afs_shape.specs.Rows.{IsWithin}
+use Rattle.afs_model.specs.CellRows.{cell_replies, reply_number}
+use Rattle.afs_model.specs.Heads.{IsSoundHead}
 
 -- with these promises and owed breaks
 abbrev pub with_lists : Lists → Backs → Backs
@@ -33,6 +29,12 @@ with_lists l b = record b { lists = l }
 -- the reply to a call, which is told this, with a promise until this time where it has a place for one
 abbrev pub reply_told : ℕ → Head → ℕ → FsReply → Message
 reply_told boot head expiry told = replied boot head (carried.Reply (tell.File (promised_in expiry told)))
+
+-- the reply to the call of this header can tell this, and then has a spelling
+pub record CanTell (head : Head) (told : FsReply) : Type 0 where
+  pub sound : IsSoundHead head
+  pub number : head.opcode ≡ reply_number (tell.File told)
+  pub within : IsWithin cell_replies (tell.File told)
 
 -- ---- what comes of a reply, whatever is promised besides
 

@@ -1,16 +1,13 @@
 //! What comes of answers to calls that change nothing on the disk.
 
 ghost use Rattle.std.specs.Prelude.{◌≡◌, [], false, IfOk, OnOk};
-ghost use Rattle.afs_num.specs.declared.messages.Reply.TheVariants as tell;
-ghost use Rattle.afs_shape.specs.Rows.{IsWithin};
-ghost use Rattle.afs_model.specs.CellRows.{cell_replies, reply_number};
 ghost use Rattle.afs_model.specs.Heads.{is_zero, IsSoundHead};
 ghost use Rattle.afs_breaks.specs.Promises.{expired, lasting_breaks, Lists};
 ghost use Rattle.afs_rows.specs.Callbacks.{gives_up_all, held_under, key_answered, repeats_by};
 ghost use Rattle.afs_rows.specs.ServerRow.{boot_told, given_up_read, read_reply_to, refusal};
 ghost use Rattle.afs_server_parts.specs.Ending.{IsPlanOf};
-ghost use Rattle.afs_server_parts.specs.Turning.{backs_with, IsFresh, IsReady, IsTurn};
-ghost use Rattle.afs_callbacks.specs.Answering.{answer_turn, reply_told, sent_turn, IsAnswer, IsRepliedNow};
+ghost use Rattle.afs_server_parts.specs.Turning.{IsFresh, IsReady, answer_turn, sent_turn, Goes};
+ghost use Rattle.afs_callbacks.specs.Answering.{reply_told, IsAnswer, IsRepliedNow, CanTell};
 ghost use Rattle.afs_callbacks.specs.States.{backs_by, IsToNodes};
 
 use crate::callbacks::Callbacks;
@@ -48,9 +45,7 @@ pub(crate) fn reply_told(
     told: FsReply,
     expiry: u32,
 ) -> Mem<SpelledMessage>
-    requires head { IsSoundHead head.now }
-    requires opcode { head.now.opcode ≡ reply_number (tell.File told) }
-    requires within { IsWithin cell_replies (tell.File told) }
+    requires { CanTell head.now told }
     ensures { IfOk result (λ m. m ≡ reply_told boot head.now expiry told) }
 {
     let told = promised(alloc, told, expiry)?;
@@ -62,9 +57,7 @@ pub(crate) fn reply_told(
 /// A reply goes out at once.
 fn answer_now(alloc: Global, turn: &mut Turn, reply: SpelledMessage) -> Mem<()>
     requires fresh { IsFresh turn.old }
-    ensures turn { OnOk result ((l : Lists) → l.owed ≡ turn.old.owed.items → IsTurn (answer_turn reply [] false (backs_with l turn.old.held turn.old.calls)) turn.new) }
-    ensures stand { turn.new.stand ≡ turn.old.stand }
-    ensures ready { OnOk result (IsReady turn.old → IsReady turn.new) }
+    ensures { Goes (λ s. answer_turn reply [] false) turn.old turn.new result }
 {
     turn.answer(reply, Sequence::new(alloc), false)?;
     Ok(())

@@ -3,13 +3,9 @@
 ghost use Rattle.std.specs.Prelude.{◌≡◌, ◌≤◌, ◌<◌, ◌+◌, ◌^◌, ◌∷◌, ◌++◌, [], Some, false, true, length, IfOk, OnOk, OnErr};
 ghost use Rattle.std.specs.List.{All, AllByRecursion};
 ghost use Rattle.afs_num.specs.Nodes.{IsNode};
-ghost use Rattle.afs_num.specs.declared.messages.Reply.TheVariants as tell;
 ghost use Rattle.afs_num.specs.declared.records.RecordBody.TheVariants as bodies;
-ghost use Rattle.afs_shape.specs.Rows.{IsWithin};
 ghost use Rattle.afs_ideal.specs.VnodeImage.{image_words, FitsImage};
 ghost use Rattle.afs_xdr.specs.Words.{AreWords};
-ghost use Rattle.afs_model.specs.CellRows.{cell_replies, reply_number};
-ghost use Rattle.afs_model.specs.Heads.{IsSoundHead};
 ghost use Rattle.afs_history.specs.declared.lines.Line.TheVariants as lines;
 ghost use Rattle.afs_breaks.specs.Promises.{expired, lasting, lasting_breaks, owes_from, withdrawn, Lists, grants_all};
 ghost use Rattle.afs_records.specs.Changes.{keeping};
@@ -17,8 +13,8 @@ ghost use Rattle.afs_records.specs.Records.{FitsRecord};
 ghost use Rattle.afs_promise.specs.Found.{without_found};
 ghost use Rattle.afs_rows.specs.Callbacks.{alls, numbers};
 ghost use Rattle.afs_rows.specs.ServerRow.{is_client, key_of, versioned};
-ghost use Rattle.afs_server_parts.specs.Turning.{backs_with, IsBreakToNode, IsFresh, IsReady, IsTurn};
-ghost use Rattle.afs_callbacks.specs.Answering.{answer_turn, reply_told, IsAnswer, IsRepliedAfter};
+ghost use Rattle.afs_server_parts.specs.Turning.{backs_with, IsBreakToNode, IsFresh, IsReady, IsTurn, answer_turn};
+ghost use Rattle.afs_callbacks.specs.Answering.{reply_told, IsAnswer, IsRepliedAfter, CanTell};
 ghost use Rattle.afs_callbacks.specs.Saving.{CanBeWritten, HasKind, breaks_new, fids_changed, fids_granted, has_fid, hits_each, hits_fresh, hits_new, new_grants, saved_lines, IsPlanned};
 ghost use Rattle.afs_callbacks.specs.States.{IsPromiseToNode, IsToNodes};
 
@@ -461,9 +457,7 @@ impl Callbacks {
     ) -> Mem<Replied>
         requires nodes { IsToNodes stand.node self.now }
         requires clients { All IsBreakToNode breaks.now }
-        requires head { IsSoundHead head.now }
-        requires opcode { head.now.opcode ≡ reply_number (tell.File told) }
-        requires within { IsWithin cell_replies (tell.File told) }
+        requires told { CanTell head.now told }
         requires now { now ≤ 1000000000 }
         ensures { IfOk result (λ r. IsRepliedAfter stand self.now now (reply_told stand.boot head.now (now + 7200) told) breaks.now [] r.ended r.kept) }
     {
@@ -510,9 +504,7 @@ impl Callbacks {
     ) -> Mem<Replied>
         requires nodes { IsToNodes stand.node self.now }
         requires clients { All IsBreakToNode found.now.breaks.items }
-        requires head { IsSoundHead head.now }
-        requires opcode { head.now.opcode ≡ reply_number (tell.File told) }
-        requires within { IsWithin cell_replies (tell.File told) }
+        requires told { CanTell head.now told }
         requires few { length versions < 2 ^ 32 }
         requires now { now ≤ 1000000000 }
         ensures { IfOk result (λ r. IsRepliedAfter stand self.now now (reply_told stand.boot head.now (now + 7200) told) found.now.breaks.items (saved_lines stand.node head.now (now + 7200) versions found.now.grants found.now.breaks.items) r.ended r.kept) }
@@ -545,10 +537,8 @@ impl Callbacks {
         requires nodes { IsToNodes stand.node self.now }
         requires promised { All IsPromiseToNode self.now.lists.promises }
         requires draws { self.now.lists.last_owed + length self.now.lists.promises < 4000000000 }
-        requires head { IsSoundHead head.now }
+        requires told { CanTell head.now change.reply }
         requires client { is_client head.now.from ≡ true }
-        requires opcode { head.now.opcode ≡ reply_number (tell.File change.reply) }
-        requires within { IsWithin cell_replies (tell.File change.reply) }
         requires written { CanBeWritten change }
         requires now { now ≤ 1000000000 }
         ensures { IfOk result (IsPlanned stand now head.now id change self.now) }

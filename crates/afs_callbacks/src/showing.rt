@@ -1,15 +1,11 @@
 //! What comes of it that a reading call is told what it asked, and what is promised with that.
 
 ghost use Rattle.std.specs.Prelude.{◌≡◌, map, IfOk, OnErr, OnOk};
-ghost use Rattle.afs_num.specs.declared.messages.Reply.TheVariants as tell;
-ghost use Rattle.afs_shape.specs.Rows.{IsWithin};
-ghost use Rattle.afs_model.specs.CellRows.{cell_replies, reply_number};
-ghost use Rattle.afs_model.specs.Heads.{IsSoundHead};
 ghost use Rattle.afs_breaks.specs.Promises.{grants_all};
 ghost use Rattle.afs_rows.specs.ServerRow.{granted, replied};
 ghost use Rattle.afs_server_parts.specs.Telling.{grant_line};
 ghost use Rattle.afs_server_parts.specs.declared.telling.Grant as told;
-ghost use Rattle.afs_callbacks.specs.Answering.{reply_told, IsRepliedNow};
+ghost use Rattle.afs_callbacks.specs.Answering.{reply_told, IsRepliedNow, CanTell};
 ghost use Rattle.afs_callbacks.specs.States.{IsToNodes};
 
 use crate::answering::{Replied, reply_told};
@@ -71,9 +67,7 @@ impl Callbacks {
         now: u32,
     ) -> Mem<Replied>
         requires nodes { IsToNodes stand.node self.now }
-        requires head { IsSoundHead head.now }
-        requires opcode { head.now.opcode ≡ reply_number (tell.File told) }
-        requires within { IsWithin cell_replies (tell.File told) }
+        requires told { CanTell head.now told }
         ensures { IfOk result (λ r. IsRepliedNow stand self.now now (reply_told stand.boot head.now expiry told) (map (grant_line stand.node head.now.from expiry) grants.now) r.ended r.kept) }
     {
         let reply = reply_told(self.alloc, stand.boot, head, told, expiry)?;

@@ -1,14 +1,16 @@
 -- What a step plans with a server's promises, calls and replies, and the turn of its row that this is.
 use Rattle.std.specs.List.{All}
-use Rattle.std.specs.Prelude.{◌≡◌, ◌≤◌, ℕ, List, [], ◌∷◌, Bool, true, false, ◌&&◌, Option, Some, None, if◌then◌else◌}
+use Rattle.std.specs.Prelude.{◌≡◌, ◌≤◌, ℕ, List, [], ◌∷◌, Bool, true, false, ◌&&◌, Option, Some, None, Result, OnOk, if◌then◌else◌}
 use Rattle.afs_num.specs.Nodes.{IsNode}
+use Rattle.afs_num.specs.declared.messages.Message.{Message}
 use Rattle.afs_breaks.specs.Promises.{Lists, without_break}
 use Rattle.afs_breaks.specs.declared.types.OwedBreak.{OwedBreak}
 use Rattle.afs_rows.specs.Callbacks as row
-use Rattle.afs_rows.specs.Callbacks.{Started}
+use Rattle.afs_rows.specs.Callbacks.{no_turn, Started}
 use Rattle.afs_rows.specs.States.{Backs, Held}
 use Rattle.afs_server_parts.specs.Called.{call_to, known_to, AreGoodCalls}
 use Rattle.afs_server_parts.specs.declared.turns.Calls.{Calls}
+use Rattle.afs_server_parts.specs.declared.turns.Stand.{Stand}
 use Rattle.afs_server_parts.specs.declared.turns.Turn.{Turn}
 
 -- without the breaks of these numbers
@@ -48,6 +50,21 @@ pub record IsReady (t : Turn) : Type 0 where
   pub owed : All IsBreakToNode t.owed.items
   pub calls : AreGoodCalls t.calls.callees.items
   pub drawn : t.stand.last ≤ t.calls.last
+
+-- What a turn has become in which nothing had happened: this turn of who makes it, with any promises that owe what it owed; and what
+-- was ready is so. Where memory ran out it is only the same node's.
+pub record Goes {T E : Type 0} (f : Stand → Backs → row.Turn) (old new : Turn) (result : Result T E) : Type 0 where
+  pub turn : OnOk result ((l : Lists) → l.owed ≡ old.owed.items → IsTurn (f old.stand (backs_with l old.held old.calls)) new)
+  pub stand : new.stand ≡ old.stand
+  pub ready : OnOk result (IsReady old → IsReady new)
+
+-- a message goes out
+abbrev pub sent_turn : Message → Backs → row.Turn
+sent_turn m b = record (no_turn b) { sent = m ∷ [] }
+
+-- a reply goes out, now or once these breaks have ended
+abbrev pub answer_turn : Message → List ℕ → Bool → Backs → row.Turn
+answer_turn reply waits again b = record (no_turn b) { outs = record { reply = reply; waits = waits; again = again } ∷ [] }
 
 -- for which breaks a kept reply waits that is asked again, if it is given at all
 abbrev pub waits_again : List OwedBreak → Option Held → Bool → Option (List ℕ)

@@ -1,12 +1,11 @@
 //! What a step answers to the message that it was given.
 
-ghost use Rattle.std.specs.Prelude.{◌≡◌, ◌∷◌, [], IfNone, IfOk, OnOk};
+ghost use Rattle.std.specs.Prelude.{◌≡◌, IfNone, IfOk};
 ghost use Rattle.std.specs.List.{All};
 ghost use Rattle.std.specs.Option.{option_copied};
 ghost use Rattle.afs_num.specs.declared.types.Node.{Node};
-ghost use Rattle.afs_breaks.specs.Promises.{Lists};
-ghost use Rattle.afs_rows.specs.Callbacks.{alls, held_under, is_reply_to, key_answered, no_turn, repeats_by};
-ghost use Rattle.afs_server_parts.specs.Turning.{backs_with, waits_again, IsFresh, IsReady, IsTurn};
+ghost use Rattle.afs_rows.specs.Callbacks.{alls, held_under, is_reply_to, key_answered, repeats_by};
+ghost use Rattle.afs_server_parts.specs.Turning.{waits_again, IsFresh, Goes, answer_turn, sent_turn};
 
 use crate::held::{HeldReply, copy_numbers};
 use crate::owed::alls;
@@ -51,9 +50,7 @@ impl Turn {
     /// A message goes out.
     pub fn send(&mut self, message: SpelledMessage) -> Mem<()>
         requires fresh { IsFresh self.old }
-        ensures turn { OnOk result ((l : Lists) → l.owed ≡ self.old.owed.items → IsTurn (record (no_turn (backs_with l self.old.held self.old.calls)) { sent = message ∷ [] }) self.new) }
-        ensures stand { self.new.stand ≡ self.old.stand }
-        ensures ready { OnOk result (IsReady self.old → IsReady self.new) }
+        ensures { Goes (λ s. sent_turn message) self.old self.new result }
     {
         self.calls.sent.push(message)?;
         Ok(())
@@ -62,9 +59,7 @@ impl Turn {
     /// A reply goes out, now or once the breaks of these numbers have ended.
     pub fn answer(&mut self, reply: SpelledMessage, waits: Sequence<u32>, again: bool) -> Mem<()>
         requires fresh { IsFresh self.old }
-        ensures turn { OnOk result ((l : Lists) → l.owed ≡ self.old.owed.items → IsTurn (record (no_turn (backs_with l self.old.held self.old.calls)) { outs = record { reply = reply; waits = waits; again = again } ∷ [] }) self.new) }
-        ensures stand { self.new.stand ≡ self.old.stand }
-        ensures ready { OnOk result (IsReady self.old → IsReady self.new) }
+        ensures { Goes (λ s. answer_turn reply waits again) self.old self.new result }
     {
         self.outs.push(HeldReply {
             reply,
@@ -105,9 +100,7 @@ impl Turn {
     /// A kept reply is asked again; `good` where its call changed something.
     pub fn repeat(&mut self, alloc: Global, reply: SpelledMessage, good: bool) -> Mem<()>
         requires fresh { IsFresh self.old }
-        ensures turn { OnOk result ((l : Lists) → l.owed ≡ self.old.owed.items → IsTurn (repeats_by (backs_with l self.old.held self.old.calls) reply (held_under (key_answered reply) self.old.held) good) self.new) }
-        ensures stand { self.new.stand ≡ self.old.stand }
-        ensures ready { OnOk result (IsReady self.old → IsReady self.new) }
+        ensures { Goes (λ s b. repeats_by b reply (held_under (key_answered reply) b.held) good) self.old self.new result }
     {
         match self.waits_again(alloc, &reply, good)? {
             Some(waits) => self.answer(reply, waits, true)?,

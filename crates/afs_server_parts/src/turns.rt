@@ -1,12 +1,11 @@
 //! What a step of a node plans with its calls, before anything is changed.
 
-ghost use Rattle.std.specs.Prelude.{◌≡◌, ◌+◌, Some, IfOk, OnOk};
+ghost use Rattle.std.specs.Prelude.{◌≡◌, ◌+◌, Some, IfOk};
 ghost use Rattle.afs_num.specs.Nodes.{IsNode};
 ghost use Rattle.afs_num.specs.declared.types.Node.{Node};
-ghost use Rattle.afs_breaks.specs.Promises.{Lists};
 ghost use Rattle.afs_rows.specs.Callbacks.{quits, renews, retries, settles, timed};
 ghost use Rattle.afs_server_parts.specs.Called.{IsGoodCall};
-ghost use Rattle.afs_server_parts.specs.Turning.{backs_with, IsFresh, IsReady, IsTurn};
+ghost use Rattle.afs_server_parts.specs.Turning.{IsFresh, Goes};
 
 use crate::callees::{copy_callees, end_call, known, set_call, set_known};
 use crate::calling::{BreakCall, BreakCallee, send_call};
@@ -82,9 +81,7 @@ impl Turn {
     /// The node has answered its call.
     pub fn settle(&mut self, alloc: Global, node: Node, call: &BreakCall) -> Mem<()>
         requires { IsFresh self.old }
-        ensures turn { OnOk result ((l : Lists) → l.owed ≡ self.old.owed.items → IsTurn (settles self.old.stand.node node call.now (backs_with l self.old.held self.old.calls)) self.new) }
-        ensures stand { self.new.stand ≡ self.old.stand }
-        ensures ready { OnOk result (IsReady self.old → IsReady self.new) }
+        ensures { Goes (λ s. settles s.node node call.now) self.old self.new result }
     {
         let ended = still_owed(alloc, call.content.as_slice(), &self.owed)?;
         tell_settled(&mut self.lines, self.stand.node, node, ended.as_slice())?;
@@ -98,9 +95,7 @@ impl Turn {
         requires fresh { IsFresh self.old }
         requires stands { IsNode self.old.stand.node }
         requires good { IsGoodCall node call.now }
-        ensures turn { OnOk result ((l : Lists) → l.owed ≡ self.old.owed.items → IsTurn (renews self.old.stand.node self.old.stand.boot node known call.now (backs_with l self.old.held self.old.calls)) self.new) }
-        ensures stand { self.new.stand ≡ self.old.stand }
-        ensures ready { OnOk result (IsReady self.old → IsReady self.new) }
+        ensures { Goes (λ s. renews s.node s.boot node known call.now) self.old self.new result }
     {
         set_known(alloc, &mut self.calls.callees, node, known)?;
         send_call(alloc, self.stand, node, known, call, &mut self.calls.sent)?;
@@ -113,9 +108,7 @@ impl Turn {
         requires stands { IsNode self.old.stand.node }
         requires good { IsGoodCall node call.now }
         requires tries { tries ≡ call.now.tries + 1 }
-        ensures turn { OnOk result ((l : Lists) → l.owed ≡ self.old.owed.items → IsTurn (retries self.old.stand.node self.old.stand.boot node call.now (backs_with l self.old.held self.old.calls)) self.new) }
-        ensures stand { self.new.stand ≡ self.old.stand }
-        ensures ready { OnOk result (IsReady self.old → IsReady self.new) }
+        ensures { Goes (λ s. retries s.node s.boot node call.now) self.old self.new result }
     {
         let stand = self.stand;
         let known = known(&self.calls.callees, node);
@@ -136,9 +129,7 @@ impl Turn {
     /// The call has waited too long for the last time: its breaks are given up.
     fn quit(&mut self, alloc: Global, node: Node, call: &BreakCall) -> Mem<()>
         requires { IsFresh self.old }
-        ensures turn { OnOk result ((l : Lists) → l.owed ≡ self.old.owed.items → IsTurn (quits self.old.stand.node self.old.stand.boot node call.now (backs_with l self.old.held self.old.calls)) self.new) }
-        ensures stand { self.new.stand ≡ self.old.stand }
-        ensures ready { OnOk result (IsReady self.old → IsReady self.new) }
+        ensures { Goes (λ s. quits s.node s.boot node call.now) self.old self.new result }
     {
         let stand = self.stand;
         tell_timeout(
@@ -161,9 +152,7 @@ impl Turn {
         requires fresh { IsFresh self.old }
         requires stands { IsNode self.old.stand.node }
         requires good { IsGoodCall node call.now }
-        ensures turn { OnOk result ((l : Lists) → l.owed ≡ self.old.owed.items → IsTurn (timed self.old.stand.node self.old.stand.boot node call.now (backs_with l self.old.held self.old.calls)) self.new) }
-        ensures stand { self.new.stand ≡ self.old.stand }
-        ensures ready { OnOk result (IsReady self.old → IsReady self.new) }
+        ensures { Goes (λ s. timed s.node s.boot node call.now) self.old self.new result }
     {
         match timed_out(call.tries) {
             Timeout::Again(tries) => self.retry(alloc, node, call, tries)?,

@@ -1,9 +1,9 @@
-use Rattle.std.proofs.Common.{ℕ, List, [], ◌∷◌, false, subst}
-use Rattle.afs_rows.specs.Callbacks.{no_turn}
-use Rattle.afs_server_parts.specs.Turning.{backs_with, IsTurn}
+use Rattle.std.proofs.Common.{ℕ, List, false, subst}
+use Rattle.std.specs.Prelude.{Ok}
+use Rattle.std.specs.declared.alloc.AllocError.{AllocError}
+use Rattle.afs_server_parts.specs.Turning.{answer_turn, Goes}
+use Rattle.afs_server_parts.specs.declared.turns.Stand.{Stand}
 use Rattle.afs_callbacks.proofs.answering.answer_now.Goals as goal
 
-pub returns-clause-turn : goal.returns-clause-turn
-returns-clause-turn c l owes =
-    subst (λ (ws : List ℕ). IsTurn (record (no_turn (backs_with l c.args.turn.now.held c.args.turn.now.calls)) { outs = record { reply = c.args.reply; waits = ws; again = false } ∷ [] }) c.answer.new.self) c.new.ensures
-    (c.in_ok-answer.ensures.turn l owes)
+pub returns : goal.returns
+returns c = subst (λ (ws : List ℕ). Goes {E = AllocError} (λ (s : Stand). answer_turn c.args.reply ws false) c.args.turn.now c.answer.new.self (Ok tt)) c.new.ensures c.in_ok-answer.ensures

@@ -13,7 +13,7 @@ from_message-requires c =
     let told : c.reply-message.result ≡ replied c.args.boot c.args.head.now (carried.Reply (tell.File reply)) =
     c.reply-message.ensures ∙ ap (λ (x : FsReply). replied c.args.boot c.args.head.now (carried.Reply (tell.File x))) c.in_ok-told.ensures in
     subst HasSpelling (sym told)
-    (replied_spelled c.args.boot c.args.head.now reply c.requires.head (c.requires.opcode ∙ sym (promised_number c.args.expiry c.args.told)) (promised_within c.args.expiry c.args.told c.requires.within))
+    (replied_spelled c.args.boot c.args.head.now reply c.requires.sound (c.requires.number ∙ sym (promised_number c.args.expiry c.args.told)) (promised_within c.args.expiry c.args.told c.requires.within))
 
 pub returns : goal.returns
 returns c = c.in_ok-spelled.ensures ∙ (c.reply-message.ensures ∙ ap (λ (x : FsReply). replied c.args.boot c.args.head.now (carried.Reply (tell.File x))) c.in_ok-told.ensures)

@@ -2,8 +2,7 @@ use Rattle.std.proofs.Common.{◌≡◌, ◌++◌, ℕ, List, false, rules, sym,
 use Rattle.std.specs.List.{All}
 use Rattle.std.proofs.lemmas.List.Elements.{All-append}
 use Rattle.afs_rows.specs.Callbacks.{alls, numbers}
-use Rattle.afs_server_parts.specs.Turning.{backs_with, IsBreakToNode, IsTurn}
-use Rattle.afs_callbacks.specs.Answering.{answer_turn}
+use Rattle.afs_server_parts.specs.Turning.{backs_with, IsBreakToNode, IsTurn, answer_turn}
 use Rattle.afs_callbacks.proofs.saving.hold.Goals as goal
 
 pub returns-clause-turn : goal.returns-clause-turn

@@ -1,11 +1,12 @@
 use Rattle.std.proofs.Common.{◌++◌, false, ◌∙◌}
 use Rattle.afs_breaks.specs.Promises.{lasting_breaks}
 use Rattle.afs_rows.specs.Callbacks.{alls, numbers}
-use Rattle.afs_callbacks.specs.Answering.{answer_turn, with_lists}
+use Rattle.afs_callbacks.specs.Answering.{with_lists}
 use Rattle.afs_callbacks.specs.States.{backs_by}
 use Rattle.afs_callbacks.proofs.Holding.{held_with}
 use Rattle.afs_callbacks.proofs.Planned.{planned_as}
 use Rattle.afs_callbacks.proofs.callbacks.Callbacks.plan_held.Goals as goal
+use Rattle.afs_server_parts.specs.Turning.{answer_turn}
 
 pub returns : goal.returns
 returns c l owes =

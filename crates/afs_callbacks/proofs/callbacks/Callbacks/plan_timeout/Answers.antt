@@ -6,5 +6,4 @@ use Rattle.afs_callbacks.proofs.callbacks.Callbacks.plan_timeout.Goals as goal
 
 pub returns : goal.returns
 returns c =
-    planned (λ (s : Stand). timed s.node s.boot c.args.callee c.args.call.now) (backs_by c.args.self.now c.args.stand c.args.now) c.args.stand _ _ _ c.in_ok-turn.ensures.turn c.in_ok-turn.ensures.stand c.in_ok-time_out.ensures.stand
-    c.in_ok-time_out.ensures.turn c.in_ok-ended.ensures
+    planned (λ (s : Stand). timed s.node s.boot c.args.callee c.args.call.now) (backs_by c.args.self.now c.args.stand c.args.now) c.args.stand _ _ _ _ c.in_ok-turn.ensures.turn c.in_ok-turn.ensures.stand c.in_ok-time_out.ensures c.in_ok-ended.ensures
