@@ -36,7 +36,7 @@ use Rattle.afs_reads.specs.declared.faults.OpFault.{OpFault}
 use Rattle.afs_reads.specs.declared.faults.OpFault.TheVariants as faults
 use Rattle.afs_volume.specs.declared.volume.Volume.{Volume}
 use Rattle.afs_volume.proofs.Soundly.{volume_sound}
-use Rattle.afs_decisions.specs.Deciding.{granted_in, CanBeTold, ChangesAs, Decides, FitsDecided, IsReading, ReadsAs}
+use Rattle.afs_decisions.specs.Deciding.{granted_in, CanBeTold, ChangesAs, Decides, FitsDecided, IsReading, ReadsAs, decided_in, IsDecisionIn}
 use Rattle.afs_decisions.specs.declared.decided.Decided.{Decided}
 use Rattle.afs_decisions.proofs.Codes.{op_code}
 use Rattle.afs_decisions.proofs.Counting.{change_counted}
@@ -273,6 +273,8 @@ found_decides s clock head caller call id w d there same is = subst (λ (o : Opt
 
 -- ---- what is decided in any state is decided in those of a kind
 
-pub in_those : {E : Type 0} (x : outcome.Result Decided E) (F : ServerState → Decided → Type 0) (K : ServerState → Type 0) → IfOk x (λ (d : Decided). (s : ServerState) → F s d) → IfOk x (λ (d : Decided). (s : ServerState) → K s → F s d)
-in_those {E} (Ok d) F K h = λ s k. h s
-in_those {E} (Err e) F K h = tt
+module _ (clock : ℕ) (head : Head) (caller : Caller) (call : FsCall) (w : Volume) where
+  pub in_any : {E : Type 0} (x : outcome.Result Decided E) → IfOk x (λ (d : Decided). (s : ServerState) → Decides s clock head (decided_in s clock head caller call w) d) → IfOk x (λ (d : Decided). CanBeTold head.opcode d) → IfOk x FitsDecided
+      → IfOk x (IsDecisionIn clock head caller call w)
+  in_any {E} (Ok d) decides told fits = record { decides = λ s there. decides s; told = told; fits = fits }
+  in_any {E} (Err e) decides told fits = tt

@@ -6,6 +6,7 @@ use Rattle.afs_num.specs.declared.calls.FsCall.{FsCall}
 use Rattle.afs_num.specs.declared.calls.FsCall.TheVariants as calls
 use Rattle.afs_num.specs.declared.calls.FsReply.{FsReply}
 use Rattle.afs_num.specs.declared.calls.FsReply.TheVariants as replies
+use Rattle.afs_num.specs.declared.messages.Call.TheVariants as ask
 use Rattle.afs_num.specs.declared.messages.Message.{Message}
 use Rattle.afs_num.specs.declared.messages.Received.{Received}
 use Rattle.afs_num.specs.declared.messages.Received.TheVariants.{Whole}
@@ -17,11 +18,11 @@ use Rattle.afs_num.specs.declared.vnodes.Vnode as image
 use Rattle.afs_num.specs.declared.volumes.Change as made
 use Rattle.afs_shape.specs.Rows.{IsWithin}
 use Rattle.afs_xdr.specs.Words.{AreWords}
-use Rattle.afs_model.specs.CellRows.{cell_replies, reply_number}
-use Rattle.afs_model.specs.Calls.{runs, Admitted}
+use Rattle.afs_model.specs.CellRows.{cell_replies, reply_number, call_number}
+use Rattle.afs_model.specs.Calls.{runs, Admitted, call_seat, paired}
 use Rattle.afs_model.specs.Heads.{is_zero}
 use Rattle.afs_model.specs.Messages.{IsSoundCarried}
-use Rattle.afs_ideal.specs.Operations.{last_count}
+use Rattle.afs_ideal.specs.Operations.{last_count, op, Caller}
 use Rattle.afs_ideal.specs.Replies.{change_reply}
 use Rattle.afs_ideal.specs.Tables.{get}
 use Rattle.afs_ideal.specs.VnodeImage.{image_words}
@@ -35,8 +36,12 @@ use Rattle.afs_server_parts.specs.declared.telling.Grant.{Grant}
 use Rattle.afs_callbacks.specs.Saving.{grant_of, CanBeWritten}
 use Rattle.afs_reads.specs.declared.faults.OpFault.{OpFault}
 use Rattle.afs_reads.specs.declared.faults.OpFault.TheVariants as faults
+use Rattle.afs_reads.specs.Replying.{FitsCall}
 use Rattle.afs_decisions.specs.declared.decided.Decided.{Decided}
 use Rattle.afs_decisions.specs.declared.decided.Decided.TheVariants as decided
+use Rattle.afs_volume.specs.Giving.{volume_of}
+use Rattle.afs_volume.specs.Taking.{stored_of}
+use Rattle.afs_volume.specs.declared.volume.Volume.{Volume}
 
 -- ---- what a reading reply grants
 
@@ -137,7 +142,30 @@ abbrev pub IsByClient : Head → Decided → Type 0
 IsByClient head (decided.Changes id x) = is_client head.from ≡ true
 IsByClient head d = Unit {0}
 
+-- ---- what is decided, and within its limits
+
+-- on a call of this user on a volume that the server keeps so
+abbrev pub decided_in : ServerState → ℕ → Head → Caller → FsCall → Volume → Decision
+decided_in s clock head caller call w = row.decided s clock head caller call w.head.id (stored_of w) (op w.head.id caller call (volume_of w))
+
+-- in any state in which the server keeps the volume so
+pub record IsDecisionIn (clock : ℕ) (head : Head) (caller : Caller) (call : FsCall) (w : Volume) (x : Decided) : Type 0 where
+  pub decides : (s : ServerState) → get w.head.id s.lasting.volumes ≡ Some (stored_of w) → Decides s clock head (decided_in s clock head caller call w) x
+  pub told : CanBeTold head.opcode x
+  pub fits : FitsDecided x
+
+-- in this state
+pub record IsDecision (s : ServerState) (clock : ℕ) (head : Head) (d : Decision) (x : Decided) : Type 0 where
+  pub decides : Decides s clock head d x
+  pub told : CanBeTold head.opcode x
+  pub fits : FitsDecided x
+
 -- ---- what was received
+
+-- the header is that of a message of this call, which keeps its limits
+pub record IsCallUnder (head : Head) (call : FsCall) : Type 0 where
+  pub opcode : head.opcode ≡ call_number (ask.File call)
+  pub fits : FitsCall call
 
 -- the header is that of what was received, and so of a call that has a spelling, where it was read whole
 abbrev pub IsUnder : Head → Received → Type 0
@@ -159,3 +187,9 @@ leaves_disk d = true
 abbrev pub LeavesDisk : Decided → Type 0
 LeavesDisk (decided.Changes id x) = ⊥
 LeavesDisk d = Unit {0}
+
+-- What is decided can be done: a change is one by a client, and where the call runs its pair is to run.
+pub record CanBeDone (s : ServerState) (clock : ℕ) (head : Head) (d : Decision) (x : Decided) : Type 0 where
+  pub decision : IsDecision s clock head d x
+  pub client : IsByClient head x
+  pub runs : Runs x (paired head.epoch head.number (call_seat head.from s.seats))

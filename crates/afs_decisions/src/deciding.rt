@@ -1,16 +1,11 @@
 //! What is decided on a call by its volume, and by what is read of it.
 
 ghost use Rattle.std.specs.Prelude.{◌≡◌, ◌∷◌, [], true, false, IfOk, Some, None};
-ghost use Rattle.afs_num.specs.declared.messages.Call.TheVariants as ask;
-ghost use Rattle.afs_ideal.specs.Tables.{get};
-ghost use Rattle.afs_model.specs.CellRows.{call_number};
-ghost use Rattle.afs_ideal.specs.Operations.{op, the_user, volume_called};
+ghost use Rattle.afs_ideal.specs.Operations.{the_user, volume_called};
 ghost use Rattle.afs_changes.specs.Planning.{is_changing};
-ghost use Rattle.afs_reads.specs.Replying.{is_reading, FitsCall};
-ghost use Rattle.afs_volume.specs.Giving.{volume_of};
-ghost use Rattle.afs_volume.specs.Taking.{stored_of};
-ghost use Rattle.afs_rows.specs.ServerRow.{code_of_unreadable, decided, is_client, serves};
-ghost use Rattle.afs_decisions.specs.Deciding.{granted_data, granted_in, granted_status, is_on_volume, CanBeTold, ChangesAs, Decides, FitsDecided, ReadsAs};
+ghost use Rattle.afs_reads.specs.Replying.{is_reading};
+ghost use Rattle.afs_rows.specs.ServerRow.{code_of_unreadable, is_client, serves};
+ghost use Rattle.afs_decisions.specs.Deciding.{granted_data, granted_in, granted_status, is_on_volume, CanBeTold, ChangesAs, Decides, FitsDecided, ReadsAs, decided_in, IsDecisionIn, IsCallUnder};
 ghost use Rattle.afs_rows.specs.States.{ServerState};
 
 use crate::decided::Decided;
@@ -198,9 +193,8 @@ fn read_in(
 ) -> Mem<Decided>
     requires reading { is_reading call.now ≡ true }
     requires on { volume_called call.now ≡ Some volume.now.head.id }
-    requires fits { FitsCall call.now }
-    requires opcode { head.now.opcode ≡ call_number (ask.File call.now) }
-    ensures decides { IfOk result (λ d. (s : ServerState) → Decides s now head.now (decided s now head.now (the_user user.now) call.now volume.now.head.id (stored_of volume.now) (op volume.now.head.id (the_user user.now) call.now (volume_of volume.now))) d) }
+    requires call { IsCallUnder head.now call.now }
+    ensures decides { IfOk result (λ d. (s : ServerState) → Decides s now head.now (decided_in s now head.now (the_user user.now) call.now volume.now) d) }
     ensures told { IfOk result (λ d. CanBeTold head.now.opcode d) }
     ensures fits { IfOk result FitsDecided }
 {
@@ -215,11 +209,8 @@ fn read_in(
 fn change_in(head: &Head, volume: &Volume, user: &[u8], call: &FsCall, now: u32) -> Mem<Decided>
     requires changing { is_changing call.now ≡ true }
     requires on { volume_called call.now ≡ Some volume.now.head.id }
-    requires fits { FitsCall call.now }
-    requires opcode { head.now.opcode ≡ call_number (ask.File call.now) }
-    ensures decides { IfOk result (λ d. (s : ServerState) → get volume.now.head.id s.lasting.volumes ≡ Some (stored_of volume.now) → Decides s now head.now (decided s now head.now (the_user user.now) call.now volume.now.head.id (stored_of volume.now) (op volume.now.head.id (the_user user.now) call.now (volume_of volume.now))) d) }
-    ensures told { IfOk result (λ d. CanBeTold head.now.opcode d) }
-    ensures fits { IfOk result FitsDecided }
+    requires call { IsCallUnder head.now call.now }
+    ensures { IfOk result (IsDecisionIn now head.now (the_user user.now) call.now volume.now) }
 {
     let _ = head.opcode;
     let applied = apply_ready(volume, call, user, now);
@@ -237,11 +228,8 @@ pub fn in_found(
     now: u32,
 ) -> Mem<Decided>
     requires on { volume_called call.now ≡ Some volume.now.head.id }
-    requires fits { FitsCall call.now }
-    requires opcode { head.now.opcode ≡ call_number (ask.File call.now) }
-    ensures decides { IfOk result (λ d. (s : ServerState) → get volume.now.head.id s.lasting.volumes ≡ Some (stored_of volume.now) → Decides s now head.now (decided s now head.now (the_user user.now) call.now volume.now.head.id (stored_of volume.now) (op volume.now.head.id (the_user user.now) call.now (volume_of volume.now))) d) }
-    ensures told { IfOk result (λ d. CanBeTold head.now.opcode d) }
-    ensures fits { IfOk result FitsDecided }
+    requires call { IsCallUnder head.now call.now }
+    ensures { IfOk result (IsDecisionIn now head.now (the_user user.now) call.now volume.now) }
 {
     if is_reading(call) {
         read_in(alloc, head, volume, user, call, now)

@@ -27,10 +27,10 @@ use Rattle.afs_server_parts.specs.Called.{AreGoodCalls}
 use Rattle.afs_message.specs.Spelled.{Spells}
 use Rattle.afs_server_parts.specs.Telling.{grant_line}
 use Rattle.afs_server_parts.specs.Ending.{Ends, IsPlan}
-use Rattle.afs_server_parts.specs.Turning.{IsBreakToNode}
+use Rattle.afs_server_parts.specs.Turning.{IsBreakToNode, answer_turn}
 use Rattle.afs_server_parts.specs.declared.telling.Grant.{Grant}
 use Rattle.afs_volstore.specs.Stores.{Store}
-use Rattle.afs_callbacks.specs.Answering.{answer_turn, reply_told, with_lists}
+use Rattle.afs_callbacks.specs.Answering.{reply_told, with_lists}
 use Rattle.afs_decisions.specs.Deciding.{IsMade}
 use Rattle.afs_server.specs.Handling.{server_seen, stand_of, Makes}
 use Rattle.afs_server.specs.Putting.{IsMadeOf, TellsAgain}

@@ -16,11 +16,11 @@ use Rattle.afs_rows.specs.States.{durable_of}
 use Rattle.afs_callbacks.specs.States.{CallbackState}
 use Rattle.afs_message.specs.Spelled.{Spells}
 use Rattle.afs_volstore.specs.Stores.{Store}
-use Rattle.afs_callbacks.specs.Answering.{answer_turn}
 use Rattle.afs_decisions.specs.Deciding.{IsMade}
 use Rattle.afs_server.specs.Handling.{stand_of, record_decided, server_seen, Answers, IsClosed, SameStore}
 use Rattle.afs_server.specs.Putting.{DoesAll, IsMadeOf, Prepares}
 use Rattle.afs_server_parts.specs.declared.turns.Stand.{Stand}
+use Rattle.afs_server_parts.specs.Turning.{answer_turn}
 use Rattle.afs_callbacks.specs.Saving.{change_kept, IsPlanned}
 use Rattle.afs_server.specs.Saving.{IsPut, Puts}
 use Rattle.afs_server.specs.Seen.{callbacks_of, lasting_of, Memory, Serves}

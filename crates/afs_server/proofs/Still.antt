@@ -3,10 +3,12 @@ use Rattle.std.proofs.Common.{◌≡◌, ◌≤◌, ◌<◌, ◌+◌, inl, inr, 
 use Rattle.std.specs.Prelude.{◌↔◌, Result, Ok, Err, IsErrOf, IsSome, OnOk}
 use Rattle.std.specs.Result.{IsErrAnd}
 use Rattle.std.proofs.lemmas.Result.{err_from_is_err_and}
-use Rattle.afs_disk.specs.Disk.{LeavesOnly, PassesAll, SameDisk, Setting}
-use Rattle.afs_journal.specs.Log.{SameCounts}
+use Rattle.afs_disk.specs.Disk.{PassesAll, Setting}
+use Rattle.afs_disk.specs.Words.{LeavesOnlyBy, SameDiskBy}
+use Rattle.afs_disk.specs.declared.disk.Disk.{Ghosts}
 use Rattle.afs_journal.specs.Records.{whole_records}
 use Rattle.afs_journal.proofs.Broken.{left_from, reached_from}
+use Rattle.afs_journal.specs.Words.{SameCountsBy}
 use Rattle.afs_history.specs.declared.lines.Outs.{Outs}
 use Rattle.afs_num.specs.declared.records.StoreRecord.{StoreRecord}
 use Rattle.afs_records.specs.Durable.{Durable}
@@ -31,16 +33,15 @@ as_told o p e = (λ h. subst (λ (q : Option (List ℕ)). IsSome q) e h, λ h. s
 none_called : (setting : Setting) (n : ℕ) → PassesAll setting n n
 none_called setting n = λ call above within trips. absurd (omega (arith, above, within))
 
-module _ {D : Type 0} (seen : D → Option (List ℕ)) (left_by : D → ℕ → Option (List ℕ)) (size : D → ℕ) (may_leave : D → List ℕ → Type 0) (moment : D → ℕ) (left_since : D → ℕ → List ℕ → Type 0) (faults own_faults calls : D → ℕ) (setting : D → Setting)
-    (limit : D → ℕ) where
+module _ {D : Type 0} (w : Ghosts D) where
   abbrev pub OfDisk : {T : Type 0} → Option StoreRecord → Durable → D → D → Result T NodeFault → Type 0
-  OfDisk {T} decided d old new result = OnDisk seen left_by size may_leave moment left_since faults own_faults calls setting limit decided d old new result
+  OfDisk {T} decided d old new result = OnDisk w decided d old new result
 
   abbrev pub Same : D → D → Type 0
-  Same old new = SameDisk seen left_by size may_leave moment left_since old new
+  Same old new = SameDiskBy w old new
 
   abbrev pub Counts : D → D → Type 0
-  Counts old new = SameCounts faults own_faults calls setting limit old new
+  Counts old new = SameCountsBy w old new
 
   pub same_disk : (old : D) → Same old old
   same_disk old = record {
@@ -68,17 +69,17 @@ module _ {D : Type 0} (seen : D → Option (List ℕ)) (left_by : D → ℕ → 
   not_down {T} decided (Err nodes.OutOfMemory) still down = absurd cc
   not_down {T} decided (Err nodes.Down) still down = still
 
-  none_more : {T : Type 0} (decided : Option StoreRecord) (d : Durable) (old new : D) (result : Result T NodeFault) → IsStill decided result → calls new ≡ calls old → OnOk result (calls new ≡ calls old + calls_for d decided)
+  none_more : {T : Type 0} (decided : Option StoreRecord) (d : Durable) (old new : D) (result : Result T NodeFault) → IsStill decided result → w.calls new ≡ w.calls old → OnOk result (w.calls new ≡ w.calls old + calls_for d decided)
   none_more {T} None d old new (Ok x) still same = omega (arith, same)
   none_more {T} (Some r) d old new (Ok x) still same = absurd cc
   none_more {T} decided d old new (Err fault) still same = tt
 
-  ran_none : {T : Type 0} (decided : Option StoreRecord) (old new : D) (result : Result T NodeFault) → IsStill decided result → Counts old new → Ran (setting old) (calls old) (calls new) (faults old) (faults new) (own_faults old) (own_faults new) result
+  ran_none : {T : Type 0} (decided : Option StoreRecord) (old new : D) (result : Result T NodeFault) → IsStill decided result → Counts old new → Ran (w.setting old) (w.calls old) (w.calls new) (w.faults old) (w.faults new) (w.own_faults old) (w.own_faults new) result
   ran_none {T} decided old new (Ok x) still counts = record {
     never_falls = let e = counts.same_faults in omega (arith, e);
     own_never_falls = let e = counts.same_own_faults in omega (arith, e);
     down = λ is. absurd cc;
-    passed = subst (PassesAll (setting old) (calls old)) (sym counts.same_calls) (none_called (setting old) (calls old));
+    passed = subst (PassesAll (w.setting old) (w.calls old)) (sym counts.same_calls) (none_called (w.setting old) (w.calls old));
   }
   ran_none {T} decided old new (Err nodes.OutOfMemory) still counts = record {
     never_falls = let e = counts.same_faults in omega (arith, e);
@@ -91,7 +92,7 @@ module _ {D : Type 0} (seen : D → Option (List ℕ)) (left_by : D → ℕ → 
   -- nothing but the room changed
   pub is_still : {T : Type 0} (decided : Option StoreRecord) (d : Durable) (old new : D) (result : Result T NodeFault) → IsStill decided result → Same old new → Counts old new → OfDisk decided d old new result
   is_still {T} decided d old new result still same counts = record {
-    told = as_told (seen old) (seen new) same.same_seen;
+    told = as_told (w.seen old) (w.seen new) same.same_seen;
     quiet = λ is. (same, counts);
     any_moment = λ r is. absurd (not_written decided r result still is);
     reached = λ down. absurd (not_down decided result still down);
@@ -131,29 +132,29 @@ module _ {D : Type 0} (seen : D → Option (List ℕ)) (left_by : D → ℕ → 
     same_limit = b.same_limit ∙ a.same_limit;
   }
 
-  moved : (old mid new : D) (P : List ℕ → Type 0) → Same old mid → LeavesOnly moment left_since mid new P → LeavesOnly moment left_since old new P
+  moved : (old mid new : D) (P : List ℕ → Type 0) → Same old mid → LeavesOnlyBy w mid new P → LeavesOnlyBy w old new P
   moved old mid new P same only = record {
-    later = subst (λ (m : ℕ). m ≤ moment new) same.same_moment only.later;
-    each = subst (λ (m : ℕ). (c : List ℕ) → left_since new m c → P c) same.same_moment only.each;
+    later = subst (λ (m : ℕ). m ≤ w.moment new) same.same_moment only.later;
+    each = subst (λ (m : ℕ). (c : List ℕ) → w.left_since new m c → P c) same.same_moment only.each;
     before = λ t c le left. ⊎_elim (λ was. inl (same.since t c was)) (λ held. inr held) (only.before t c (subst (λ (m : ℕ). t ≤ m) (sym same.same_moment) le) left);
   }
 
   pub behind : {T : Type 0} (decided : Option StoreRecord) (d : Durable) (old mid new : D) (result : Result T NodeFault) → Same old mid → Counts old mid → OfDisk decided d mid new result → OfDisk decided d old new result
   behind {T} decided d old mid new result same counts then = record {
-    told = subst (λ (o : Option (List ℕ)). IsSome (seen new) ↔ IsSome o) same.same_seen then.told;
+    told = subst (λ (o : Option (List ℕ)). IsSome (w.seen new) ↔ IsSome o) same.same_seen then.told;
     quiet = λ is. let q = then.quiet is in (both_same old mid new same q.0, both_count old mid new counts q.1);
     any_moment = λ r is bytes told. moved old mid new (LeftAround (whole_records bytes) r d) same (then.any_moment r is bytes (same.same_seen ∙ told));
-    reached = λ down. reached_from (setting old) (setting mid) (calls old) (calls mid) (calls new) counts.same_setting counts.same_calls (then.reached down);
-    left = λ down r has bytes told. left_from left_by calls setting (whole_records bytes) (record_bytes r) old mid new counts.same_setting counts.same_calls (then.left down r has bytes (same.same_seen ∙ told));
+    reached = λ down. reached_from (w.setting old) (w.setting mid) (w.calls old) (w.calls mid) (w.calls new) counts.same_setting counts.same_calls (then.reached down);
+    left = λ down r has bytes told. left_from w.left_by w.calls w.setting (whole_records bytes) (record_bytes r) old mid new counts.same_setting counts.same_calls (then.left down r has bytes (same.same_seen ∙ told));
     fits = then.fits;
-    most = subst (λ (n : ℕ). (n ≤ calls new) × (calls new ≤ n + 4)) counts.same_calls then.most;
+    most = subst (λ (n : ℕ). (n ≤ w.calls new) × (w.calls new ≤ n + 4)) counts.same_calls then.most;
     limited = then.limited ∙ counts.same_limit;
-    called = subst (λ (n : ℕ). OnOk result (calls new ≡ n + calls_for d decided)) counts.same_calls then.called;
+    called = subst (λ (n : ℕ). OnOk result (w.calls new ≡ n + calls_for d decided)) counts.same_calls then.called;
     ran =
-        subst (λ (s : Setting). Ran s (calls old) (calls new) (faults old) (faults new) (own_faults old) (own_faults new) result) counts.same_setting
-        (subst (λ (n : ℕ). Ran (setting mid) n (calls new) (faults old) (faults new) (own_faults old) (own_faults new) result) counts.same_calls
-        (subst (λ (n : ℕ). Ran (setting mid) (calls mid) (calls new) n (faults new) (own_faults old) (own_faults new) result) counts.same_faults
-        (subst (λ (n : ℕ). Ran (setting mid) (calls mid) (calls new) (faults mid) (faults new) n (own_faults new) result) counts.same_own_faults then.ran)));
+        subst (λ (s : Setting). Ran s (w.calls old) (w.calls new) (w.faults old) (w.faults new) (w.own_faults old) (w.own_faults new) result) counts.same_setting
+        (subst (λ (n : ℕ). Ran (w.setting mid) n (w.calls new) (w.faults old) (w.faults new) (w.own_faults old) (w.own_faults new) result) counts.same_calls
+        (subst (λ (n : ℕ). Ran (w.setting mid) (w.calls mid) (w.calls new) n (w.faults new) (w.own_faults old) (w.own_faults new) result) counts.same_faults
+        (subst (λ (n : ℕ). Ran (w.setting mid) (w.calls mid) (w.calls new) (w.faults mid) (w.faults new) n (w.own_faults new) result) counts.same_own_faults then.ran)));
     set = then.set ∙ counts.same_setting;
   }
 

@@ -1,17 +1,17 @@
 -- What is done with what was found in a message's bytes, by its parts.
-use Rattle.std.proofs.Common.{◌≡◌, ℕ, List, Option, refl, sym, ap, subst, ◌∙◌}
-use Rattle.std.specs.Prelude.{Result, Err}
-use Rattle.afs_disk.specs.Disk.{Setting}
+use Rattle.std.proofs.Common.{◌≡◌, ℕ, List, Option, refl, sym, ap, subst, ◌∙◌, None}
+use Rattle.std.specs.Prelude.{Result, Err, Ok}
 use Rattle.afs_history.specs.declared.lines.Outs.{Outs}
 use Rattle.afs_num.specs.declared.records.StoreRecord.{StoreRecord}
 use Rattle.afs_records.specs.Durable.{Durable}
 use Rattle.afs_volstore.specs.Stores.{Store}
-use Rattle.afs_server.specs.Handling.{SameStore}
-use Rattle.afs_server.specs.Putting.{DoesAll, OnDisk}
+use Rattle.afs_server.specs.Handling.{SameStore, record_decided, Does}
+use Rattle.afs_server.specs.Putting.{DoesAll, OnDisk, IsFew, Took}
 use Rattle.afs_server.specs.Seen.{Memory}
 use Rattle.afs_server.specs.declared.faults.NodeFault.{NodeFault}
 use Rattle.afs_server.specs.declared.faults.NodeFault.TheVariants as faults
 use Rattle.afs_server.proofs.Still.{is_same}
+use Rattle.afs_server.proofs.Wholly.{made_none}
 use Rattle.afs_num.specs.declared.messages.Call.{Call}
 use Rattle.afs_num.specs.declared.messages.Call.TheVariants as ask
 use Rattle.afs_num.specs.declared.messages.Carried.{Carried}
@@ -25,6 +25,7 @@ use Rattle.afs_rows.specs.Callbacks as row
 use Rattle.afs_rows.specs.Callbacks.{turn_for, turned_by, turned_in}
 use Rattle.afs_rows.specs.ServerRow.{called, decides, hears, whole, Decision}
 use Rattle.afs_rows.specs.States.{Backs, ServerState}
+use Rattle.afs_disk.specs.declared.disk.Disk.{Ghosts}
 
 module _ (P : Decision → row.Turn → Type 0) (me : Node) (s : ServerState) (clock : ℕ) (b : Backs) where
   pub in_received : (r x : Received) → r ≡ x → P (decides me s clock x) (turned_in me s clock b (decides me s clock x) x) → P (decides me s clock r) (turned_in me s clock b (decides me s clock r) r)
@@ -53,12 +54,23 @@ module _ (P : Decision → row.Turn → Type 0) (me : Node) (s : ServerState) (c
 same_store : {D : Type 0} (s t : Store D) → t ≡ s → SameStore s t
 same_store {D} s t e = subst (λ (u : Store D). SameStore s u) (sym e) refl
 
-pub wants_all : {D : Type 0} (clock : ℕ) (d : Decision) (turn : row.Turn) (old new : Memory) (s t : Store D) (result : Result Outs NodeFault) → result ≡ Err faults.OutOfMemory → (new ≡ old) × (t ≡ s) → DoesAll clock d turn old new s t result
+wants_all : {D : Type 0} (clock : ℕ) (d : Decision) (turn : row.Turn) (old new : Memory) (s t : Store D) (result : Result Outs NodeFault) → result ≡ Err faults.OutOfMemory → (new ≡ old) × (t ≡ s) → DoesAll clock d turn old new s t result
 wants_all {D} clock d turn old new s t result e same = subst (λ (r : Result Outs NodeFault). DoesAll clock d turn old new s t r) (sym e) (same.0, same_store s t same.1)
 
-pub wants_disk : {D : Type 0} (seen : D → Option (List ℕ)) (left_by : D → ℕ → Option (List ℕ)) (size : D → ℕ) (may_leave : D → List ℕ → Type 0) (moment : D → ℕ) (left_since : D → ℕ → List ℕ → Type 0) (fs own_faults calls : D → ℕ)
-    (setting : D → Setting) (limit : D → ℕ) (decided : Option StoreRecord) (d : Durable) (old new : D) (result : Result Outs NodeFault) → result ≡ Err faults.OutOfMemory → new ≡ old →
-    OnDisk seen left_by size may_leave moment left_since fs own_faults calls setting limit decided d old new result
-wants_disk {D} seen left_by size may_leave moment left_since fs own_faults calls setting limit decided d old new result e same =
-    subst (λ (r : Result Outs NodeFault). OnDisk seen left_by size may_leave moment left_since fs own_faults calls setting limit decided d old new r) (sym e)
-    (is_same seen left_by size may_leave moment left_since fs own_faults calls setting limit decided d old new (Err faults.OutOfMemory) tt same)
+wants_disk : {D : Type 0} (w : Ghosts D) (decided : Option StoreRecord) (d : Durable) (old new : D) (result : Result Outs NodeFault) → result ≡ Err faults.OutOfMemory → new ≡ old → OnDisk w decided d old new result
+wants_disk {D} w decided d old new result e same = subst (λ (r : Result Outs NodeFault). OnDisk w decided d old new r) (sym e) (is_same w decided d old new (Err faults.OutOfMemory) tt same)
+
+pub wants_took : {D : Type 0} (w : Ghosts D) (clock : ℕ) (d : Decision) (turn : row.Turn) (old new : Memory) (s t : Store D) (result : Result Outs NodeFault) → result ≡ Err faults.OutOfMemory → (new ≡ old) × (t ≡ s) → Took w clock d turn old new s t result
+wants_took {D} w clock d turn old new s t result e same = record {
+  does = wants_all clock d turn old new s t result e same;
+  disk = wants_disk w (record_decided s.durable.boot clock d) s.durable s.disk t.disk result e (ap (λ (u : Store D). u.disk) same.1);
+}
+
+-- ---- what is decided makes no record
+
+pub made_took : {D : Type 0} (w : Ghosts D) (clock : ℕ) (d : Decision) (turn : row.Turn) (old new : Memory) (s t : Store D) (outs : Outs) → record_decided s.durable.boot clock d ≡ None → IsFew d → Does {E = NodeFault} clock d turn old new s t (Ok outs) →
+    Took w clock d turn old new s t (Ok outs)
+made_took {D} w clock d turn old new s t outs none few does = record {
+  does = made_none clock d turn old new s t outs none few does;
+  disk = is_same w (record_decided s.durable.boot clock d) s.durable s.disk t.disk (Ok outs) none (ap (λ (u : Store D). u.disk) does.1.1);
+}

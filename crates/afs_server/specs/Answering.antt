@@ -8,12 +8,16 @@ use Rattle.afs_rows.specs.Callbacks as row
 use Rattle.afs_rows.specs.Callbacks.{held_under, is_seat_of, key_answered, repeats_by}
 use Rattle.afs_rows.specs.ServerRow.{seat_for}
 use Rattle.afs_rows.specs.States.{Backs, Lasting, Seat}
-use Rattle.afs_model.specs.Calls.{call_seat, call_seated}
+use Rattle.afs_model.specs.Calls.{call_seat, call_seated, paired, runs}
 use Rattle.afs_message.specs.Spelled.{Spells}
 
 -- a kept reply is asked again
 abbrev pub repeated_turn : Message → Lasting → Backs → row.Turn
 repeated_turn reply l b = repeats_by b reply (held_under (key_answered reply) b.held) (is_seat_of reply (call_seat reply.head.to l.kept))
+
+-- the pair of the call of this header is to run
+abbrev pub IsToRun : Head → List Seat → Type 0
+IsToRun head seats = paired head.epoch head.number (call_seat head.from seats) ≡ runs
 
 -- these bytes are kept as the reply to the call of this header
 abbrev pub KeepsReply : Head → List ℕ → List Seat → List Seat → Type 0

@@ -7,6 +7,7 @@ use Rattle.afs_server.specs.declared.faults.NodeFault.TheVariants as faults
 use Rattle.afs_num.specs.declared.records.StoreRecord.{StoreRecord}
 use Rattle.afs_model.specs.Messages.{parcels_read, messages_spelled, received_by}
 use Rattle.afs_disk.specs.Disk.{PassesAll, Rose, Setting, Trips}
+use Rattle.afs_disk.specs.declared.disk.Disk.{Ghosts}
 use Rattle.afs_records.specs.Durable.{folded}
 use Rattle.afs_volstore.specs.Stores.{Store}
 use Rattle.afs_rows.specs.Callbacks as row
@@ -15,13 +16,14 @@ use Rattle.afs_num.specs.declared.types.Head.{Head}
 use Rattle.afs_num.specs.declared.messages.Message.{Message}
 use Rattle.afs_num.specs.declared.messages.Received.{Received}
 use Rattle.afs_breaks.specs.Promises.{expired, Lists}
-use Rattle.afs_callbacks.specs.Answering.{answer_turn, with_lists}
+use Rattle.afs_callbacks.specs.Answering.{with_lists}
 use Rattle.afs_rows.specs.ServerRow.{refusal, decides, does, keeps, saves, record_of, Decision}
 use Rattle.afs_rows.specs.ServerSteps.{stepped}
 use Rattle.afs_rows.specs.States.{Backs, ServerState}
 use Rattle.afs_rows.specs.Steps.{Step}
 use Rattle.afs_server_parts.specs.declared.turns.Stand.{Stand}
-use Rattle.afs_server.specs.Seen.{backs_seen, Memory, state_seen, Serves}
+use Rattle.afs_server_parts.specs.Turning.{answer_turn}
+use Rattle.afs_server.specs.Seen.{backs_seen, Memory, state_seen, Serves, CanDraw}
 
 -- the calls that it serves
 abbrev pub calls_served : List ℕ
@@ -33,6 +35,18 @@ server_seen {D} m s = state_seen m s.durable s.drawn
 -- who makes a step over this store
 abbrev pub stand_of : {D : Type 0} → Store D → Stand
 stand_of {D} s = record { node = s.node; boot = s.durable.boot; last = s.drawn }
+
+-- the server over this store
+abbrev pub ServesOver : {D : Type 0} → Memory → Store D → Type 0
+ServesOver {D} m s = Serves s.node m s.durable
+
+-- A server can make a step at this time over an open store: both keep together what they should, few numbers were drawn, and it
+-- is early.
+pub record CanStep {D : Type 0} (m : Memory) (s : Store D) (now : ℕ) : Type 0 where
+  pub serves : ServesOver m s
+  pub draws : CanDraw m s.drawn
+  pub up : s.closed ≡ false
+  pub soon : now ≤ 1000000000
 
 -- what is promised, owed, called and held at this time
 abbrev pub backs_then : {D : Type 0} → Memory → Store D → ℕ → Backs
@@ -136,3 +150,7 @@ pub record Ran {T : Type 0} (setting : Setting) (first last before now own_befor
   pub own_never_falls : own_before ≤ own_now
   pub down : IsErrOf result faults.Down → Rose before now × (Trips setting last ⊎ Rose own_before own_now)
   pub passed : OnOk result (PassesAll setting first last)
+
+-- those that come from one state of a disk to a later one
+abbrev pub RanOn : {D T : Type 0} → Ghosts D → D → D → Result T NodeFault → Type 0
+RanOn w old new result = Ran (w.setting old) (w.calls old) (w.calls new) (w.faults old) (w.faults new) (w.own_faults old) (w.own_faults new) result

@@ -1,9 +1,7 @@
 -- What a step does to its store: what is decided is done, with its record or without one.
-use Rattle.std.specs.Prelude.{◌≡◌, ◌≤◌, ◌↔◌, ◌+◌, ◌++◌, ℕ, List, [], Bool, true, false, Option, Some, None, Result, Ok, Err, IsErrOf, IsSome, OnOk, length, map}
-use Rattle.afs_disk.specs.Disk.{LeavesOnly, SameDisk, Setting}
-use Rattle.afs_journal.specs.Left.{LeavesByPick, ReachesCall}
-use Rattle.afs_journal.specs.Log.{SameCounts}
+use Rattle.std.specs.Prelude.{◌≡◌, ◌≤◌, ◌+◌, ◌++◌, ℕ, List, [], Bool, true, false, Option, Some, None, Result, Ok, Err, IsErrOf, OnOk, length, map}
 use Rattle.afs_journal.specs.Records.{whole_records}
+use Rattle.afs_journal.specs.Words.{LeavesByPickOf, ReachesBy, SameCountsBy}
 use Rattle.afs_history.specs.declared.lines.Line.{Line}
 use Rattle.afs_history.specs.declared.lines.Outs.{Outs}
 use Rattle.afs_num.specs.declared.records.StoreRecord.{StoreRecord}
@@ -16,11 +14,13 @@ use Rattle.afs_rows.specs.ServerSteps.{stepped}
 use Rattle.afs_rows.specs.States.{ServerState}
 use Rattle.afs_volstore.specs.Stores.{LeftAround, Store}
 use Rattle.afs_memory.specs.Telling.{in_words}
-use Rattle.afs_server.specs.Handling.{lines_behind, record_decided, server_seen, IsClosed, IsDone, IsQuiet, IsWritten, Makes, Ran, SameStore}
+use Rattle.afs_server.specs.Handling.{lines_behind, record_decided, server_seen, IsClosed, IsDone, IsQuiet, IsWritten, Makes, SameStore, RanOn}
 use Rattle.afs_server.specs.Seen.{lasting_of, Memory, Serves}
 use Rattle.afs_server.specs.declared.faults.NodeFault.{NodeFault}
 use Rattle.afs_server.specs.declared.faults.NodeFault.TheVariants as faults
 use Rattle.afs_server.specs.declared.faults.NodeFault.TheVariants.{Down}
+use Rattle.afs_disk.specs.Words.{CallsAtMost, LeavesOnlyBy, SameDiskBy, TellsOn}
+use Rattle.afs_disk.specs.declared.disk.Disk.{Ghosts}
 
 -- ---- the disk
 
@@ -33,19 +33,18 @@ calls_for d (Some r) = (placing d r).calls
 -- wanting, it leaves the disk alone; else a crash at any moment leaves what was kept before, or what is kept with the record.
 -- Either way a disk that tells goes on telling. Where it was set to stop or to fail at one of the calls, that one tells what a crash
 -- with each pick leaves.
-pub record OnDisk {D T : Type 0} (seen : D → Option (List ℕ)) (left_by : D → ℕ → Option (List ℕ)) (size : D → ℕ) (may_leave : D → List ℕ → Type 0) (moment : D → ℕ) (left_since : D → ℕ → List ℕ → Type 0)
-    (faults own_faults calls : D → ℕ) (setting : D → Setting) (limit : D → ℕ) (decided : Option StoreRecord) (d : Durable) (old new : D) (result : Result T NodeFault) : Type 0 where
-  pub told : IsSome (seen new) ↔ IsSome (seen old)
-  pub quiet : IsQuiet decided result → SameDisk seen left_by size may_leave moment left_since old new × SameCounts faults own_faults calls setting limit old new
-  pub any_moment : (r : StoreRecord) → IsWritten r decided result → (bytes : List ℕ) → seen old ≡ Some bytes → LeavesOnly moment left_since old new (LeftAround (whole_records bytes) r d)
-  pub reached : IsErrOf result Down → ReachesCall (setting old) (calls old) (calls new)
-  pub left : IsErrOf result Down → (r : StoreRecord) → decided ≡ Some r → (bytes : List ℕ) → seen old ≡ Some bytes → LeavesByPick left_by calls setting (whole_records bytes) (record_bytes r) old new
+pub record OnDisk {D T : Type 0} (w : Ghosts D) (decided : Option StoreRecord) (d : Durable) (old new : D) (result : Result T NodeFault) : Type 0 where
+  pub told : TellsOn w old new
+  pub quiet : IsQuiet decided result → SameDiskBy w old new × SameCountsBy w old new
+  pub any_moment : (r : StoreRecord) → IsWritten r decided result → (bytes : List ℕ) → w.seen old ≡ Some bytes → LeavesOnlyBy w old new (LeftAround (whole_records bytes) r d)
+  pub reached : IsErrOf result Down → ReachesBy w old new
+  pub left : IsErrOf result Down → (r : StoreRecord) → decided ≡ Some r → (bytes : List ℕ) → w.seen old ≡ Some bytes → LeavesByPickOf w (whole_records bytes) (record_bytes r) old new
   pub fits : (r : StoreRecord) → IsWritten r decided result → FitsRecord r
-  pub most : (calls old ≤ calls new) × (calls new ≤ calls old + 4)
-  pub limited : limit new ≡ limit old
-  pub called : OnOk result (calls new ≡ calls old + calls_for d decided)
-  pub ran : Ran (setting old) (calls old) (calls new) (faults old) (faults new) (own_faults old) (own_faults new) result
-  pub set : setting new ≡ setting old
+  pub most : CallsAtMost 4 w old new
+  pub limited : w.limit new ≡ w.limit old
+  pub called : OnOk result (w.calls new ≡ w.calls old + calls_for d decided)
+  pub ran : RanOn w old new result
+  pub set : w.setting new ≡ w.setting old
 
 -- no device call was made: no record was due, or memory was wanting
 abbrev pub IsStill : {T : Type 0} → Option StoreRecord → Result T NodeFault → Type 0
@@ -103,3 +102,8 @@ abbrev pub DoesAll : {D : Type 0} → ℕ → Decision → row.Turn → Memory �
 DoesAll {D} clock d turn old new s t (Ok outs) = IsMadeOf clock d turn old new s t outs
 DoesAll {D} clock d turn old new s t (Err faults.OutOfMemory) = (new ≡ old) × SameStore s t
 DoesAll {D} clock d turn old new s t (Err faults.Down) = IsInterrupted s.node clock d old s t
+
+-- what a step that is decided so did, with this turn: to the server and its store, and to the disk
+pub record Took {D : Type 0} (w : Ghosts D) (clock : ℕ) (d : Decision) (turn : row.Turn) (old new : Memory) (s t : Store D) (result : Result Outs NodeFault) : Type 0 where
+  pub does : DoesAll clock d turn old new s t result
+  pub disk : OnDisk w (record_decided s.durable.boot clock d) s.durable s.disk t.disk result

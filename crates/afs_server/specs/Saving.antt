@@ -1,17 +1,32 @@
 -- What becomes of a change, in memory and in the store.
-use Rattle.std.specs.Prelude.{◌≡◌, ℕ, ◌+◌, None, Some, Result, Ok, Err}
+use Rattle.std.specs.Prelude.{◌≡◌, ℕ, ◌+◌, None, Some, Result, Ok, Err, ◌≤◌, false, length}
 use Rattle.afs_num.specs.declared.types.Head.{Head}
 use Rattle.afs_history.specs.declared.lines.Outs.{Outs}
-use Rattle.afs_breaks.specs.Promises.{expired, grants_all}
+use Rattle.afs_breaks.specs.Promises.{expired, grants_all, lasting}
 use Rattle.afs_records.specs.Durable.{folded}
-use Rattle.afs_callbacks.specs.Saving.{withdraws_each}
+use Rattle.afs_records.specs.Records.{FitsRecord}
+use Rattle.afs_callbacks.specs.Saving.{withdraws_each, hits_each}
 use Rattle.afs_volstore.specs.Stores.{Store}
-use Rattle.afs_server.specs.Answering.{KeepsReply}
+use Rattle.afs_server.specs.Answering.{KeepsReply, IsToRun}
 use Rattle.afs_server.specs.Handling.{IsClosed}
 use Rattle.afs_server.specs.Seen.{Memory}
 use Rattle.afs_server.specs.declared.faults.NodeFault.{NodeFault}
 use Rattle.afs_server.specs.declared.faults.NodeFault.TheVariants as faults
 use Rattle.afs_callbacks.specs.declared.saving.Planned.{Planned}
+use Rattle.afs_message.specs.Spelled.{IsSpelling}
+
+-- ---- before
+
+-- Where its record is prepared, it can be put on the disk, and the rest be done, by the plan of the call of this header.
+pub record CanPut {D : Type 0} (head : Head) (now : ℕ) (p : Planned) (m : Memory) (s : Store D) : Type 0 where
+  pub runs : IsToRun head m.seats
+  pub draws : m.lists.last_owed + length m.lists.promises + length p.granted ≤ 4000000000
+  pub withdraws : p.withdrawn.items ≡ hits_each head.from p.changed (lasting now m.lists.promises)
+  pub drawn : s.drawn ≤ p.ended.last
+  pub spelling : IsSpelling p.kept
+  pub up : s.closed ≡ false
+  pub fits : FitsRecord p.rec
+  pub soon : now ≤ 1000000000
 
 -- ---- what becomes of it
 

@@ -2,16 +2,16 @@
 
 ghost use Rattle.std.specs.Prelude.{◌≡◌, ◌≤◌, [], false, OnErr, OnOk};
 ghost use Rattle.afs_num.specs.Nodes.{IsNode};
-ghost use Rattle.afs_model.specs.Calls.{call_seat, paired, runs};
+ghost use Rattle.afs_model.specs.Calls.{call_seat, runs};
 ghost use Rattle.afs_model.specs.Heads.{is_zero, IsSoundHead};
 ghost use Rattle.afs_breaks.specs.Promises.{expired};
 ghost use Rattle.afs_rows.specs.Callbacks.{gives_up_all, is_seat_of};
 ghost use Rattle.afs_rows.specs.ServerRow.{boot_told, given_up_read, read_reply_to, replied};
 ghost use Rattle.afs_message.specs.Spelled.{IsSpelling};
-ghost use Rattle.afs_callbacks.specs.Answering.{sent_turn};
-ghost use Rattle.afs_server.specs.Answering.{is_answer_to, repeated_turn, KeepsReply};
-ghost use Rattle.afs_server.specs.Handling.{backs_then, Turns, AnswersNow, RefusesNow};
-ghost use Rattle.afs_server.specs.Seen.{lasting_of, KeepsForNodes, Serves};
+ghost use Rattle.afs_server.specs.Answering.{is_answer_to, repeated_turn, KeepsReply, IsToRun};
+ghost use Rattle.afs_server.specs.Handling.{backs_then, Turns, AnswersNow, RefusesNow, ServesOver};
+ghost use Rattle.afs_server.specs.Seen.{lasting_of, KeepsForNodes};
+ghost use Rattle.afs_server_parts.specs.Turning.{sent_turn};
 
 use crate::ending::stand;
 use crate::server::FileServer;
@@ -48,7 +48,7 @@ fn is_last_change<D: Disk>(store: &VolStore<D>, reply: &SpelledMessage) -> bool
 
 /// The reply to the call of this header, which ran, is kept. It takes no memory.
 pub fn keep_reply(callers: &mut Callers, head: &Head, reply: Octets)
-    requires runs { paired head.now.epoch head.now.number (call_seat head.now.from callers.old.seats) ≡ runs }
+    requires runs { IsToRun head.now callers.old.seats }
     requires room { 1 ≤ callers.old.room }
     requires spelling { IsSpelling reply }
     ensures boot { callers.new.boot ≡ callers.old.boot }
@@ -59,7 +59,7 @@ pub fn keep_reply(callers: &mut Callers, head: &Head, reply: Octets)
 
 /// The reply to the call of this header, which ran, is kept.
 fn keep_answer(callers: &mut Callers, head: &Head, reply: Octets) -> Mem<()>
-    requires runs { paired head.now.epoch head.now.number (call_seat head.now.from callers.old.seats) ≡ runs }
+    requires runs { IsToRun head.now callers.old.seats }
     requires spelling { IsSpelling reply }
     ensures boot { callers.new.boot ≡ callers.old.boot }
     ensures seats { OnOk result (KeepsReply head.now reply callers.old.seats callers.new.seats) }
@@ -78,7 +78,7 @@ impl FileServer {
         head: &Head,
         now: u32,
     ) -> Mem<Outs>
-        requires serves { Serves store.old.node self.old store.old.durable }
+        requires serves { ServesOver self.old store.old }
         requires head { IsSoundHead head.now }
         ensures { Turns (sent_turn (boot_told store.old.durable.boot head.now) (backs_then self.old store.old now)) self.old self.new store.old store.new result }
     {
@@ -94,7 +94,7 @@ impl FileServer {
         reply: SpelledMessage,
         now: u32,
     ) -> Mem<Outs>
-        requires serves { Serves store.old.node self.old store.old.durable }
+        requires serves { ServesOver self.old store.old }
         requires node { IsNode reply.head.to }
         ensures { Turns (repeated_turn reply (lasting_of store.old.durable) (backs_then self.old store.old now)) self.old self.new store.old store.new result }
     {
@@ -114,9 +114,9 @@ impl FileServer {
         code: i32,
         now: u32,
     ) -> Mem<Outs>
-        requires serves { Serves store.old.node self.old store.old.durable }
+        requires serves { ServesOver self.old store.old }
         requires head { IsSoundHead head.now }
-        requires runs { paired head.now.epoch head.now.number (call_seat head.now.from self.old.seats) ≡ runs }
+        requires runs { IsToRun head.now self.old.seats }
         requires code { is_zero code ≡ false }
         ensures { RefusesNow head.now code now self.old self.new store.old store.new result }
     {
@@ -137,10 +137,10 @@ impl FileServer {
         fids: &[Fid],
         now: u32,
     ) -> Mem<Outs>
-        requires serves { Serves store.old.node self.old store.old.durable }
+        requires serves { ServesOver self.old store.old }
         requires head { IsSoundHead head.now }
         requires opcode { head.now.opcode ≡ 147 }
-        requires runs { paired head.now.epoch head.now.number (call_seat head.now.from self.old.seats) ≡ runs }
+        requires runs { IsToRun head.now self.old.seats }
         ensures { AnswersNow head.now (read_reply_to store.old.durable.boot head.now 0 (given_up_read fids.now)) [] (gives_up_all head.now.from fids.now (expired now self.old.lists)) self.old self.new store.old store.new result }
     {
         let replied = self.callbacks().plan_given_up(stand(store), head, now)?;

@@ -1,18 +1,14 @@
 //! What a server decides on a call.
 
 ghost use Rattle.std.specs.Prelude.{◌≡◌, false, IfOk, Some, None};
-ghost use Rattle.afs_num.specs.declared.messages.Call.TheVariants as ask;
 ghost use Rattle.afs_ideal.specs.Tables.{get};
-ghost use Rattle.afs_model.specs.Calls.{admitted, call_seat, paired};
-ghost use Rattle.afs_model.specs.CellRows.{call_number};
+ghost use Rattle.afs_model.specs.Calls.{admitted};
 ghost use Rattle.afs_model.specs.Messages.{IsSoundCarried};
 ghost use Rattle.afs_ideal.specs.Operations.{the_user, volume_called};
-ghost use Rattle.afs_reads.specs.Replying.{FitsCall};
 ghost use Rattle.afs_call.specs.Admitting.{means};
 ghost use Rattle.afs_rows.specs.ServerRow.{admits, called, code_of_unreadable, in_volume, is_client, runs, runs_carried, runs_received, serves, serves_call, with_volume};
-ghost use Rattle.afs_decisions.specs.Deciding.{is_on_volume, CanBeTold, Decides, FitsDecided, IsByClient, IsUnder, Runs};
-ghost use Rattle.afs_server.specs.Handling.{server_seen};
-ghost use Rattle.afs_server.specs.Seen.{Serves};
+ghost use Rattle.afs_decisions.specs.Deciding.{is_on_volume, IsByClient, IsUnder, CanBeDone, IsDecision, IsCallUnder};
+ghost use Rattle.afs_server.specs.Handling.{server_seen, ServesOver};
 
 use crate::server::FileServer;
 use afs_call::Admit;
@@ -42,11 +38,8 @@ impl FileServer {
         now: u32,
     ) -> Mem<Decided>
         requires on { volume_called call.now ≡ Some id }
-        requires fits { FitsCall call.now }
-        requires opcode { head.now.opcode ≡ call_number (ask.File call.now) }
-        ensures decides { IfOk result (λ d. Decides (server_seen self.now store.now) now head.now (in_volume (server_seen self.now store.now) now head.now (the_user user.now) call.now id (get id store.now.durable.volumes)) d) }
-        ensures told { IfOk result (λ d. CanBeTold head.now.opcode d) }
-        ensures fits { IfOk result FitsDecided }
+        requires call { IsCallUnder head.now call.now }
+        ensures { IfOk result (IsDecision (server_seen self.now store.now) now head.now (in_volume (server_seen self.now store.now) now head.now (the_user user.now) call.now id (get id store.now.durable.volumes))) }
     {
         match store.volume(id) {
             None => Ok(Decided::Refuses(NO_VOLUME)),
@@ -63,11 +56,8 @@ impl FileServer {
         call: &FsCall,
         now: u32,
     ) -> Mem<Decided>
-        requires fits { FitsCall call.now }
-        requires opcode { head.now.opcode ≡ call_number (ask.File call.now) }
-        ensures decides { IfOk result (λ d. Decides (server_seen self.now store.now) now head.now (with_volume (server_seen self.now store.now) now head.now (the_user user.now) call.now (volume_called call.now)) d) }
-        ensures told { IfOk result (λ d. CanBeTold head.now.opcode d) }
-        ensures fits { IfOk result FitsDecided }
+        requires { IsCallUnder head.now call.now }
+        ensures { IfOk result (IsDecision (server_seen self.now store.now) now head.now (with_volume (server_seen self.now store.now) now head.now (the_user user.now) call.now (volume_called call.now))) }
     {
         match volume_called(call) {
             None => Ok(Decided::Refuses(NOT_SERVED)),
@@ -85,11 +75,8 @@ impl FileServer {
         now: u32,
     ) -> Mem<Decided>
         requires other { is_on_volume call.now ≡ false }
-        requires fits { FitsCall call.now }
-        requires opcode { head.now.opcode ≡ call_number (ask.File call.now) }
-        ensures decides { IfOk result (λ d. Decides (server_seen self.now store.now) now head.now (serves_call (server_seen self.now store.now) now head.now user.now call.now) d) }
-        ensures told { IfOk result (λ d. CanBeTold head.now.opcode d) }
-        ensures fits { IfOk result FitsDecided }
+        requires call { IsCallUnder head.now call.now }
+        ensures { IfOk result (IsDecision (server_seen self.now store.now) now head.now (serves_call (server_seen self.now store.now) now head.now user.now call.now)) }
     {
         match call {
             FsCall::GiveUpCallBacks { fids, .. } => {
@@ -118,11 +105,8 @@ impl FileServer {
         call: &FsCall,
         now: u32,
     ) -> Mem<Decided>
-        requires fits { FitsCall call.now }
-        requires opcode { head.now.opcode ≡ call_number (ask.File call.now) }
-        ensures decides { IfOk result (λ d. Decides (server_seen self.now store.now) now head.now (serves_call (server_seen self.now store.now) now head.now user.now call.now) d) }
-        ensures told { IfOk result (λ d. CanBeTold head.now.opcode d) }
-        ensures fits { IfOk result FitsDecided }
+        requires { IsCallUnder head.now call.now }
+        ensures { IfOk result (IsDecision (server_seen self.now store.now) now head.now (serves_call (server_seen self.now store.now) now head.now user.now call.now)) }
     {
         if is_on_volume(call) {
             self.with_volume(store, head, user, call, now)
@@ -140,9 +124,7 @@ impl FileServer {
         now: u32,
     ) -> Mem<Decided>
         requires sound { IsSoundCarried head.now.half head.now.opcode carried.now }
-        ensures decides { IfOk result (λ d. Decides (server_seen self.now store.now) now head.now (runs_carried (server_seen self.now store.now) now head.now carried.now) d) }
-        ensures told { IfOk result (λ d. CanBeTold head.now.opcode d) }
-        ensures fits { IfOk result FitsDecided }
+        ensures { IfOk result (IsDecision (server_seen self.now store.now) now head.now (runs_carried (server_seen self.now store.now) now head.now carried.now)) }
     {
         match carried {
             Carried::Call {
@@ -163,9 +145,7 @@ impl FileServer {
         now: u32,
     ) -> Mem<Decided>
         requires heard { IsUnder head.now received.now }
-        ensures decides { IfOk result (λ d. Decides (server_seen self.now store.now) now head.now (runs_received (server_seen self.now store.now) now head.now received.now) d) }
-        ensures told { IfOk result (λ d. CanBeTold head.now.opcode d) }
-        ensures fits { IfOk result FitsDecided }
+        ensures { IfOk result (IsDecision (server_seen self.now store.now) now head.now (runs_received (server_seen self.now store.now) now head.now received.now)) }
     {
         match received {
             Received::Nothing => Ok(Decided::Drops),
@@ -184,9 +164,7 @@ impl FileServer {
         now: u32,
     ) -> Mem<Decided>
         requires heard { IsUnder head.now received.now }
-        ensures decides { IfOk result (λ d. Decides (server_seen self.now store.now) now head.now (runs (server_seen self.now store.now) now head.now received.now) d) }
-        ensures told { IfOk result (λ d. CanBeTold head.now.opcode d) }
-        ensures fits { IfOk result FitsDecided }
+        ensures decides { IfOk result (IsDecision (server_seen self.now store.now) now head.now (runs (server_seen self.now store.now) now head.now received.now)) }
         ensures client { IfOk result (IsByClient head.now) }
     {
         if !is_client(&head.from) {
@@ -206,14 +184,13 @@ impl FileServer {
     ) -> Mem<Decided>
         requires heard { IsUnder head.now received.now }
         requires means { means admit ≡ admitted store.now.durable.boot self.now.seats head.now }
-        ensures decides { IfOk result (λ d. Decides (server_seen self.now store.now) now head.now (admits (server_seen self.now store.now) now head.now received.now (admitted store.now.durable.boot self.now.seats head.now)) d) }
-        ensures told { IfOk result (λ d. CanBeTold head.now.opcode d) }
-        ensures fits { IfOk result FitsDecided }
-        ensures client { IfOk result (IsByClient head.now) }
-        ensures runs { IfOk result (λ d. Runs d (paired head.now.epoch head.now.number (call_seat head.now.from self.now.seats))) }
+        ensures { IfOk result (CanBeDone (server_seen self.now store.now) now head.now (admits (server_seen self.now store.now) now head.now received.now (admitted store.now.durable.boot self.now.seats head.now))) }
     {
         match admit {
-            Admit::Run => { self.run(store, head, received, now) }
+            Admit::Run => {
+                let decided = self.run(store, head, received, now)?;
+                Ok(decided)
+            }
             Admit::Kept(reply) => {
                 let reply = reply.copy(self.alloc)?;
                 Ok(Decided::Repeats(reply))
@@ -232,13 +209,9 @@ impl FileServer {
         received: &Received,
         now: u32,
     ) -> Mem<Decided>
-        requires serves { Serves store.now.node self.now store.now.durable }
+        requires serves { ServesOver self.now store.now }
         requires heard { IsUnder head.now received.now }
-        ensures decides { IfOk result (λ d. Decides (server_seen self.now store.now) now head.now (called store.now.node (server_seen self.now store.now) now head.now received.now) d) }
-        ensures told { IfOk result (λ d. CanBeTold head.now.opcode d) }
-        ensures fits { IfOk result FitsDecided }
-        ensures client { IfOk result (IsByClient head.now) }
-        ensures runs { IfOk result (λ d. Runs d (paired head.now.epoch head.now.number (call_seat head.now.from self.now.seats))) }
+        ensures { IfOk result (CanBeDone (server_seen self.now store.now) now head.now (called store.now.node (server_seen self.now store.now) now head.now received.now)) }
     {
         if !head.to.is(&store.node()) {
             return Ok(Decided::Drops);

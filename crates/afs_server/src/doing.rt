@@ -5,8 +5,7 @@ ghost use Rattle.afs_model.specs.Calls.{call_seat, paired};
 ghost use Rattle.afs_model.specs.Heads.{IsSoundHead};
 ghost use Rattle.afs_rows.specs.ServerRow.{Decision};
 ghost use Rattle.afs_decisions.specs.Deciding.{CanBeTold, Decides, LeavesDisk, Runs};
-ghost use Rattle.afs_server.specs.Handling.{server_seen, turn_then, Does};
-ghost use Rattle.afs_server.specs.Seen.{Serves};
+ghost use Rattle.afs_server.specs.Handling.{server_seen, turn_then, Does, ServesOver};
 
 use crate::server::FileServer;
 use afs_decisions::decided::Decided;
@@ -24,7 +23,7 @@ impl FileServer {
         decided: Decided,
         now: u32,
     ) -> Mem<Outs>
-        requires serves { Serves store.old.node self.old store.old.durable }
+        requires serves { ServesOver self.old store.old }
         requires head { IsSoundHead head.now }
         requires told { CanBeTold head.now.opcode decided }
         requires runs { Runs decided (paired head.now.epoch head.now.number (call_seat head.now.from self.old.seats)) }

@@ -1,14 +1,13 @@
 //! What a file server does with a message.
 
-ghost use Rattle.std.specs.Prelude.{◌≡◌, ◌≤◌, ◌↔◌, ◌+◌, ◌++◌, ◌∷◌, [], ℕ, List, false, true, None, Some, length, map, IsErrOf, IsSome, OnOk};
+ghost use Rattle.std.specs.Prelude.{◌≡◌, ◌≤◌, ◌+◌, ◌++◌, ◌∷◌, [], ℕ, List, false, true, None, Some, length, map, IsErrOf, OnOk};
 ghost use Rattle.afs_num.specs.declared.messages.Received.TheVariants as receives;
 ghost use Rattle.afs_num.specs.declared.records.StoreRecord as records;
-ghost use Rattle.afs_disk.specs.Disk.{LeavesOnly, SameDisk};
+ghost use Rattle.afs_disk.specs.Words.{SameDiskBy, LeavesOnlyBy, TellsOn, CallsAtMost};
 ghost use Rattle.afs_history.specs.declared.lines.Line.{Line};
 ghost use Rattle.afs_history.specs.declared.lines.Line.TheVariants as lines;
-ghost use Rattle.afs_journal.specs.Left.{LeavesByPick, ReachesCall};
-ghost use Rattle.afs_journal.specs.Log.{SameCounts};
 ghost use Rattle.afs_journal.specs.Records.{whole_records};
+ghost use Rattle.afs_journal.specs.Words.{SameCountsBy, LeavesByPickOf, ReachesBy};
 ghost use Rattle.afs_model.specs.Calls.{call_seat, paired};
 ghost use Rattle.afs_model.specs.Heads.{IsSoundHead};
 ghost use Rattle.afs_model.specs.Messages.{received_by, FindsMessages, HasSpelling, IsSoundReceived};
@@ -19,11 +18,11 @@ ghost use Rattle.afs_rows.specs.ServerRow.{begun_after, called, decides, device_
 ghost use Rattle.afs_rows.specs.ServerSteps.{server_row};
 ghost use Rattle.afs_volstore.specs.Stores.{LeftAround};
 ghost use Rattle.afs_memory.specs.Telling.{in_words};
-ghost use Rattle.afs_decisions.specs.Deciding.{leaves_disk, CanBeTold, Decides, FitsDecided, IsByClient, IsUnder, Runs};
-ghost use Rattle.afs_server.specs.Handling.{decided_then, record_then, backs_then, turn_then, turned_then, calls_served, record_decided, server_seen, Handles, IsDone, IsQuiet, IsWritten, Ran};
+ghost use Rattle.afs_decisions.specs.Deciding.{leaves_disk, CanBeTold, Decides, FitsDecided, IsUnder, Runs, CanBeDone};
+ghost use Rattle.afs_server.specs.Handling.{decided_then, record_then, backs_then, turn_then, turned_then, calls_served, server_seen, Handles, IsDone, IsQuiet, IsWritten, CanStep, ServesOver, RanOn};
 ghost use Rattle.afs_server.specs.Hearing.{answered_turn, noticed_turn};
-ghost use Rattle.afs_server.specs.Putting.{DoesAll, OnDisk};
-ghost use Rattle.afs_server.specs.Seen.{lasting_of, CanDraw, Serves};
+ghost use Rattle.afs_server.specs.Putting.{Took};
+ghost use Rattle.afs_server.specs.Seen.{lasting_of, CanDraw};
 ghost use Rattle.afs_server.specs.declared.faults.NodeFault.TheVariants as faults;
 
 use crate::faults::NodeFault;
@@ -57,16 +56,14 @@ impl FileServer {
         now: u32,
     ) -> Result<Outs, NodeFault>
         requires leaves { leaves_disk decided ≡ true }
-        requires serves { Serves store.old.node self.old store.old.durable }
+        requires serves { ServesOver self.old store.old }
         requires head { IsSoundHead head.now }
         requires told { CanBeTold head.now.opcode decided }
         requires fits { FitsDecided decided }
         requires runs { Runs decided (paired head.now.epoch head.now.number (call_seat head.now.from self.old.seats)) }
         requires now { now ≤ 1000000000 }
-        ensures does { (d : Decision) → Decides (server_seen self.old store.old) now head.now d decided →
-            DoesAll now d (turn_then self.old store.old now d) self.old self.new store.old store.new result }
-        ensures disk { (d : Decision) → Decides (server_seen self.old store.old) now head.now d decided →
-            OnDisk D.seen D.left_by D.size D.may_leave D.moment D.left_since D.faults D.own_faults D.calls D.setting D.limit (record_decided store.old.durable.boot now d) store.old.durable store.old.disk store.new.disk result }
+        ensures { (d : Decision) → Decides (server_seen self.old store.old) now head.now d decided →
+            Took D.Disk now d (turn_then self.old store.old now d) self.old self.new store.old store.new result }
     {
         let outs = self.answer(store, head, decided, now)?;
         Ok(outs)
@@ -81,20 +78,11 @@ impl FileServer {
         now: u32,
     ) -> Result<Outs, NodeFault>
         requires changes { leaves_disk decided ≡ false }
-        requires serves { Serves store.old.node self.old store.old.durable }
-        requires draws { CanDraw self.old store.old.drawn }
-        requires up { store.old.closed ≡ false }
+        requires can { CanStep self.old store.old now }
         requires head { IsSoundHead head.now }
-        requires decides { (d : Decision) × Decides (server_seen self.old store.old) now head.now d decided }
-        requires told { CanBeTold head.now.opcode decided }
-        requires fits { FitsDecided decided }
-        requires client { IsByClient head.now decided }
-        requires runs { Runs decided (paired head.now.epoch head.now.number (call_seat head.now.from self.old.seats)) }
-        requires now { now ≤ 1000000000 }
-        ensures does { (d : Decision) → Decides (server_seen self.old store.old) now head.now d decided →
-            DoesAll now d (turn_then self.old store.old now d) self.old self.new store.old store.new result }
-        ensures disk { (d : Decision) → Decides (server_seen self.old store.old) now head.now d decided →
-            OnDisk D.seen D.left_by D.size D.may_leave D.moment D.left_since D.faults D.own_faults D.calls D.setting D.limit (record_decided store.old.durable.boot now d) store.old.durable store.old.disk store.new.disk result }
+        requires decided { (d : Decision) × CanBeDone (server_seen self.old store.old) now head.now d decided }
+        ensures { (d : Decision) → Decides (server_seen self.old store.old) now head.now d decided →
+            Took D.Disk now d (turn_then self.old store.old now d) self.old self.new store.old store.new result }
     {
         match decided {
             Decided::Changes(id, change) => self.save(store, head, id, change, now),
@@ -110,20 +98,11 @@ impl FileServer {
         decided: Decided,
         now: u32,
     ) -> Result<Outs, NodeFault>
-        requires serves { Serves store.old.node self.old store.old.durable }
-        requires draws { CanDraw self.old store.old.drawn }
-        requires up { store.old.closed ≡ false }
+        requires can { CanStep self.old store.old now }
         requires head { IsSoundHead head.now }
-        requires decides { (d : Decision) × Decides (server_seen self.old store.old) now head.now d decided }
-        requires told { CanBeTold head.now.opcode decided }
-        requires fits { FitsDecided decided }
-        requires client { IsByClient head.now decided }
-        requires runs { Runs decided (paired head.now.epoch head.now.number (call_seat head.now.from self.old.seats)) }
-        requires now { now ≤ 1000000000 }
-        ensures does { (d : Decision) → Decides (server_seen self.old store.old) now head.now d decided →
-            DoesAll now d (turn_then self.old store.old now d) self.old self.new store.old store.new result }
-        ensures disk { (d : Decision) → Decides (server_seen self.old store.old) now head.now d decided →
-            OnDisk D.seen D.left_by D.size D.may_leave D.moment D.left_since D.faults D.own_faults D.calls D.setting D.limit (record_decided store.old.durable.boot now d) store.old.durable store.old.disk store.new.disk result }
+        requires decided { (d : Decision) × CanBeDone (server_seen self.old store.old) now head.now d decided }
+        ensures { (d : Decision) → Decides (server_seen self.old store.old) now head.now d decided →
+            Took D.Disk now d (turn_then self.old store.old now d) self.old self.new store.old store.new result }
     {
         if leaves_disk(&decided) {
             self.take_answer(store, head, decided, now)
@@ -140,16 +119,11 @@ impl FileServer {
         received: &Received,
         now: u32,
     ) -> Result<Outs, NodeFault>
-        requires serves { Serves store.old.node self.old store.old.durable }
-        requires draws { CanDraw self.old store.old.drawn }
-        requires up { store.old.closed ≡ false }
+        requires can { CanStep self.old store.old now }
         requires head { IsSoundHead head.now }
         requires heard { IsUnder head.now received.now }
-        requires now { now ≤ 1000000000 }
-        ensures does { let d = called store.old.node (server_seen self.old store.old) now head.now received.now in
-            DoesAll now d (turn_then self.old store.old now d) self.old self.new store.old store.new result }
-        ensures disk { let d = called store.old.node (server_seen self.old store.old) now head.now received.now in
-            OnDisk D.seen D.left_by D.size D.may_leave D.moment D.left_since D.faults D.own_faults D.calls D.setting D.limit (record_decided store.old.durable.boot now d) store.old.durable store.old.disk store.new.disk result }
+        ensures { let d = called store.old.node (server_seen self.old store.old) now head.now received.now in
+            Took D.Disk now d (turn_then self.old store.old now d) self.old self.new store.old store.new result }
     {
         let decided = self.called(store, head, received, now)?;
         self.take_decided(store, head, decided, now)
@@ -161,9 +135,8 @@ impl FileServer {
         store: &mut VolStore<D>,
         now: u32,
     ) -> Result<Outs, NodeFault>
-        requires { Serves store.old.node self.old store.old.durable }
-        ensures does { DoesAll now drops (no_turn (backs_then self.old store.old now)) self.old self.new store.old store.new result }
-        ensures disk { OnDisk D.seen D.left_by D.size D.may_leave D.moment D.left_since D.faults D.own_faults D.calls D.setting D.limit None store.old.durable store.old.disk store.new.disk result }
+        requires { ServesOver self.old store.old }
+        ensures { Took D.Disk now drops (no_turn (backs_then self.old store.old now)) self.old self.new store.old store.new result }
     {
         let outs = self.pass(store, now)?;
         Ok(outs)
@@ -176,9 +149,8 @@ impl FileServer {
         head: &Head,
         now: u32,
     ) -> Result<Outs, NodeFault>
-        requires { Serves store.old.node self.old store.old.durable }
-        ensures does { DoesAll now drops (answered_turn store.old.node store.old.durable.boot head.now (backs_then self.old store.old now)) self.old self.new store.old store.new result }
-        ensures disk { OnDisk D.seen D.left_by D.size D.may_leave D.moment D.left_since D.faults D.own_faults D.calls D.setting D.limit None store.old.durable store.old.disk store.new.disk result }
+        requires { ServesOver self.old store.old }
+        ensures { Took D.Disk now drops (answered_turn store.old.node store.old.durable.boot head.now (backs_then self.old store.old now)) self.old self.new store.old store.new result }
     {
         let outs = self.hear_answer(store, head, now)?;
         Ok(outs)
@@ -191,9 +163,8 @@ impl FileServer {
         head: &Head,
         now: u32,
     ) -> Result<Outs, NodeFault>
-        requires { Serves store.old.node self.old store.old.durable }
-        ensures does { DoesAll now drops (noticed_turn store.old.node store.old.durable.boot head.now (backs_then self.old store.old now)) self.old self.new store.old store.new result }
-        ensures disk { OnDisk D.seen D.left_by D.size D.may_leave D.moment D.left_since D.faults D.own_faults D.calls D.setting D.limit None store.old.durable store.old.disk store.new.disk result }
+        requires { ServesOver self.old store.old }
+        ensures { Took D.Disk now drops (noticed_turn store.old.node store.old.durable.boot head.now (backs_then self.old store.old now)) self.old self.new store.old store.new result }
     {
         let outs = self.hear_notice(store, head, now)?;
         Ok(outs)
@@ -207,16 +178,11 @@ impl FileServer {
         message: &Message,
         now: u32,
     ) -> Result<Outs, NodeFault>
-        requires serves { Serves store.old.node self.old store.old.durable }
-        requires draws { CanDraw self.old store.old.drawn }
-        requires up { store.old.closed ≡ false }
+        requires can { CanStep self.old store.old now }
         requires whole { received.now ≡ receives.Whole message.now }
         requires sound { HasSpelling message.now }
-        requires now { now ≤ 1000000000 }
-        ensures does { let d = decides store.old.node (server_seen self.old store.old) now received.now in
-            DoesAll now d (turned_then self.old store.old now d received.now) self.old self.new store.old store.new result }
-        ensures disk { let d = decides store.old.node (server_seen self.old store.old) now received.now in
-            OnDisk D.seen D.left_by D.size D.may_leave D.moment D.left_since D.faults D.own_faults D.calls D.setting D.limit (record_decided store.old.durable.boot now d) store.old.durable store.old.disk store.new.disk result }
+        ensures { let d = decides store.old.node (server_seen self.old store.old) now received.now in
+            Took D.Disk now d (turned_then self.old store.old now d received.now) self.old self.new store.old store.new result }
     {
         match &message.carried {
             Carried::Call { .. } => { self.take_call(store, &message.head, received, now) }
@@ -233,15 +199,10 @@ impl FileServer {
         received: &Received,
         now: u32,
     ) -> Result<Outs, NodeFault>
-        requires serves { Serves store.old.node self.old store.old.durable }
-        requires draws { CanDraw self.old store.old.drawn }
-        requires up { store.old.closed ≡ false }
+        requires can { CanStep self.old store.old now }
         requires sound { IsSoundReceived received.now }
-        requires now { now ≤ 1000000000 }
-        ensures does { let d = decides store.old.node (server_seen self.old store.old) now received.now in
-            DoesAll now d (turned_then self.old store.old now d received.now) self.old self.new store.old store.new result }
-        ensures disk { let d = decides store.old.node (server_seen self.old store.old) now received.now in
-            OnDisk D.seen D.left_by D.size D.may_leave D.moment D.left_since D.faults D.own_faults D.calls D.setting D.limit (record_decided store.old.durable.boot now d) store.old.durable store.old.disk store.new.disk result }
+        ensures { let d = decides store.old.node (server_seen self.old store.old) now received.now in
+            Took D.Disk now d (turned_then self.old store.old now d received.now) self.old self.new store.old store.new result }
     {
         match received {
             Received::Nothing => self.take_nothing(store, now),
@@ -258,14 +219,9 @@ impl FileServer {
         bytes: &[u8],
         now: u32,
     ) -> Result<Outs, NodeFault>
-        requires serves { Serves store.old.node self.old store.old.durable }
-        requires draws { CanDraw self.old store.old.drawn }
-        requires up { store.old.closed ≡ false }
-        requires now { now ≤ 1000000000 }
-        ensures does { let d = decided_then self.old store.old now bytes.now in
-            DoesAll now d (turned_then self.old store.old now d (received_by calls_served bytes.now)) self.old self.new store.old store.new result }
-        ensures disk { let d = decided_then self.old store.old now bytes.now in
-            OnDisk D.seen D.left_by D.size D.may_leave D.moment D.left_since D.faults D.own_faults D.calls D.setting D.limit (record_decided store.old.durable.boot now d) store.old.durable store.old.disk store.new.disk result }
+        requires can { CanStep self.old store.old now }
+        ensures took { let d = decided_then self.old store.old now bytes.now in
+            Took D.Disk now d (turned_then self.old store.old now d (received_by calls_served bytes.now)) self.old self.new store.old store.new result }
         ensures found { FindsMessages calls_served bytes.now }
     {
         let received = read_message(self.alloc, &CALLS, bytes)?;
@@ -281,16 +237,16 @@ impl FileServer {
         bytes: &[u8],
         now: u32,
     ) -> Result<Outs, NodeFault>
-        requires serves { Serves store.old.node self.old store.old.durable }
+        requires serves { ServesOver self.old store.old }
         requires draws { CanDraw self.old store.old.drawn }
         requires up { store.old.closed ≡ false }
         requires now { now ≤ 1000000000 }
         ensures step { (place : ℕ) → Handles (server_row store.old.node (server_seen self.old store.old) now place (received_by calls_served bytes.now)) (lines.Given place ∷ []) self.old self.new store.old store.new result }
         ensures found { FindsMessages calls_served bytes.now }
-        ensures serves { OnOk result (Serves store.new.node self.new store.new.durable) }
+        ensures serves { OnOk result (ServesOver self.new store.new) }
 
         // A disk that tells goes on telling, whatever the result.
-        ensures told { IsSome (D.seen store.new.disk) ↔ IsSome (D.seen store.old.disk) }
+        ensures told { TellsOn D.Disk store.old.disk store.new.disk }
 
         ensures store { OnOk result (store.new ≡ record store.old { durable = store.new.durable; disk = store.new.disk; prepared = store.new.prepared; count = store.new.count; drawn = store.new.drawn }) }
         ensures kept { OnOk result (IsDone (record_then self.old store.old now bytes.now) store.old store.new) }
@@ -305,17 +261,17 @@ impl FileServer {
 
         // Without a record the disk is left alone.
         ensures quiet { IsQuiet (record_then self.old store.old now bytes.now) result
-            → SameDisk D.seen D.left_by D.size D.may_leave D.moment D.left_since store.old.disk store.new.disk
-            × SameCounts D.faults D.own_faults D.calls D.setting D.limit store.old.disk store.new.disk }
+            → SameDiskBy D.Disk store.old.disk store.new.disk
+            × SameCountsBy D.Disk store.old.disk store.new.disk }
 
         // Else a crash at any moment leaves what was kept before, or what is kept with this record.
         ensures any_moment { (r : records.StoreRecord) → IsWritten r (record_then self.old store.old now bytes.now) result
-            → (bytes : List ℕ) → D.seen store.old.disk ≡ Some bytes → LeavesOnly D.moment D.left_since store.old.disk store.new.disk (LeftAround (whole_records bytes) r store.old.durable) }
+            → (bytes : List ℕ) → D.seen store.old.disk ≡ Some bytes → LeavesOnlyBy D.Disk store.old.disk store.new.disk (LeftAround (whole_records bytes) r store.old.durable) }
 
         // Where the disk was set to stop or to fail at one of the calls, that one tells what a crash with each pick leaves.
-        ensures reached { IsErrOf result faults.Down → ReachesCall (D.setting store.old.disk) (D.calls store.old.disk) (D.calls store.new.disk) }
+        ensures reached { IsErrOf result faults.Down → ReachesBy D.Disk store.old.disk store.new.disk }
         ensures left { IsErrOf result faults.Down → (r : records.StoreRecord) → record_then self.old store.old now bytes.now ≡ Some r
-            → (bytes : List ℕ) → D.seen store.old.disk ≡ Some bytes → LeavesByPick D.left_by D.calls D.setting (whole_records bytes) (record_bytes r) store.old.disk store.new.disk }
+            → (bytes : List ℕ) → D.seen store.old.disk ≡ Some bytes → LeavesByPickOf D.Disk (whole_records bytes) (record_bytes r) store.old.disk store.new.disk }
 
         ensures fits { (r : records.StoreRecord) → IsWritten r (record_then self.old store.old now bytes.now) result → FitsRecord r }
 
@@ -323,10 +279,10 @@ impl FileServer {
         ensures effects { (r : records.StoreRecord) → IsWritten r (record_then self.old store.old now bytes.now) result
             → (ls : List Line) → (begun_after store.old.node (server_seen self.old store.old) now (decided_then self.old store.old now bytes.now)).before ls ≡ map in_words (effect_of store.old.node r store.old.durable) ++ ls }
 
-        ensures most { (D.calls store.old.disk ≤ D.calls store.new.disk) × (D.calls store.new.disk ≤ D.calls store.old.disk + 4) }
+        ensures most { CallsAtMost 4 D.Disk store.old.disk store.new.disk }
         ensures limit { D.limit store.new.disk ≡ D.limit store.old.disk }
         ensures calls { OnOk result (D.calls store.new.disk ≡ D.calls store.old.disk + device_calls (server_seen self.old store.old) now (decided_then self.old store.old now bytes.now)) }
-        ensures ran { Ran (D.setting store.old.disk) (D.calls store.old.disk) (D.calls store.new.disk) (D.faults store.old.disk) (D.faults store.new.disk) (D.own_faults store.old.disk) (D.own_faults store.new.disk) result }
+        ensures ran { RanOn D.Disk store.old.disk store.new.disk result }
         ensures setting { D.setting store.new.disk ≡ D.setting store.old.disk }
     {
         self.take_bytes(store, bytes, now)

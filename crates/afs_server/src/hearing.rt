@@ -1,9 +1,8 @@
 //! What a server does with replies and notices to its own calls.
 ghost use Rattle.afs_rows.specs.Callbacks.{renews, settles};
 ghost use Rattle.afs_server_parts.specs.Called.{IsGoodCall, IsGoodOrNone};
-ghost use Rattle.afs_server.specs.Handling.{backs_then, Turns};
+ghost use Rattle.afs_server.specs.Handling.{backs_then, Turns, ServesOver};
 ghost use Rattle.afs_server.specs.Hearing.{answered_turn, noticed_turn, renewed_turn, settled_turn};
-ghost use Rattle.afs_server.specs.Seen.{Serves};
 
 use crate::ending::stand;
 use crate::server::FileServer;
@@ -22,7 +21,7 @@ impl FileServer {
         call: &BreakCall,
         now: u32,
     ) -> Mem<Outs>
-        requires serves { Serves store.old.node self.old store.old.durable }
+        requires serves { ServesOver self.old store.old }
         ensures { Turns (settles store.old.node node call.now (backs_then self.old store.old now)) self.old self.new store.old store.new result }
     {
         let ended = self
@@ -42,7 +41,7 @@ impl FileServer {
         call: &BreakCall,
         now: u32,
     ) -> Mem<Outs>
-        requires serves { Serves store.old.node self.old store.old.durable }
+        requires serves { ServesOver self.old store.old }
         requires good { IsGoodCall node call.now }
         ensures { Turns (renews store.old.node store.old.durable.boot node known call.now (backs_then self.old store.old now)) self.old self.new store.old store.new result }
     {
@@ -61,7 +60,7 @@ impl FileServer {
         call: Option<BreakCall>,
         now: u32,
     ) -> Mem<Outs>
-        requires serves { Serves store.old.node self.old store.old.durable }
+        requires serves { ServesOver self.old store.old }
         ensures { Turns (settled_turn store.old.node head.now (backs_then self.old store.old now) call) self.old self.new store.old store.new result }
     {
         match call {
@@ -84,7 +83,7 @@ impl FileServer {
         call: Option<BreakCall>,
         now: u32,
     ) -> Mem<Outs>
-        requires serves { Serves store.old.node self.old store.old.durable }
+        requires serves { ServesOver self.old store.old }
         requires good { IsGoodOrNone head.now.from call }
         ensures { Turns (renewed_turn store.old.node store.old.durable.boot head.now (backs_then self.old store.old now) call) self.old self.new store.old store.new result }
     {
@@ -107,7 +106,7 @@ impl FileServer {
         head: &Head,
         now: u32,
     ) -> Mem<Outs>
-        requires serves { Serves store.old.node self.old store.old.durable }
+        requires serves { ServesOver self.old store.old }
         ensures { Turns (answered_turn store.old.node store.old.durable.boot head.now (backs_then self.old store.old now)) self.old self.new store.old store.new result }
     {
         let call = self
@@ -124,7 +123,7 @@ impl FileServer {
         head: &Head,
         now: u32,
     ) -> Mem<Outs>
-        requires serves { Serves store.old.node self.old store.old.durable }
+        requires serves { ServesOver self.old store.old }
         ensures { Turns (noticed_turn store.old.node store.old.durable.boot head.now (backs_then self.old store.old now)) self.old self.new store.old store.new result }
     {
         let call = self

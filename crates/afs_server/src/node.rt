@@ -6,7 +6,7 @@ ghost use Rattle.afs_server.specs.declared.faults.NodeFault.TheVariants as fault
 ghost use Rattle.afs_rows.specs.ServerSteps.{back_timeout_row, wake_row};
 ghost use Rattle.afs_rows.specs.States as rows;
 ghost use Rattle.afs_server_parts.specs.Called.{call_to};
-ghost use Rattle.afs_server.specs.Handling.{server_seen, Handles, Makes};
+ghost use Rattle.afs_server.specs.Handling.{server_seen, Handles, Makes, ServesOver};
 ghost use Rattle.afs_server.specs.Seen.{begun_step, waits_by, CanDraw, Serves};
 
 use crate::ending::stand;
@@ -45,12 +45,12 @@ impl FileServer {
         callee: Node,
         now: u32,
     ) -> Result<Outs, NodeFault>
-        requires serves { Serves store.old.node self.old store.old.durable }
+        requires serves { ServesOver self.old store.old }
         requires draws { CanDraw self.old store.old.drawn }
         requires now { now ≤ 1000000000 }
         requires waits { IsSome (call_to self.old.callees callee) }
         ensures step { (c : rows.BackCall) → call_to self.old.callees callee ≡ Some c → Handles (back_timeout_row store.old.node (server_seen self.old store.old) now callee c) [] self.old self.new store.old store.new result }
-        ensures serves { OnOk result (Serves store.new.node self.new store.new.durable) }
+        ensures serves { OnOk result (ServesOver self.new store.new) }
         ensures draws { OnOk result ((store.new.drawn ≤ store.old.drawn + 204) × (self.new.lists.last_owed + length self.new.lists.promises ≤ self.old.lists.last_owed + length self.old.lists.promises)) }
         ensures store { store.new ≡ record store.old { drawn = store.new.drawn } }
         ensures up { IsErrOf result faults.Down → ⊥ }
@@ -63,11 +63,11 @@ impl FileServer {
     /// Time has passed.
     #[tactic(auto, unfolding(afs_rows::specs::ServerSteps::wake_row))]
     pub fn wake<D: Disk>(&mut self, store: &mut VolStore<D>, now: u32) -> Result<Outs, NodeFault>
-        requires serves { Serves store.old.node self.old store.old.durable }
+        requires serves { ServesOver self.old store.old }
         requires draws { CanDraw self.old store.old.drawn }
         requires now { now ≤ 1000000000 }
         ensures step { Handles (wake_row store.old.node (server_seen self.old store.old) now) [] self.old self.new store.old store.new result }
-        ensures serves { OnOk result (Serves store.new.node self.new store.new.durable) }
+        ensures serves { OnOk result (ServesOver self.new store.new) }
         ensures draws { OnOk result ((store.new.drawn ≤ store.old.drawn + 204) × (self.new.lists.last_owed + length self.new.lists.promises ≤ self.old.lists.last_owed + length self.old.lists.promises)) }
         ensures store { store.new ≡ record store.old { drawn = store.new.drawn } }
         ensures up { IsErrOf result faults.Down → ⊥ }

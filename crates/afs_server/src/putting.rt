@@ -2,26 +2,23 @@
 
 ghost use Rattle.std.specs.Prelude.{◌≡◌, ◌≤◌, ◌<◌, ◌+◌, Some, false, true, length, pos, IfOk, IsErrOf, IsSome};
 ghost use Rattle.afs_num.specs.declared.records.StoreRecord as records;
-ghost use Rattle.afs_disk.specs.Disk.{SameDisk};
-ghost use Rattle.afs_journal.specs.Log.{SameCounts};
+ghost use Rattle.afs_disk.specs.Words.{SameDiskBy};
+ghost use Rattle.afs_journal.specs.Words.{SameCountsBy};
 ghost use Rattle.afs_ideal.specs.Tables.{get};
-ghost use Rattle.afs_breaks.specs.Promises.{lasting};
-ghost use Rattle.afs_model.specs.Calls.{call_seat, paired, runs};
 ghost use Rattle.afs_model.specs.Heads.{IsSoundHead};
 ghost use Rattle.afs_records.specs.Durable.{folded, has_room};
 ghost use Rattle.afs_records.specs.Records.{FitsRecord};
 ghost use Rattle.afs_rows.specs.ServerRow as rows;
 ghost use Rattle.afs_rows.specs.ServerRow.{is_client, roomed};
-ghost use Rattle.afs_message.specs.Spelled.{IsSpelling};
 ghost use Rattle.afs_memory.specs.Named.{IsNamed};
 ghost use Rattle.afs_decisions.specs.Deciding.{CanBeTold, IsMade};
-ghost use Rattle.afs_callbacks.specs.Saving.{CanBeWritten, hits_each};
-ghost use Rattle.afs_server.specs.Handling.{turn_then, record_decided, server_seen, RefusesNow};
-ghost use Rattle.afs_server.specs.Putting.{Commits, DoesAll, OnDisk, Prepares};
-ghost use Rattle.afs_server.specs.Saving.{Puts};
-ghost use Rattle.afs_server.specs.Seen.{CanDraw, Serves};
+ghost use Rattle.afs_callbacks.specs.Saving.{CanBeWritten};
+ghost use Rattle.afs_server.specs.Handling.{turn_then, server_seen, RefusesNow, CanStep, ServesOver};
+ghost use Rattle.afs_server.specs.Putting.{Commits, OnDisk, Prepares, Took};
+ghost use Rattle.afs_server.specs.Saving.{Puts, CanPut};
 ghost use Rattle.afs_decisions.specs.declared.decided.Decided.TheVariants as decided;
 ghost use Rattle.afs_server.specs.declared.faults.NodeFault.TheVariants as faults;
+ghost use Rattle.afs_server.specs.Answering.{IsToRun};
 
 use crate::answering::keep_reply;
 use crate::ending::stand;
@@ -51,8 +48,8 @@ fn prepare<D: Disk>(store: &mut VolStore<D>, rec: &StoreRecord, names: ReadyName
     requires named { IsNamed rec.now.body names }
     ensures room { IfOk result (λ b. b ≡ has_room store.old.durable rec.now) }
     ensures prepares { Prepares rec.now store.old store.new result }
-    ensures disk { SameDisk D.seen D.left_by D.size D.may_leave D.moment D.left_since store.old.disk store.new.disk }
-    ensures counts { SameCounts D.faults D.own_faults D.calls D.setting D.limit store.old.disk store.new.disk }
+    ensures disk { SameDiskBy D.Disk store.old.disk store.new.disk }
+    ensures counts { SameCountsBy D.Disk store.old.disk store.new.disk }
 {
     match store.prepare_change(rec, names) {
         Ok(()) => Ok(true),
@@ -68,7 +65,7 @@ fn commit<D: Disk>(store: &mut VolStore<D>) -> Result<(), NodeFault>
     requires fits { (r : records.StoreRecord) → store.old.prepared ≡ Some r → FitsRecord r }
     requires up { store.old.closed ≡ false }
     ensures commits { (r : records.StoreRecord) → store.old.prepared ≡ Some r → Commits r store.old store.new result }
-    ensures disk { (r : records.StoreRecord) → store.old.prepared ≡ Some r → OnDisk D.seen D.left_by D.size D.may_leave D.moment D.left_since D.faults D.own_faults D.calls D.setting D.limit (Some r) store.old.durable store.old.disk store.new.disk result }
+    ensures disk { (r : records.StoreRecord) → store.old.prepared ≡ Some r → OnDisk D.Disk (Some r) store.old.durable store.old.disk store.new.disk result }
 {
     match store.commit() {
         Ok(()) => Ok(()),
@@ -85,17 +82,10 @@ impl FileServer {
         planned: Planned,
         now: u32,
     ) -> Result<Outs, NodeFault>
-        requires runs { paired head.now.epoch head.now.number (call_seat head.now.from self.old.seats) ≡ runs }
-        requires draws { self.old.lists.last_owed + length self.old.lists.promises + length planned.granted ≤ 4000000000 }
-        requires withdraws { planned.withdrawn.items ≡ hits_each head.now.from planned.changed (lasting now self.old.lists.promises) }
-        requires drawn { store.old.drawn ≤ planned.ended.last }
-        requires spelling { IsSpelling planned.kept }
-        requires up { store.old.closed ≡ false }
+        requires can { CanPut head.now now planned self.old store.old }
         requires prepared { store.old.prepared ≡ Some planned.rec }
-        requires fits { FitsRecord planned.rec }
-        requires now { now ≤ 1000000000 }
         ensures puts { Puts head.now now planned self.old self.new store.old store.new result }
-        ensures disk { OnDisk D.seen D.left_by D.size D.may_leave D.moment D.left_since D.faults D.own_faults D.calls D.setting D.limit (Some planned.rec) store.old.durable store.old.disk store.new.disk result }
+        ensures disk { OnDisk D.Disk (Some planned.rec) store.old.durable store.old.disk store.new.disk result }
     {
         self.callers.reserve(1)?;
         self.callbacks
@@ -115,9 +105,9 @@ impl FileServer {
         head: &Head,
         now: u32,
     ) -> Result<Outs, NodeFault>
-        requires serves { Serves store.old.node self.old store.old.durable }
+        requires serves { ServesOver self.old store.old }
         requires head { IsSoundHead head.now }
-        requires runs { paired head.now.epoch head.now.number (call_seat head.now.from self.old.seats) ≡ runs }
+        requires runs { IsToRun head.now self.old.seats }
         ensures answers { RefusesNow head.now (pos 108) now self.old self.new store.old store.new result }
         ensures up { IsErrOf result faults.Down → ⊥ }
     {
@@ -134,19 +124,12 @@ impl FileServer {
         planned: Planned,
         now: u32,
     ) -> Result<Outs, NodeFault>
-        requires serves { Serves store.old.node self.old store.old.durable }
+        requires serves { ServesOver self.old store.old }
         requires head { IsSoundHead head.now }
-        requires runs { paired head.now.epoch head.now.number (call_seat head.now.from self.old.seats) ≡ runs }
-        requires draws { self.old.lists.last_owed + length self.old.lists.promises + length planned.granted ≤ 4000000000 }
-        requires withdraws { planned.withdrawn.items ≡ hits_each head.now.from planned.changed (lasting now self.old.lists.promises) }
-        requires drawn { store.old.drawn ≤ planned.ended.last }
-        requires spelling { IsSpelling planned.kept }
-        requires up { store.old.closed ≡ false }
+        requires can { CanPut head.now now planned self.old store.old }
         requires prepared { room ≡ true → store.old.prepared ≡ Some planned.rec }
-        requires fits { FitsRecord planned.rec }
-        requires now { now ≤ 1000000000 }
         ensures puts { room ≡ true → Puts head.now now planned self.old self.new store.old store.new result }
-        ensures disk { room ≡ true → OnDisk D.seen D.left_by D.size D.may_leave D.moment D.left_since D.faults D.own_faults D.calls D.setting D.limit (Some planned.rec) store.old.durable store.old.disk store.new.disk result }
+        ensures disk { room ≡ true → OnDisk D.Disk (Some planned.rec) store.old.durable store.old.disk store.new.disk result }
         ensures answers { room ≡ false → RefusesNow head.now (pos 108) now self.old self.new store.old store.new result }
         ensures up { room ≡ false → IsErrOf result faults.Down → ⊥ }
     {
@@ -166,20 +149,16 @@ impl FileServer {
         change: ReadyChange,
         now: u32,
     ) -> Result<Outs, NodeFault>
-        requires serves { Serves store.old.node self.old store.old.durable }
-        requires draws { CanDraw self.old store.old.drawn }
-        requires up { store.old.closed ≡ false }
+        requires can { CanStep self.old store.old now }
         requires head { IsSoundHead head.now }
         requires client { is_client head.now.from ≡ true }
-        requires runs { paired head.now.epoch head.now.number (call_seat head.now.from self.old.seats) ≡ runs }
+        requires runs { IsToRun head.now self.old.seats }
         requires told { CanBeTold head.now.opcode (decided.Changes id change) }
         requires fits { CanBeWritten change }
         requires made { (c : rows.Change) × ((get id store.old.durable.volumes ≡ Some c.before) × IsMade now id c change) }
-        requires now { now ≤ 1000000000 }
-        ensures does { (c : rows.Change) → get id store.old.durable.volumes ≡ Some c.before → IsMade now id c change →
-            DoesAll now (roomed (server_seen self.old store.old) now head.now c) (turn_then self.old store.old now (roomed (server_seen self.old store.old) now head.now c)) self.old self.new store.old store.new result }
-        ensures disk { (c : rows.Change) → get id store.old.durable.volumes ≡ Some c.before → IsMade now id c change →
-            OnDisk D.seen D.left_by D.size D.may_leave D.moment D.left_since D.faults D.own_faults D.calls D.setting D.limit (record_decided store.old.durable.boot now (roomed (server_seen self.old store.old) now head.now c)) store.old.durable store.old.disk store.new.disk result }
+        ensures { (c : rows.Change) → get id store.old.durable.volumes ≡ Some c.before → IsMade now id c change →
+            let d = roomed (server_seen self.old store.old) now head.now c in
+            Took D.Disk now d (turn_then self.old store.old now d) self.old self.new store.old store.new result }
     {
         let (change, names) = change.into_parts();
         let planned = self

@@ -4,7 +4,7 @@ ghost use Rattle.std.specs.Prelude.{◌≡◌, ◌≤◌, length, IfOk, Ok, Some
 ghost use Rattle.afs_ideal.specs.Operations.{the_user};
 ghost use Rattle.afs_ideal.specs.Tables.{get};
 ghost use Rattle.afs_rows.specs.ServerRow.{sight_in, sights, several};
-ghost use Rattle.afs_decisions.specs.Deciding.{CanBeTold, Decides, FitsDecided};
+ghost use Rattle.afs_decisions.specs.Deciding.{IsDecision};
 ghost use Rattle.afs_server.specs.Handling.{server_seen};
 ghost use Rattle.afs_decisions.specs.Several.{Sees, SeesAll, TellsNext};
 
@@ -70,9 +70,7 @@ impl FileServer {
     ) -> Mem<Decided>
         requires few { length fids.now ≤ 50 }
         requires opcode { head.now.opcode ≡ 155 }
-        ensures decides { IfOk result (λ d. Decides (server_seen self.now store.now) now head.now (several head.now (the_user user.now) (sights store.now.durable.volumes (the_user user.now) fids.now)) d) }
-        ensures told { IfOk result (λ d. CanBeTold head.now.opcode d) }
-        ensures fits { IfOk result FitsDecided }
+        ensures { IfOk result (IsDecision (server_seen self.now store.now) now head.now (several head.now (the_user user.now) (sights store.now.durable.volumes (the_user user.now) fids.now))) }
     {
         let _ = head.opcode;
         let _ = now;

@@ -1,21 +1,16 @@
 //! What a server tells of its volumes, and what it promises with that.
 
 ghost use Rattle.std.specs.Prelude.{◌≡◌, ◌≤◌, ◌+◌, [], map, OnErr, OnOk};
-ghost use Rattle.afs_num.specs.declared.messages.Reply.TheVariants as tell;
-ghost use Rattle.afs_shape.specs.Rows.{IsWithin};
-ghost use Rattle.afs_model.specs.Calls.{call_seat, paired, runs};
-ghost use Rattle.afs_model.specs.CellRows.{cell_replies, reply_number};
-ghost use Rattle.afs_model.specs.Heads.{IsSoundHead};
 ghost use Rattle.afs_breaks.specs.Promises.{expired, grants_all};
 ghost use Rattle.afs_rows.specs.Callbacks.{gives_up_all, grants_found};
 ghost use Rattle.afs_rows.specs.ServerRow as row;
 ghost use Rattle.afs_rows.specs.ServerRow.{granted, read_reply_to, replied};
 ghost use Rattle.afs_message.specs.Spelled.{IsSpelling};
 ghost use Rattle.afs_server_parts.specs.declared.telling.Grant as told;
-ghost use Rattle.afs_server.specs.Answering.{KeepsReply};
+ghost use Rattle.afs_server.specs.Answering.{KeepsReply, IsToRun};
 ghost use Rattle.afs_decisions.specs.Deciding.{IsReading};
-ghost use Rattle.afs_server.specs.Handling.{AnswersNow};
-ghost use Rattle.afs_server.specs.Seen.{Serves};
+ghost use Rattle.afs_server.specs.Handling.{AnswersNow, ServesOver};
+ghost use Rattle.afs_callbacks.specs.Answering.{CanTell};
 
 use crate::answering::keep_reply;
 use crate::ending::stand;
@@ -43,7 +38,7 @@ fn keep_granted(
     grants: &[Grant],
     expiry: u32,
 ) -> Mem<()>
-    requires runs { paired head.now.epoch head.now.number (call_seat head.now.from callers.old.seats) ≡ runs }
+    requires runs { IsToRun head.now callers.old.seats }
     requires spelling { IsSpelling reply }
     ensures boot { callers.new.boot ≡ callers.old.boot }
     ensures seats { OnOk result (KeepsReply head.now reply callers.old.seats callers.new.seats) }
@@ -67,11 +62,9 @@ impl FileServer {
         grants: &[Grant],
         now: u32,
     ) -> Mem<Outs>
-        requires serves { Serves store.old.node self.old store.old.durable }
-        requires head { IsSoundHead head.now }
-        requires opcode { head.now.opcode ≡ reply_number (tell.File told) }
-        requires within { IsWithin cell_replies (tell.File told) }
-        requires runs { paired head.now.epoch head.now.number (call_seat head.now.from self.old.seats) ≡ runs }
+        requires serves { ServesOver self.old store.old }
+        requires told { CanTell head.now told }
+        requires runs { IsToRun head.now self.old.seats }
         requires now { now ≤ 1000000000 }
         ensures { (r : row.Reading) → IsReading told grants.now r →
             AnswersNow head.now (read_reply_to store.old.durable.boot head.now (now + 7200) r) (granted store.old.node head.now.from (now + 7200) r.granted []) (grants_found head.now.from (now + 7200) r.granted (gives_up_all head.now.from r.given_up (expired now self.old.lists))) self.old self.new store.old store.new result }

@@ -1,8 +1,7 @@
 //! A server's own calls wait too long, and time passes.
 ghost use Rattle.afs_rows.specs.Callbacks.{no_turn, timed};
 ghost use Rattle.afs_server_parts.specs.Called.{IsGoodCall};
-ghost use Rattle.afs_server.specs.Handling.{backs_then, Turns};
-ghost use Rattle.afs_server.specs.Seen.{Serves};
+ghost use Rattle.afs_server.specs.Handling.{backs_then, Turns, ServesOver};
 
 use crate::ending::stand;
 use crate::server::FileServer;
@@ -15,7 +14,7 @@ use afs_volstore::VolStore;
 impl FileServer {
     /// Nothing happens but that time has passed.
     pub(crate) fn pass<D: Disk>(&mut self, store: &mut VolStore<D>, now: u32) -> Mem<Outs>
-        requires serves { Serves store.old.node self.old store.old.durable }
+        requires serves { ServesOver self.old store.old }
         ensures { Turns (no_turn (backs_then self.old store.old now)) self.old self.new store.old store.new result }
     {
         let ended = self.callbacks().plan_wake(stand(store), now)?;
@@ -31,7 +30,7 @@ impl FileServer {
         call: &BreakCall,
         now: u32,
     ) -> Mem<Outs>
-        requires serves { Serves store.old.node self.old store.old.durable }
+        requires serves { ServesOver self.old store.old }
         requires good { IsGoodCall callee call.now }
         ensures { Turns (timed store.old.node store.old.durable.boot callee call.now (backs_then self.old store.old now)) self.old self.new store.old store.new result }
     {

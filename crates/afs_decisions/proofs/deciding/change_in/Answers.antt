@@ -8,17 +8,17 @@ use Rattle.afs_decisions.proofs.deciding.change_in.Goals as goal
 pub apply_ready-applied-requires-clause-on : goal.apply_ready-applied-requires-clause-on
 apply_ready-applied-requires-clause-on c = is_on c.args.call.now c.args.volume.now.head.id c.requires.on
 
-pub returns-clause-decides : goal.returns-clause-decides
-returns-clause-decides c s there =
-    let is : ChangesAs c.args.volume.now.head.id c.apply_ready-applied.result c.in_ok-decided.decided = subst (λ (h : VolumeHead). ChangesAs h.id c.apply_ready-applied.result c.in_ok-decided.decided) c.head.ensures.value c.in_ok-decided.ensures in
-    change_decides s c.args.now c.args.head.now (the_user c.args.user.now) c.args.volume.now c.args.call.now c.apply_ready-applied.result c.in_ok-decided.decided c.requires.on there c.apply_ready-applied.ensures.applies is
-
-pub returns-clause-told : goal.returns-clause-told
-returns-clause-told c =
-    let is : ChangesAs c.args.volume.now.head.id c.apply_ready-applied.result c.in_ok-decided.decided = subst (λ (h : VolumeHead). ChangesAs h.id c.apply_ready-applied.result c.in_ok-decided.decided) c.head.ensures.value c.in_ok-decided.ensures in
-    change_can_be_told c.args.head.now.opcode c.args.now (the_user c.args.user.now) c.args.volume.now c.args.call.now c.apply_ready-applied.result c.in_ok-decided.decided c.requires.opcode c.apply_ready-applied.ensures.applies c.apply_ready-applied.ensures.reply is
-
-pub returns-clause-fits : goal.returns-clause-fits
-returns-clause-fits c =
-    let is : ChangesAs c.args.volume.now.head.id c.apply_ready-applied.result c.in_ok-decided.decided = subst (λ (h : VolumeHead). ChangesAs h.id c.apply_ready-applied.result c.in_ok-decided.decided) c.head.ensures.value c.in_ok-decided.ensures in
-    change_fits c.args.now (the_user c.args.user.now) c.args.volume.now c.args.call.now c.apply_ready-applied.result c.in_ok-decided.decided c.requires.on c.apply_ready-applied.ensures.applies c.apply_ready-applied.ensures.fits is
+pub returns : goal.returns
+returns c =
+    let caller = the_user c.args.user.now in
+    let w = c.args.volume.now in
+    let call = c.args.call.now in
+    let x = c.apply_ready-applied.result in
+    let d = c.in_ok-decided.decided in
+    let applies = c.apply_ready-applied.ensures.applies in
+    let is : ChangesAs w.head.id x d = subst (λ (h : VolumeHead). ChangesAs h.id x d) c.head.ensures.value c.in_ok-decided.ensures in
+    record {
+      decides = λ s there. change_decides s c.args.now c.args.head.now caller w call x d c.requires.on there applies is;
+      told = change_can_be_told c.args.head.now.opcode c.args.now caller w call x d c.requires.call.opcode applies c.apply_ready-applied.ensures.reply is;
+      fits = change_fits c.args.now caller w call x d c.requires.on applies c.apply_ready-applied.ensures.fits is;
+    }

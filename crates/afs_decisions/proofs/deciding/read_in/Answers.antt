@@ -14,7 +14,7 @@ returns-clause-decides c s =
 pub returns-clause-told : goal.returns-clause-told
 returns-clause-told c =
     read_can_be_told c.args.head.now.opcode c.args.now (the_user c.args.user.now) c.args.volume.now c.args.call.now (first_server 0 []) c.args.head.now c.read-read.result c.in_ok-decided.decided
-    c.requires.opcode c.requires.reading c.requires.on c.read-read.ensures.replies (c.read-read.ensures.fits c.requires.fits) c.in_ok-decided.ensures
+    c.requires.call.opcode c.requires.reading c.requires.on c.read-read.ensures.replies (c.read-read.ensures.fits c.requires.call.fits) c.in_ok-decided.ensures
 
 pub returns-clause-fits : goal.returns-clause-fits
 returns-clause-fits c = read_fits c.args.call.now c.read-read.result c.in_ok-decided.decided c.in_ok-decided.ensures

@@ -4,7 +4,8 @@ use Rattle.afs_model.specs.Calls.{call_seated}
 use Rattle.afs_rows.specs.Callbacks.{gives_up_all}
 use Rattle.afs_rows.specs.ServerRow.{given_up_read, keeps, read_reply_to, seat_for}
 use Rattle.afs_server_parts.specs.declared.turns.Stand.{Stand}
-use Rattle.afs_callbacks.specs.Answering.{answer_turn, with_lists, IsRepliedNow}
+use Rattle.afs_server_parts.specs.Turning.{answer_turn}
+use Rattle.afs_callbacks.specs.Answering.{with_lists, IsRepliedNow}
 use Rattle.afs_callbacks.specs.States.{CallbackState}
 use Rattle.afs_callbacks.proofs.Granting.{given_up_owed, given_up_to_nodes}
 use Rattle.afs_callbacks.proofs.Lasting.{lasting_promised}

@@ -36,27 +36,27 @@ withdraw-requires-clause-held g c =
     let late : nat_lt now (now + 7200) ≡ true = lt-ltb now (now + 7200) (omega arith) in
     let given : c.deref.result.now ≡ p.withdrawn.items = c.deref.ensures.value ∙ c.into_rest-ended.ensures.withdrawn in
     subst (λ (ps : List Promise). length ps + length (without_found ps (lasting now c.grant.new.self.lists.promises)) ≤ length (lasting now c.grant.new.self.lists.promises)) (sym given)
-    (found_held n p.changed (lasting now c.grant.new.self.lists.promises) p.withdrawn.items (found_then now n (now + 7200) p.changed p.granted old c.grant.new.self.lists p.withdrawn.items late lists c.requires.withdraws))
+    (found_held n p.changed (lasting now c.grant.new.self.lists.promises) p.withdrawn.items (found_then now n (now + 7200) p.changed p.granted old c.grant.new.self.lists p.withdrawn.items late lists c.requires.can.withdraws))
 
 pub withdraw-requires-clause-number : goal.withdraw-requires-clause-number
 withdraw-requires-clause-number g c =
     let granted = ap (λ (k : CallbackState). k.lists) c.in_ok-grant.ensures.ok in
     let lists : c.grant.new.self.lists ≡ grants_all c.args.head.now.from (c.args.now + 7200) c.args.planned.granted c.args.self.now.lists = granted ∙ (λ i. grants_all c.args.head.now.from (c.args.now + 7200) (c.as_slice.ensures i) (c.self.view_is i).lists) in
-    all_few c.args.head.now.from (c.args.now + 7200) c.args.planned.granted c.args.self.now.lists c.grant.new.self.lists lists c.requires.draws
+    all_few c.args.head.now.from (c.args.now + 7200) c.args.planned.granted c.args.self.now.lists c.grant.new.self.lists lists c.requires.can.draws
 
 pub keep_reply-requires-clause-spelling : goal.keep_reply-requires-clause-spelling
-keep_reply-requires-clause-spelling g c = subst IsSpelling (sym c.into_rest-ended.ensures.kept) c.requires.spelling
+keep_reply-requires-clause-spelling g c = subst IsSpelling (sym c.into_rest-ended.ensures.kept) c.requires.can.spelling
 
 pub keep-outs-requires : goal.keep-outs-requires
 keep-outs-requires g c =
     let commits = c.in_ok-commit.ensures.commits c.args.planned.rec c.requires.prepared in
     let same : c.commit.new.store.drawn ≡ c.args.store.now.drawn = ap (λ (u : Store g.row.D.Denot). u.drawn) commits.0 in
     let last : c.into_rest-ended.result.0.last ≡ c.args.planned.ended.last = ap (λ (e : Ended). e.last) c.into_rest-ended.ensures.ended in
-    let drawn = c.requires.drawn in
+    let drawn = c.requires.can.drawn in
     omega (arith, same, last, drawn)
 
 pub commit-requires-clause-fits : goal.commit-requires-clause-fits
-commit-requires-clause-fits g c = λ r is. let same : c.args.planned.rec ≡ r = some_is _ r (sym c.requires.prepared ∙ is) in subst FitsRecord same c.requires.fits
+commit-requires-clause-fits g c = λ r is. let same : c.args.planned.rec ≡ r = some_is _ r (sym c.requires.prepared ∙ is) in subst FitsRecord same c.requires.can.fits
 
 pub returns-clause-puts : goal.returns-clause-puts
 returns-clause-puts g c =
@@ -70,7 +70,7 @@ returns-clause-puts g c =
     let granted = ap (λ (k : CallbackState). k.lists) c.in_ok-grant.ensures.ok in
     let promised : c.grant.new.self.lists ≡ grants_all head.from (now + 7200) p.granted old.lists = granted ∙ (λ i. grants_all head.from (now + 7200) (c.as_slice.ensures i) (c.self.view_is i).lists) in
     let late : nat_lt now (now + 7200) ≡ true = lt-ltb now (now + 7200) (omega arith) in
-    let then = found_then now head.from (now + 7200) p.changed p.granted old.lists c.grant.new.self.lists p.withdrawn.items late promised c.requires.withdraws in
+    let then = found_then now head.from (now + 7200) p.changed p.granted old.lists c.grant.new.self.lists p.withdrawn.items late promised c.requires.can.withdraws in
     let is : c.into_rest-ended.result.0 ≡ p.ended = c.into_rest-ended.ensures.ended in
     let given : c.deref.result.now ≡ p.withdrawn.items = c.deref.ensures.value ∙ c.into_rest-ended.ensures.withdrawn in
     let gone : c.withdraw.new.self.lists ≡ withdrawn (without_found p.withdrawn.items (lasting now c.grant.new.self.lists.promises)) p.withdrawn.items (expired now c.grant.new.self.lists) =
@@ -112,26 +112,26 @@ returns-clause-disk g c =
     let store : c.keep-outs.new.store ≡ record c.commit.new.store { drawn = c.into_rest-ended.result.0.last } = c.keep-outs.ensures.store in
     let disk = ap (λ (u : Store g.row.D.Denot). u.disk) store in
     let told = c.in_ok-commit.ensures.disk p.rec c.requires.prepared in
-    subst (λ (x : g.row.D.Denot). OfDisk g.D.Disk.seen g.D.Disk.left_by g.D.Disk.size g.D.Disk.may_leave g.D.Disk.moment g.D.Disk.left_since g.D.Disk.faults g.D.Disk.own_faults g.D.Disk.calls g.D.Disk.setting g.D.Disk.limit (Some p.rec) s.durable s.disk x (Ok c.keep-outs.result)) (sym disk)
-    (with_value g.D.Disk.seen g.D.Disk.left_by g.D.Disk.size g.D.Disk.may_leave g.D.Disk.moment g.D.Disk.left_since g.D.Disk.faults g.D.Disk.own_faults g.D.Disk.calls g.D.Disk.setting g.D.Disk.limit (Some p.rec) s.durable s.disk c.commit.new.store.disk tt c.keep-outs.result told)
+    subst (λ (x : g.row.D.Denot). OfDisk g.D.Disk (Some p.rec) s.durable s.disk x (Ok c.keep-outs.result)) (sym disk)
+    (with_value g.D.Disk (Some p.rec) s.durable s.disk c.commit.new.store.disk tt c.keep-outs.result told)
 
 pub returns-in_err-reserve-clause-disk : goal.returns-in_err-reserve-clause-disk
 returns-in_err-reserve-clause-disk g c =
     let s = c.args.store.now in
     let is = out_of_memory c.from_residual.result c.from_residual.ensures.1 in
-    subst (λ (r : Result Outs NodeFault). OfDisk g.D.Disk.seen g.D.Disk.left_by g.D.Disk.size g.D.Disk.may_leave g.D.Disk.moment g.D.Disk.left_since g.D.Disk.faults g.D.Disk.own_faults g.D.Disk.calls g.D.Disk.setting g.D.Disk.limit (Some c.args.planned.rec) s.durable s.disk s.disk r) (sym is)
-    (is_still g.D.Disk.seen g.D.Disk.left_by g.D.Disk.size g.D.Disk.may_leave g.D.Disk.moment g.D.Disk.left_since g.D.Disk.faults g.D.Disk.own_faults g.D.Disk.calls g.D.Disk.setting g.D.Disk.limit (Some c.args.planned.rec) s.durable s.disk s.disk (Err nodes.OutOfMemory) tt (same_disk g.D.Disk.seen g.D.Disk.left_by g.D.Disk.size g.D.Disk.may_leave g.D.Disk.moment g.D.Disk.left_since g.D.Disk.faults g.D.Disk.own_faults g.D.Disk.calls g.D.Disk.setting g.D.Disk.limit s.disk) (same_counts g.D.Disk.seen g.D.Disk.left_by g.D.Disk.size g.D.Disk.may_leave g.D.Disk.moment g.D.Disk.left_since g.D.Disk.faults g.D.Disk.own_faults g.D.Disk.calls g.D.Disk.setting g.D.Disk.limit s.disk))
+    subst (λ (r : Result Outs NodeFault). OfDisk g.D.Disk (Some c.args.planned.rec) s.durable s.disk s.disk r) (sym is)
+    (is_still g.D.Disk (Some c.args.planned.rec) s.durable s.disk s.disk (Err nodes.OutOfMemory) tt (same_disk g.D.Disk s.disk) (same_counts g.D.Disk s.disk))
 
 pub returns-in_err-grant-clause-disk : goal.returns-in_err-grant-clause-disk
 returns-in_err-grant-clause-disk g c =
     let s = c.args.store.now in
     let is = out_of_memory c.from_residual-in_err-grant.result c.from_residual-in_err-grant.ensures.1 in
-    subst (λ (r : Result Outs NodeFault). OfDisk g.D.Disk.seen g.D.Disk.left_by g.D.Disk.size g.D.Disk.may_leave g.D.Disk.moment g.D.Disk.left_since g.D.Disk.faults g.D.Disk.own_faults g.D.Disk.calls g.D.Disk.setting g.D.Disk.limit (Some c.args.planned.rec) s.durable s.disk s.disk r) (sym is)
-    (is_still g.D.Disk.seen g.D.Disk.left_by g.D.Disk.size g.D.Disk.may_leave g.D.Disk.moment g.D.Disk.left_since g.D.Disk.faults g.D.Disk.own_faults g.D.Disk.calls g.D.Disk.setting g.D.Disk.limit (Some c.args.planned.rec) s.durable s.disk s.disk (Err nodes.OutOfMemory) tt (same_disk g.D.Disk.seen g.D.Disk.left_by g.D.Disk.size g.D.Disk.may_leave g.D.Disk.moment g.D.Disk.left_since g.D.Disk.faults g.D.Disk.own_faults g.D.Disk.calls g.D.Disk.setting g.D.Disk.limit s.disk) (same_counts g.D.Disk.seen g.D.Disk.left_by g.D.Disk.size g.D.Disk.may_leave g.D.Disk.moment g.D.Disk.left_since g.D.Disk.faults g.D.Disk.own_faults g.D.Disk.calls g.D.Disk.setting g.D.Disk.limit s.disk))
+    subst (λ (r : Result Outs NodeFault). OfDisk g.D.Disk (Some c.args.planned.rec) s.durable s.disk s.disk r) (sym is)
+    (is_still g.D.Disk (Some c.args.planned.rec) s.durable s.disk s.disk (Err nodes.OutOfMemory) tt (same_disk g.D.Disk s.disk) (same_counts g.D.Disk s.disk))
 
 pub returns-in_err-commit-clause-disk : goal.returns-in_err-commit-clause-disk
 returns-in_err-commit-clause-disk g c =
     let s = c.args.store.now in
     let is = handed_up c.from_residual-in_err-commit.result c.in_err-commit.field-0.0 c.from_residual-in_err-commit.ensures.1 in
-    subst (λ (r : Result Outs NodeFault). OfDisk g.D.Disk.seen g.D.Disk.left_by g.D.Disk.size g.D.Disk.may_leave g.D.Disk.moment g.D.Disk.left_since g.D.Disk.faults g.D.Disk.own_faults g.D.Disk.calls g.D.Disk.setting g.D.Disk.limit (Some c.args.planned.rec) s.durable s.disk c.commit.new.store.disk r) (sym is)
-    (with_fault g.D.Disk.seen g.D.Disk.left_by g.D.Disk.size g.D.Disk.may_leave g.D.Disk.moment g.D.Disk.left_since g.D.Disk.faults g.D.Disk.own_faults g.D.Disk.calls g.D.Disk.setting g.D.Disk.limit (Some c.args.planned.rec) s.durable s.disk c.commit.new.store.disk c.in_err-commit.field-0.0 (c.in_err-commit.ensures.disk c.args.planned.rec c.requires.prepared))
+    subst (λ (r : Result Outs NodeFault). OfDisk g.D.Disk (Some c.args.planned.rec) s.durable s.disk c.commit.new.store.disk r) (sym is)
+    (with_fault g.D.Disk (Some c.args.planned.rec) s.durable s.disk c.commit.new.store.disk c.in_err-commit.field-0.0 (c.in_err-commit.ensures.disk c.args.planned.rec c.requires.prepared))

@@ -4,7 +4,8 @@ use Rattle.afs_breaks.specs.Promises.{expired}
 use Rattle.afs_model.specs.Calls.{call_seated}
 use Rattle.afs_rows.specs.ServerRow.{keeps, refusal, seat_for}
 use Rattle.afs_server_parts.specs.declared.turns.Stand.{Stand}
-use Rattle.afs_callbacks.specs.Answering.{answer_turn, with_lists, IsRepliedNow}
+use Rattle.afs_server_parts.specs.Turning.{answer_turn}
+use Rattle.afs_callbacks.specs.Answering.{with_lists, IsRepliedNow}
 use Rattle.afs_callbacks.specs.States.{CallbackState}
 use Rattle.afs_callbacks.proofs.Lasting.{lasting_promised}
 use Rattle.afs_callbacks.proofs.Planned.{answer_drawn}

@@ -9,11 +9,10 @@ use Rattle.afs_server_parts.specs.declared.turns.Stand.{Stand}
 use Rattle.afs_num.specs.declared.volumes.Change.{Change}
 use Rattle.afs_records.specs.Durable.{Durable}
 use Rattle.afs_rows.specs.Callbacks as row
-use Rattle.afs_rows.specs.Callbacks.{turn_for}
 use Rattle.afs_rows.specs.ServerRow.{roomed}
 use Rattle.afs_breaks.specs.Promises.{lasting}
 use Rattle.afs_callbacks.specs.States.{CallbackState, IsPromiseToNode}
-use Rattle.afs_server.specs.Handling.{record_decided, server_seen}
+use Rattle.afs_server.specs.Handling.{record_decided, server_seen, turn_then}
 use Rattle.afs_callbacks.specs.Answering.{reply_told}
 use Rattle.afs_callbacks.specs.Saving.{change_kept, fids_granted, hits_each, new_grants}
 use Rattle.afs_server.specs.Seen.{Serves}
@@ -26,19 +25,20 @@ use Rattle.afs_volume.specs.Seen.{IsReadable}
 use Rattle.afs_server.proofs.Roomed.{disk_all}
 use Rattle.afs_server.proofs.Making.{to_nodes}
 use Rattle.afs_server.proofs.Saves.{does_all, is_besides, is_taken, planned_as, same_store, wanting, was_prepared}
-use Rattle.afs_server.proofs.Still.{is_still, out_of_memory, same_counts, same_disk, OfDisk}
+use Rattle.afs_server.proofs.Still.{is_still, out_of_memory, OfDisk}
 use Rattle.afs_callbacks.proofs.Planned.{answer_drawn}
 use Rattle.afs_callbacks.proofs.Withdrawn.{few_granted}
 use Rattle.afs_server.proofs.server.FileServer.save.Goals as goal
+use Rattle.afs_server.proofs.Taken.{wants_took}
 
 pub plan_change-requires-clause-nodes : goal.plan_change-requires-clause-nodes
-plan_change-requires-clause-nodes g c = to_nodes c.args.store.now c.args.self.now c.stand.result c.callbacks.result.now c.stand.ensures c.callbacks.ensures c.requires.serves
+plan_change-requires-clause-nodes g c = to_nodes c.args.store.now c.args.self.now c.stand.result c.callbacks.result.now c.stand.ensures c.callbacks.ensures c.requires.can.serves
 
 pub plan_change-requires-clause-promised : goal.plan_change-requires-clause-promised
-plan_change-requires-clause-promised g c = subst (λ (k : CallbackState). All IsPromiseToNode k.lists.promises) (sym c.callbacks.ensures) c.requires.serves.promises
+plan_change-requires-clause-promised g c = subst (λ (k : CallbackState). All IsPromiseToNode k.lists.promises) (sym c.callbacks.ensures) c.requires.can.serves.promises
 
 pub plan_change-requires-clause-draws : goal.plan_change-requires-clause-draws
-plan_change-requires-clause-draws g c = subst (λ (k : CallbackState). k.lists.last_owed + length k.lists.promises < 4000000000) (sym c.callbacks.ensures) c.requires.draws.breaks
+plan_change-requires-clause-draws g c = subst (λ (k : CallbackState). k.lists.last_owed + length k.lists.promises < 4000000000) (sym c.callbacks.ensures) c.requires.can.draws.breaks
 
 pub prepare-requires-clause-fits : goal.prepare-requires-clause-fits
 prepare-requires-clause-fits g c = c.in_ok-planned.ensures.fits
@@ -63,102 +63,70 @@ pub put_or_refuse-requires-clause-serves : goal.put_or_refuse-requires-clause-se
 put_or_refuse-requires-clause-serves g c =
     let mid = c.prepare.new.store in
     let besides = is_besides c.in_ok-planned.planned.rec c.args.store.now mid c.in_ok-room.room c.in_ok-room.ensures.prepares in
-    subst (λ (d : Durable). Serves mid.node c.args.self.now d) (sym besides.1.0) (subst (λ (n : Node). Serves n c.args.self.now c.args.store.now.durable) (sym besides.0) c.requires.serves)
+    subst (λ (d : Durable). Serves mid.node c.args.self.now d) (sym besides.1.0) (subst (λ (n : Node). Serves n c.args.self.now c.args.store.now.durable) (sym besides.0) c.requires.can.serves)
 
-pub put_or_refuse-requires-clause-draws : goal.put_or_refuse-requires-clause-draws
-put_or_refuse-requires-clause-draws g c =
-    let long = ap length (c.in_ok-planned.ensures.granted ∙ ap (λ (x : Change). fids_granted (new_grants x.reply)) c.into_parts-change.ensures.change) in
-    let few = few_granted c.args.change.reply in
-    let draws = c.requires.draws.breaks in
-    omega (arith, long, few, draws)
-
-pub put_or_refuse-requires-clause-withdraws : goal.put_or_refuse-requires-clause-withdraws
-put_or_refuse-requires-clause-withdraws g c =
-    c.in_ok-planned.ensures.withdrawn ∙ ap (λ (k : CallbackState). hits_each c.args.head.now.from c.in_ok-planned.planned.changed (lasting c.args.now k.lists.promises)) c.callbacks.ensures
-
-pub put_or_refuse-requires-clause-drawn : goal.put_or_refuse-requires-clause-drawn
-put_or_refuse-requires-clause-drawn g c =
-    let p = c.in_ok-planned.planned in
-    let besides = is_besides p.rec c.args.store.now c.prepare.new.store c.in_ok-room.room c.in_ok-room.ensures.prepares in
-    subst (λ (n : ℕ). n ≤ p.ended.last) (ap (λ (s : Stand). s.last) c.stand.ensures ∙ sym besides.1.1.0) (answer_drawn _ _ _ _ _ _ _ _ c.in_ok-planned.ensures.replied)
-
-pub put_or_refuse-requires-clause-spelling : goal.put_or_refuse-requires-clause-spelling
-put_or_refuse-requires-clause-spelling g c =
+pub put_or_refuse-requires-clause-can : goal.put_or_refuse-requires-clause-can
+put_or_refuse-requires-clause-can g c =
     let s = c.args.store.now in
     let p = c.in_ok-planned.planned in
-    let plan = planned_as s c.args.now c.args.head.now c.args.id c.into_parts-change.result.0 c.args.change c.args.self.now p c.stand.result c.callbacks.result.now c.into_parts-change.ensures.change c.stand.ensures c.callbacks.ensures c.in_ok-planned.ensures in
-    (reply_told c.args.store.now.durable.boot c.args.head.now (c.args.now + 7200) c.args.change.reply, plan.replied.kept)
-
-pub put_or_refuse-requires-clause-up : goal.put_or_refuse-requires-clause-up
-put_or_refuse-requires-clause-up g c =
-    let mid = c.prepare.new.store in
-    let besides = is_besides c.in_ok-planned.planned.rec c.args.store.now mid c.in_ok-room.room c.in_ok-room.ensures.prepares in
-    besides.1.1.1 ∙ c.requires.up
+    let made = c.in_ok-planned.ensures in
+    let besides = is_besides p.rec s c.prepare.new.store c.in_ok-room.room c.in_ok-room.ensures.prepares in
+    let long = ap length (made.granted ∙ ap (λ (x : Change). fids_granted (new_grants x.reply)) c.into_parts-change.ensures.change) in
+    let few = few_granted c.args.change.reply in
+    let draws = c.requires.can.draws.breaks in
+    let plan = planned_as s c.args.now c.args.head.now c.args.id c.into_parts-change.result.0 c.args.change c.args.self.now p c.stand.result c.callbacks.result.now c.into_parts-change.ensures.change c.stand.ensures c.callbacks.ensures made in
+    record {
+      runs = c.requires.runs;
+      draws = omega (arith, long, few, draws);
+      withdraws = made.withdrawn ∙ ap (λ (k : CallbackState). hits_each c.args.head.now.from p.changed (lasting c.args.now k.lists.promises)) c.callbacks.ensures;
+      drawn = subst (λ (n : ℕ). n ≤ p.ended.last) (ap (λ (x : Stand). x.last) c.stand.ensures ∙ sym besides.1.1.0) (answer_drawn _ _ _ _ _ _ _ _ made.replied);
+      spelling = (reply_told s.durable.boot c.args.head.now (c.args.now + 7200) c.args.change.reply, plan.replied.kept);
+      up = besides.1.1.1 ∙ c.requires.can.up;
+      fits = made.fits;
+      soon = c.requires.can.soon;
+    }
 
 pub put_or_refuse-requires-clause-prepared : goal.put_or_refuse-requires-clause-prepared
 put_or_refuse-requires-clause-prepared g c =
     λ has. ap (λ (u : Store g.row.D.Denot). u.prepared) (was_prepared c.in_ok-planned.planned.rec c.args.store.now c.prepare.new.store c.in_ok-room.room has c.in_ok-room.ensures.prepares)
 
-pub put_or_refuse-requires-clause-fits : goal.put_or_refuse-requires-clause-fits
-put_or_refuse-requires-clause-fits g c = c.in_ok-planned.ensures.fits
-
-pub returns-in_err-planned-clause-does : goal.returns-in_err-planned-clause-does
-returns-in_err-planned-clause-does g c =
-    λ k there made.
+pub returns-in_err-planned : goal.returns-in_err-planned
+returns-in_err-planned g c k there made =
     let s = c.args.store.now in
     let m = c.args.self.now in
     let d = roomed (server_seen m s) c.args.now c.args.head.now k in
-    let is = out_of_memory c.from_residual.result c.from_residual.ensures.1 in
-    wanting c.args.now d (turn_for s.node (server_seen m s) c.args.now (row.expired c.args.now (server_seen m s).backs) d) m s s c.from_residual.result is refl
+    wants_took g.D.Disk c.args.now d (turn_then m s c.args.now d) m m s s c.from_residual.result (out_of_memory c.from_residual.result c.from_residual.ensures.1) (refl, refl)
 
-pub returns-in_err-planned-clause-disk : goal.returns-in_err-planned-clause-disk
-returns-in_err-planned-clause-disk g c =
-    λ k there made.
-    let s = c.args.store.now in
-    let decided = record_decided s.durable.boot c.args.now (roomed (server_seen c.args.self.now s) c.args.now c.args.head.now k) in
-    let is = out_of_memory c.from_residual.result c.from_residual.ensures.1 in
-    subst (λ (r : Result Outs NodeFault). OfDisk g.D.Disk.seen g.D.Disk.left_by g.D.Disk.size g.D.Disk.may_leave g.D.Disk.moment g.D.Disk.left_since g.D.Disk.faults g.D.Disk.own_faults g.D.Disk.calls g.D.Disk.setting g.D.Disk.limit decided s.durable s.disk s.disk r) (sym is)
-    (is_still g.D.Disk.seen g.D.Disk.left_by g.D.Disk.size g.D.Disk.may_leave g.D.Disk.moment g.D.Disk.left_since g.D.Disk.faults g.D.Disk.own_faults g.D.Disk.calls g.D.Disk.setting g.D.Disk.limit decided s.durable s.disk s.disk (Err nodes.OutOfMemory) tt (same_disk g.D.Disk.seen g.D.Disk.left_by g.D.Disk.size g.D.Disk.may_leave g.D.Disk.moment g.D.Disk.left_since g.D.Disk.faults g.D.Disk.own_faults g.D.Disk.calls g.D.Disk.setting g.D.Disk.limit s.disk) (same_counts g.D.Disk.seen g.D.Disk.left_by g.D.Disk.size g.D.Disk.may_leave g.D.Disk.moment g.D.Disk.left_since g.D.Disk.faults g.D.Disk.own_faults g.D.Disk.calls g.D.Disk.setting g.D.Disk.limit s.disk))
-
-pub returns-in_err-room-clause-does : goal.returns-in_err-room-clause-does
-returns-in_err-room-clause-does g c =
-    λ k there made.
+pub returns-in_err-room : goal.returns-in_err-room
+returns-in_err-room g c k there made =
     let s = c.args.store.now in
     let m = c.args.self.now in
     let mid = c.prepare.new.store in
     let d = roomed (server_seen m s) c.args.now c.args.head.now k in
+    let decided = record_decided s.durable.boot c.args.now d in
     let is = out_of_memory c.from_residual-in_err-room.result c.from_residual-in_err-room.ensures.1 in
-    wanting c.args.now d (turn_for s.node (server_seen m s) c.args.now (row.expired c.args.now (server_seen m s).backs) d) m s mid c.from_residual-in_err-room.result is (same_store s mid c.in_err-room.ensures.prepares)
+    record {
+      does = wanting c.args.now d (turn_then m s c.args.now d) m s mid c.from_residual-in_err-room.result is (same_store s mid c.in_err-room.ensures.prepares);
+      disk =
+          subst (λ (r : Result Outs NodeFault). OfDisk g.D.Disk decided s.durable s.disk mid.disk r) (sym is)
+          (is_still g.D.Disk decided s.durable s.disk mid.disk (Err nodes.OutOfMemory) tt c.in_err-room.ensures.disk c.in_err-room.ensures.counts);
+    }
 
-pub returns-in_err-room-clause-disk : goal.returns-in_err-room-clause-disk
-returns-in_err-room-clause-disk g c =
-    λ k there made.
+pub returns : goal.returns
+returns g c k there made =
     let s = c.args.store.now in
-    let mid = c.prepare.new.store in
-    let decided = record_decided s.durable.boot c.args.now (roomed (server_seen c.args.self.now s) c.args.now c.args.head.now k) in
-    let is = out_of_memory c.from_residual-in_err-room.result c.from_residual-in_err-room.ensures.1 in
-    subst (λ (r : Result Outs NodeFault). OfDisk g.D.Disk.seen g.D.Disk.left_by g.D.Disk.size g.D.Disk.may_leave g.D.Disk.moment g.D.Disk.left_since g.D.Disk.faults g.D.Disk.own_faults g.D.Disk.calls g.D.Disk.setting g.D.Disk.limit decided s.durable s.disk mid.disk r) (sym is)
-    (is_still g.D.Disk.seen g.D.Disk.left_by g.D.Disk.size g.D.Disk.may_leave g.D.Disk.moment g.D.Disk.left_since g.D.Disk.faults g.D.Disk.own_faults g.D.Disk.calls g.D.Disk.setting g.D.Disk.limit decided s.durable s.disk mid.disk (Err nodes.OutOfMemory) tt c.in_err-room.ensures.disk c.in_err-room.ensures.counts)
-
-pub returns-clause-does : goal.returns-clause-does
-returns-clause-does g c =
-    let s = c.args.store.now in
+    let m = c.args.self.now in
     let p = c.in_ok-planned.planned in
-    let plan = planned_as s c.args.now c.args.head.now c.args.id c.into_parts-change.result.0 c.args.change c.args.self.now p c.stand.result c.callbacks.result.now c.into_parts-change.ensures.change c.stand.ensures c.callbacks.ensures c.in_ok-planned.ensures in
-    λ k there made.
+    let plan = planned_as s c.args.now c.args.head.now c.args.id c.into_parts-change.result.0 c.args.change m p c.stand.result c.callbacks.result.now c.into_parts-change.ensures.change c.stand.ensures c.callbacks.ensures c.in_ok-planned.ensures in
     let mid = c.prepare.new.store in
     let node = c.requires.head.0 in
+    let room = c.in_ok-room.ensures in
     let put = c.put_or_refuse.ensures in
-    does_all c.args.now c.args.id c.args.head.now k c.args.change c.args.self.now c.put_or_refuse.new.self c.args.store.now mid c.put_or_refuse.new.store c.in_ok-planned.planned
-    c.put_or_refuse.result c.in_ok-room.room c.in_ok-room.ensures.room c.in_ok-room.ensures.prepares there c.requires.now made node c.requires.serves plan put.puts put.answers put.up
-
-pub returns-clause-disk : goal.returns-clause-disk
-returns-clause-disk g c =
-    let s = c.args.store.now in
-    let p = c.in_ok-planned.planned in
-    let plan = planned_as s c.args.now c.args.head.now c.args.id c.into_parts-change.result.0 c.args.change c.args.self.now p c.stand.result c.callbacks.result.now c.into_parts-change.ensures.change c.stand.ensures c.callbacks.ensures c.in_ok-planned.ensures in
-    λ k there made.
-    let mid = c.prepare.new.store in
-    let put = c.put_or_refuse.ensures in
-    disk_all g.D.Disk.seen g.D.Disk.left_by g.D.Disk.size g.D.Disk.may_leave g.D.Disk.moment g.D.Disk.left_since g.D.Disk.faults g.D.Disk.own_faults g.D.Disk.calls g.D.Disk.setting g.D.Disk.limit c.args.now c.args.id c.args.head.now k c.args.change c.args.self.now c.put_or_refuse.new.self c.args.store.now mid c.put_or_refuse.new.store c.in_ok-planned.planned
-    c.put_or_refuse.result c.in_ok-room.room c.in_ok-room.ensures.room c.in_ok-room.ensures.prepares c.in_ok-room.ensures.disk c.in_ok-room.ensures.counts made plan put.disk put.answers put.up
+    record {
+      does =
+          does_all c.args.now c.args.id c.args.head.now k c.args.change m c.put_or_refuse.new.self s mid c.put_or_refuse.new.store p
+          c.put_or_refuse.result c.in_ok-room.room room.room room.prepares there c.requires.can.soon made node c.requires.can.serves plan put.puts put.answers put.up;
+      disk =
+          disk_all g.D.Disk c.args.now c.args.id c.args.head.now k c.args.change m c.put_or_refuse.new.self s mid c.put_or_refuse.new.store p
+          c.put_or_refuse.result c.in_ok-room.room room.room room.prepares room.disk room.counts made plan put.disk put.answers put.up;
+    }

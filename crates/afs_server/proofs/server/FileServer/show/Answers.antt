@@ -9,7 +9,8 @@ use Rattle.afs_server_parts.specs.Ending.{IsPlan}
 use Rattle.afs_server_parts.specs.Telling.{grant_line}
 use Rattle.afs_server_parts.specs.declared.telling.Grant.{Grant}
 use Rattle.afs_server_parts.specs.declared.turns.Stand.{Stand}
-use Rattle.afs_callbacks.specs.Answering.{answer_turn, reply_told, with_lists, IsRepliedNow}
+use Rattle.afs_server_parts.specs.Turning.{answer_turn}
+use Rattle.afs_callbacks.specs.Answering.{reply_told, with_lists, IsRepliedNow}
 use Rattle.afs_callbacks.specs.States.{CallbackState}
 use Rattle.afs_callbacks.proofs.Granting.{given_up_owed, given_up_to_nodes, granted_to_nodes, shown_lines, shown_lists}
 use Rattle.afs_callbacks.proofs.Lasting.{lasting_promised}
@@ -57,4 +58,4 @@ returns g c r is =
     let plan = subst (λ (ls : List Line). IsPlan (stand_of store) turn ls e) (shown_lines store.node head.from expiry grants r.granted is.grants_are) (replied.answer lists (given_up_owed head.from r.given_up lasting)) in
     steps state (granted store.node head.from expiry r.granted []) turn old c.keep_at-outs.new.self store c.keep_at-outs.new.store e c.keep_at-outs.result
     refl memory c.keep_at-outs.ensures.store c.keep_at-outs.ensures.outs plan c.requires.serves
-    (granted_to_nodes head.from expiry (fids_found r.granted) left c.requires.head.0 (given_up_to_nodes head.from r.given_up lasting (lasting_promised c.args.now old.lists.promises c.requires.serves.promises)))
+    (granted_to_nodes head.from expiry (fids_found r.granted) left c.requires.told.sound.0 (given_up_to_nodes head.from r.given_up lasting (lasting_promised c.args.now old.lists.promises c.requires.serves.promises)))

@@ -1,9 +1,9 @@
 use Rattle.std.proofs.Common.{◌≤◌, [], refl, subst}
 use Rattle.afs_rows.specs.Callbacks as row
 use Rattle.afs_rows.specs.ServerRow.{boot_told}
-use Rattle.afs_callbacks.specs.Answering.{sent_turn}
 use Rattle.afs_server_parts.specs.Ending.{IsPlanOf}
 use Rattle.afs_server_parts.specs.declared.turns.Stand.{Stand}
+use Rattle.afs_server_parts.specs.Turning.{sent_turn}
 use Rattle.afs_callbacks.specs.States.{backs_by, CallbackState}
 use Rattle.afs_callbacks.proofs.Lasting.{lasting_promised}
 use Rattle.afs_server.specs.Handling.{server_seen, stand_of}
