@@ -21,6 +21,7 @@ use Rattle.afs_ideal.specs.Directories.{directory_bytes, name_bytes, directory_o
 use Rattle.afs_ideal.specs.SetUp.{laid_at, acl_laid, led}
 use Rattle.afs_ideal.specs.VnodeImage.{image}
 use Rattle.afs_rows.specs.ClientRow.{begin_row, client_row}
+use Rattle.afs_rows.specs.LocSteps.{loc_row}
 use Rattle.afs_history.specs.declared.lines.Line.{Line}
 use Rattle.afs_records.specs.Records.{record_bytes, head_form, volume_form}
 use Rattle.afs_rows.specs.ServerSteps.{server_row, back_timeout_row, wake_row, start_row}
@@ -311,10 +312,10 @@ unfolding moved begin_row client_row server_row back_timeout_row wake_row start_
 row_statuses = refl
 
 -- a volume that no one knows
-row_unknown : told (start (script 1)) (begins 1 (acts.Open (operands.Path (record { volume = codes "nope"; names = codes "a" ∷ [] }))) ∷ begins 1 (acts.Stat (operands.Fid (record { volume = 7; vnode = 1; unique = 1 }))) ∷ []) ≡
-    lines.Begin (Client 1) (acts.Open (operands.Path (record { volume = codes "nope"; names = codes "a" ∷ [] }))) ∷ code 1 363524
-    ∷ lines.Begin (Client 1) (acts.Stat (operands.Fid (record { volume = 7; vnode = 1; unique = 1 }))) ∷ code 1 363524 ∷ []
-unfolding moved begin_row
+row_unknown : told (start (script 1)) (begins 1 (acts.Open (operands.Path (record { volume = codes "nope"; names = codes "a" ∷ [] }))) ∷ gives 1 steady ∷ gives 2 steady ∷ begins 1 (acts.Stat (operands.Fid (record { volume = 7; vnode = 1; unique = 1 }))) ∷ gives 3 steady ∷ gives 4 steady ∷ []) ≡
+    lines.Begin (Client 1) (acts.Open (operands.Path (record { volume = codes "nope"; names = codes "a" ∷ [] }))) ∷ lines.Given 1 ∷ lines.Given 2 ∷ code 1 363524
+    ∷ lines.Begin (Client 1) (acts.Stat (operands.Fid (record { volume = 7; vnode = 1; unique = 1 }))) ∷ lines.Given 3 ∷ lines.Given 4 ∷ code 1 363524 ∷ []
+unfolding moved begin_row loc_row
 row_unknown = refl
 
 -- a cache of one entry, and two files: each is fetched anew

@@ -3,18 +3,27 @@ use Rattle.std.specs.Prelude.{suc, zero, ◌||◌, Result, Ok, Err, ℕ, ◌+◌
 use Rattle.std.specs.List.{list_any, flat_map}
 use Rattle.afs_ideal.specs.Directories.{directory_of}
 use Rattle.afs_ideal.specs.Operations.{volume_called, volume_changed, is_number}
-use Rattle.afs_rows.specs.Going.{reads_of, ClientState, Going, Need, reads, reads_status, gives_back, answers, next, call_for, began, with_read}
+use Rattle.afs_rows.specs.Going.{reads_of, ClientState, Going, Left, Need, Seek, reads, reads_status, gives_back, locates, answers, next, call_for, began, with_read, base_of, filled, no_entry, find_location, operand_in, volume_at}
 use Rattle.afs_rows.specs.Scopes.{is_in_scope}
 use Rattle.afs_rows.specs.ServerRow.{replied, boot_told, seat_for, not_served, bad_fields}
-use Rattle.afs_records.specs.Entries.{site_of}
+use Rattle.afs_records.specs.Entries.{same_entry, site_of}
 use Rattle.afs_rows.specs.States.{CacheEntry, Gift, KnownBoot, Location, Seat}
 use Rattle.afs_rows.specs.Steps.{Step}
 use Rattle.afs_history.specs.declared.acts.Act.{Act}
+use Rattle.afs_history.specs.declared.acts.Operand.{Operand}
+use Rattle.afs_history.specs.declared.acts.Operand.TheVariants as operands
 use Rattle.afs_history.specs.declared.lines.Line.{Line}
 use Rattle.afs_history.specs.declared.lines.Line.TheVariants as lines
 use Rattle.afs_model.specs.Calls.{Admitted, admitted, call_seated, is_sent_again, last_timeout}
 use Rattle.afs_model.specs.Calls as pairs
+use Rattle.afs_model.specs.CellRows as cell_rows
 use Rattle.afs_model.specs.CellRows.{client_calls}
+use Rattle.afs_num.specs.declared.location_calls.LocCall.{LocCall}
+use Rattle.afs_num.specs.declared.location_calls.LocCall.TheVariants as loc
+use Rattle.afs_num.specs.declared.location_calls.LocEntry.{LocEntry}
+use Rattle.afs_num.specs.declared.location_calls.LocReply.{LocReply}
+use Rattle.afs_num.specs.declared.location_calls.LocReply.TheVariants as answered
+use Rattle.std.specs.Str.{bytes_eq}
 use Rattle.afs_model.specs.FsRows.{call_number}
 use Rattle.afs_shape.specs.Tables.{is_among}
 use Rattle.afs_num.specs.Fids.{same_fid}
@@ -122,7 +131,7 @@ entries_told server sync fs ss cs = []
 
 -- ---- calls
 
--- where a volume is. An act asks of none that the table lacks, or that has no site
+-- 1 stands where there is none: an act calls in no volume that its table lacks, or that has no site
 abbrev pub or_first : Option ℕ → ℕ
 or_first None = 1
 or_first (Some i) = i
@@ -134,8 +143,11 @@ abbrev pub server_or_first : Option Location → ℕ
 server_or_first None = 1
 server_or_first (Some l) = home_of l
 
-abbrev pub server_at : List Location → ℕ → ℕ
-server_at table id = server_or_first (find (λ l. nat_eq l.read_write id) table)
+-- Where the volume of this operand is: where the table has it now. A copy is asked for where its read-write volume is: the sites of
+-- copies aren't looked at yet.
+abbrev pub server_for : List Location → Option Operand → ℕ
+server_for table None = 1
+server_for table (Some o) = server_or_first (find_location table o)
 
 abbrev pub number_or_none : Option ℕ → ℕ
 number_or_none None = 0
@@ -204,9 +216,12 @@ call_by gifts need = call_for need
 abbrev pub call_of : ClientState → Going → FsCall
 call_of c act = call_by c.gifts (next act)
 
-abbrev pub callee_by : ClientState → Need → Node
-callee_by c gives_back = first_server_of c.gifts
-callee_by c need = nodes.Server (server_at c.table (volume_asked (call_for need)))
+abbrev pub callee_by : ClientState → Going → Need → Node
+callee_by c act gives_back = first_server_of c.gifts
+callee_by c act need = nodes.Server (server_for c.table (operand_in act (volume_asked (call_for need))))
+
+abbrev pub callee_of : ClientState → Going → Node
+callee_of c act = callee_by c act (next act)
 
 abbrev pub opcode_of : ClientState → Going → ℕ
 opcode_of c act = call_number (call_of c act)
@@ -228,7 +243,7 @@ call_message me c act = record { head = call_head me c act; carried = carried.Ca
 
 -- the act asks what it needs, under the next number
 abbrev pub asking : ClientState → Going → ClientState
-asking c act = record c { last = c.last + 1; tries = 0; running = Some act; callee = callee_by c (next act); spoiled = false }
+asking c act = record c { last = c.last + 1; tries = 0; running = Some act; callee = callee_of c act; spoiled = false; seeking = None }
 
 -- behind these lines the act goes on with a call
 abbrev pub calls_step : Node → ClientState → Going → (List Line → List Line) → Step ClientState
@@ -238,6 +253,36 @@ calls_step me c act front = record {
   sent = call_message me (asking c act) act ∷ [];
 }
 
+-- ---- what it asks of the location database
+
+-- a path's volume is asked for by its name, without the end of a copy; a fid's by its number
+abbrev pub question : Operand → LocCall
+question (operands.Path p) = loc.GetEntryByName (base_of p.volume)
+question (operands.Fid f) = loc.GetEntryById f.volume
+
+abbrev pub seek_head : Node → ClientState → Operand → Head
+seek_head me c o = record {
+  half = halves.Call;
+  from = me;
+  to = nodes.Loc;
+  epoch = c.epoch;
+  number = c.last;
+  boot = boot_of nodes.Loc c.boots;
+  stamp = 0;
+  opcode = cell_rows.call_number (ask.Location (question o));
+}
+
+abbrev pub seek_message : Node → ClientState → Operand → Message
+seek_message me c o = record { head = seek_head me c o; carried = carried.Call c.user (ask.Location (question o)) }
+
+-- it asks under the next number, and waits for no server
+abbrev pub seeking_for : ClientState → Seek → List CacheEntry → ClientState
+seeking_for c k cache = record c { last = c.last + 1; tries = 0; running = None; gifts = []; callee = nodes.Loc; spoiled = false; cache = cache; seeking = Some k }
+
+-- behind these lines the act asks where a volume is
+abbrev pub seeks_step : Node → ClientState → Seek → List CacheEntry → (List Line → List Line) → Step ClientState
+seeks_step me c k cache front = record { state = seeking_for c k cache; lines = front []; sent = seek_message me (seeking_for c k cache) k.operand ∷ [] }
+
 -- ---- answers
 
 abbrev pub zero_code : Code
@@ -245,7 +290,7 @@ zero_code = record { 0 = pos 0 }
 
 -- no act runs, and the cache is this
 abbrev pub ended : ClientState → List CacheEntry → ClientState
-ended c cache = record c { running = None; gifts = []; cache = cache }
+ended c cache = record c { running = None; gifts = []; cache = cache; seeking = None }
 
 abbrev pub ends_step : Node → ClientState → List CacheEntry → (List Line → List Line) → Code → Step ClientState
 ends_step me c cache front code = record { state = ended c cache; lines = front (lines.Answer me code ∷ []); sent = [] }
@@ -319,6 +364,7 @@ looked me (l ∷ looks) ls = lines.Read me l.fid l.index l.source l.body ∷ loo
 -- behind these lines the act has come so far: it is answered, or calls; what it gives back it may have none of
 abbrev pub goes_by : Node → ClientState → (List Line → List Line) → Walked → Need → Step ClientState
 goes_by me c front w (answers n) = ends_step me c w.cache (λ ls. front (looked me w.looks ls)) (record { 0 = pos n })
+goes_by me c front w (locates o) = seeks_step me c (record { act = w.act; operand = o; left = None }) w.cache (λ ls. front (looked me w.looks ls))
 goes_by me c front w need = calls_step me (record c { cache = w.cache }) w.act (λ ls. front (looked me w.looks ls))
 
 abbrev pub goes_on : Node → ClientState → (List Line → List Line) → Walked → Step ClientState
@@ -353,7 +399,7 @@ begins_by me c clock front act need = walks_on me c clock front act c.cache
 
 -- the client `me`, which is idle, begins an act
 unfoldable pub begin_row : Node → ClientState → ℕ → Act → Step ClientState
-begin_row me c clock act = begins_by me (record c { busy = 0 }) clock (λ ls. lines.Begin me act ∷ ls) (began c.table act) (next (began c.table act))
+begin_row me c clock act = begins_by me (record c { busy = 0; moved = 0 }) clock (λ ls. lines.Begin me act ∷ ls) (began c.table act) (next (began c.table act))
 
 -- ---- a message comes
 
@@ -492,9 +538,26 @@ is_busy_code code = is_number code.0 106 || is_number code.0 110
 abbrev pub most_busy : ℕ
 most_busy = 8
 
+-- 103 and 111: the server has no such volume, or not any more
+abbrev pub is_gone_code : Code → Bool
+is_gone_code code = is_number code.0 103 || is_number code.0 111
+
+-- so often an act asks where a volume went
+abbrev pub most_moved : ℕ
+most_moved = 4
+
+abbrev pub asks_where : Node → ClientState → ℕ → Going → Code → Option Operand → Step ClientState
+asks_where me c place act code None = answers_step me c place code
+asks_where me c place act code (Some o) =
+    seeks_step me (record c { moved = c.moved + 1 }) (record { act = act; operand = o; left = Some (record { server = c.callee; code = code }) }) c.cache (given place)
+
+abbrev pub refuses_for_good : Node → ClientState → ℕ → Going → Code → Step ClientState
+refuses_for_good me c place act code =
+    if (is_gone_code code && nat_lt c.moved most_moved) then asks_where me c place act code (operand_in act (volume_asked (call_of c act))) else answers_step me c place code
+
 abbrev pub refuses : Node → ClientState → ℕ → Going → Code → Step ClientState
 refuses me c place act code =
-    if (is_busy_code code && nat_lt c.busy most_busy) then calls_again me (record c { busy = c.busy + 1 }) place act else answers_step me c place code
+    if (is_busy_code code && nat_lt c.busy most_busy) then calls_again me (record c { busy = c.busy + 1 }) place act else refuses_for_good me c place act code
 
 -- ---- the message that answers the unanswered call
 
@@ -644,7 +707,7 @@ takes_in me c clock place (Unserved head) = if same_node head.to me then called 
 takes_in me c clock place (Unreadable head) = if same_node head.to me then called me c place head (Unreadable head) else ignores c place
 takes_in me c clock place (Whole m) = if same_node m.head.to me then hears me c clock place m.head m.carried else ignores c place
 
--- the client `me`, given the message of this place
+-- the client `me`, given the message of this place, where it doesn't wait for the location database
 unfoldable pub client_row : Node → ClientState → ℕ → ℕ → Received → Step ClientState
 client_row me c clock place m = takes_in me c clock place m
 
@@ -672,7 +735,110 @@ gives_up me c call = ends_step me c (left_in (volume_changed call) c.cache) (λ 
 abbrev pub timeout_row : Node → ClientState → Going → Step ClientState
 timeout_row me c act = if is_sent_again c.tries then tries_again me c act else gives_up me c (call_of c act)
 
--- ---- a new client, and one that begins again: it keeps nothing, and has the next epoch
+-- ---- the location database answers
+
+-- the table has just this entry
+abbrev pub has_location : Location → List Location → Bool
+has_location l t = list_any (same_entry l) t
+
+abbrev pub stands_for : Location → Location → Bool
+stands_for l k = bytes_eq k.name l.name || nat_eq k.read_write l.read_write
+
+-- it takes the place of all that have its name or its number
+abbrev pub put_location : Location → List Location → List Location
+put_location l t = if has_location l t then t else filter (λ k. not (stands_for l k)) t ++ l ∷ []
+
+abbrev pub entry_in : LocReply → Option LocEntry
+entry_in (answered.GetEntryById e) = Some e
+entry_in (answered.GetEntryByName e) = Some e
+entry_in reply = None
+
+-- the act is answered
+abbrev pub sought_ends : Node → ClientState → (List Line → List Line) → Code → Step ClientState
+sought_ends me c front code = record { state = record c { seeking = None }; lines = front (lines.Answer me code ∷ []); sent = [] }
+
+abbrev pub no_entry_code : Code
+no_entry_code = record { 0 = pos no_entry }
+
+-- the table with this entry in it
+abbrev pub knows : Location → ClientState → ClientState
+knows l c = record c { table = put_location l c.table }
+
+-- the act goes on, where the entry has the number that it lacked
+abbrev pub located_on : Node → ClientState → ℕ → ℕ → Going → Option ℕ → Step ClientState
+located_on me c clock place act None = sought_ends me c (given place) no_entry_code
+located_on me c clock place act (Some id) = walks_on me c clock (given place) (filled c.table act) c.cache
+
+-- the call that was refused is made anew, unless the entry lacks the number, or names the server that was left
+abbrev pub moved_on : Node → ClientState → ℕ → Going → Left → Option ℕ → Step ClientState
+moved_on me c place act left None = sought_ends me c (given place) no_entry_code
+moved_on me c place act left (Some id) = if same_node (callee_of c act) left.server then sought_ends me c (given place) left.code else calls_again me c place act
+
+-- The table has the entry then. Where it had just this one, that names the server that was left.
+abbrev pub located : Node → ClientState → ℕ → ℕ → Seek → Location → Option Left → Step ClientState
+located me c clock place k l None = located_on me (knows l c) clock place k.act (volume_at (knows l c).table k.operand)
+located me c clock place k l (Some left) =
+    if has_location l c.table then sought_ends me c (given place) left.code else moved_on me (knows l c) place k.act left (volume_at (knows l c).table k.operand)
+
+abbrev pub located_by : Node → ClientState → ℕ → ℕ → Seek → Option LocEntry → Step ClientState
+located_by me c clock place k None = ignores c place
+located_by me c clock place k (Some e) = located me c clock place k e k.left
+
+-- the database told its boot number: it is asked again
+abbrev pub seeks_again : Node → ClientState → ℕ → Seek → ℕ → Step ClientState
+seeks_again me c place k boot =
+    told_step (record c { boots = with_boot nodes.Loc boot c.boots }) place (seek_message me (record c { boots = with_boot nodes.Loc boot c.boots }) k.operand ∷ [])
+
+-- where the database refuses, that is the act's answer
+abbrev pub sought_by : Node → ClientState → ℕ → ℕ → Seek → Head → Carried → Step ClientState
+sought_by me c clock place k head (carried.Refusal code) = sought_ends me c (given place) code
+sought_by me c clock place k head (carried.Reply (tell.Location reply)) = located_by me c clock place k (entry_in reply)
+sought_by me c clock place k head carried.Notice = seeks_again me c place k head.boot
+sought_by me c clock place k head x = ignores c place
+
+abbrev pub is_answer : Carried → Bool
+is_answer (carried.Call user call) = false
+is_answer x = true
+
+-- it answers the call for which the act waits
+abbrev pub is_sought : Node → ClientState → Seek → Head → Carried → Bool
+is_sought me c k head x =
+    (is_answer x && same_node head.to me) && (same_node head.from nodes.Loc && (nat_eq head.epoch c.epoch && (nat_eq head.number c.last && nat_eq head.opcode (cell_rows.call_number (ask.Location (question k.operand))))))
+
+-- while an act waits for the database, what isn't its answer comes as to a client without an act
+abbrev pub sought_or : Node → ClientState → ℕ → ℕ → Message → Option Seek → Step ClientState
+sought_or me c clock place m None = client_row me c clock place (Whole m)
+sought_or me c clock place m (Some k) = if is_sought me c k m.head m.carried then sought_by me c clock place k m.head m.carried else client_row me c clock place (Whole m)
+
+-- the client `me`, whatever it waits for
+abbrev pub guest_row : Node → ClientState → ℕ → ℕ → Received → Step ClientState
+guest_row me c clock place (Whole m) = sought_or me c clock place m c.seeking
+guest_row me c clock place r = client_row me c clock place r
+
+-- and its call to the database is timed out
+abbrev pub seeks_on : Node → ClientState → Seek → Step ClientState
+seeks_on me c k = record {
+  state = record c { tries = c.tries + 1 };
+  lines = timeout_line me c (c.tries + 1) ∷ [];
+  sent = seek_message me c k.operand ∷ [];
+}
+
+abbrev pub seek_timeout_row : Node → ClientState → Seek → Step ClientState
+seek_timeout_row me c k = if is_sent_again c.tries then seeks_on me c k else sought_ends me c (λ ls. timeout_line me c last_timeout ∷ ls) dead_code
+
+-- the act that began and isn't answered
+abbrev pub act_sought : Option Seek → Option Going
+act_sought None = None
+act_sought (Some k) = Some k.act
+
+abbrev pub act_by : Option Going → Option Seek → Option Going
+act_by None o = act_sought o
+act_by (Some act) o = Some act
+
+abbrev pub act_of : ClientState → Option Going
+act_of c = act_by c.running c.seeking
+
+-- ---- a new client, and one that begins again: it keeps nothing, has the next epoch, and is handed this table
 
 abbrev pub new_client : ℕ → ℕ → List ℕ → List Location → ClientState
 new_client epoch capacity user table = record {
@@ -690,7 +856,9 @@ new_client epoch capacity user table = record {
   tries = 0;
   spoiled = false;
   gifts = [];
+  seeking = None;
+  moved = 0;
 }
 
-abbrev pub reborn : ClientState → ClientState
-reborn c = new_client (c.epoch + 1) c.capacity c.user c.table
+abbrev pub reborn : List Location → ClientState → ClientState
+reborn table c = new_client (c.epoch + 1) c.capacity c.user table

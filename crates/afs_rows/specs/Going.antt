@@ -8,12 +8,14 @@ use Rattle.afs_history.specs.declared.acts.Operand.TheVariants as operands
 use Rattle.afs_history.specs.Written.{bytes_in}
 use Rattle.afs_rows.specs.States.{CacheEntry, Gift, KnownBoot, Location, Seat}
 use Rattle.afs_history.specs.declared.acts.Act.TheVariants as acts
-use Rattle.std.specs.Prelude.{ℕ, zero, suc, ◌+◌, List, [], ◌∷◌, ◌++◌, Bool, true, false, not, ◌&&◌, ◌||◌, Option, Some, None, pos, nat_eq, find, map, take, length, if◌then◌else◌}
+use Rattle.std.specs.Prelude.{ℕ, zero, suc, ◌+◌, ◌-◌, codes, List, [], ◌∷◌, ◌++◌, Bool, true, false, not, ◌&&◌, ◌||◌, Option, Some, None, pos, nat_eq, find, map, take, length, if◌then◌else◌}
 use Rattle.std.specs.Option.{option_map}
 use Rattle.std.specs.Str.{bytes_eq}
 use Rattle.afs_num.specs.Fids.{same_fid}
 use Rattle.afs_num.specs.declared.types.Fid.{Fid}
 use Rattle.afs_num.specs.declared.types.Node.{Node}
+use Rattle.afs_num.specs.declared.types.Code.{Code}
+use Rattle.std.specs.List.{ends_with}
 use Rattle.afs_num.specs.declared.calls.AfsStoreStatus.{AfsStoreStatus}
 use Rattle.afs_num.specs.declared.calls.FsCall.{FsCall}
 use Rattle.afs_num.specs.declared.calls.FsCall.TheVariants as calls
@@ -39,7 +41,7 @@ pub record Going : Type 0 where
   pub reads : List Shown
 
 -- What an act needs next: the body, the status, or the rights of this fid, or the status of each of these; this call; to give its
--- promises back; or to answer
+-- promises back; where the volume of this operand is; or to answer
 pub data Need : Type 0 where
   reads : Fid → Need
   reads_status : Fid → Need
@@ -47,6 +49,7 @@ pub data Need : Type 0 where
   reads_rights : Fid → Need
   asks_for : FsCall → Need
   gives_back : Need
+  locates : Operand → Need
   answers : ℕ → Need
 
 -- ---- reads. They are taken in their order; one of another fid, or that shows something else, is passed over
@@ -143,13 +146,14 @@ walk all more (name ∷ names) rs f = reading f rs (λ b rest. step_to (all || n
 abbrev pub no_entry : ℕ
 no_entry = 363524
 
-abbrev pub in_home : Option ℕ → (ℕ → Need) → Need
-in_home None more = answers no_entry
-in_home (Some id) more = more id
+-- where the volume of an operand isn't known, it is asked for first
+abbrev pub in_home : Operand → Option ℕ → (ℕ → Need) → Need
+in_home o None more = locates o
+in_home o (Some id) more = more id
 
 abbrev pub to_object : Option ℕ → Operand → List Shown → (Fid → List Shown → Need) → Need
-to_object home (operands.Fid f) rs more = in_home home (λ id. more f rs)
-to_object home (operands.Path p) rs more = in_home home (λ id. walk false more p.names rs (root_of id))
+to_object home (operands.Fid f) rs more = in_home (operands.Fid f) home (λ id. more f rs)
+to_object home (operands.Path p) rs more = in_home (operands.Path p) home (λ id. walk false more p.names rs (root_of id))
 
 -- the names before the last, and that one
 pub record Parted : Type 0 where
@@ -171,13 +175,13 @@ abbrev pub in_directory : Need → Body → Need
 in_directory need (bodies.Dir b) = need
 in_directory need b = answers 20
 
-abbrev pub at_parent : Option ℕ → List Shown → (Fid → List ℕ → List Shown → Need) → Option Parted → Need
-at_parent home rs more None = answers 22
-at_parent home rs more (Some p) = in_home home (λ id. walk true (λ d rest. reading d rest (λ b later. in_directory (more d p.last later) b)) p.front rs (root_of id))
+abbrev pub at_parent : Operand → Option ℕ → List Shown → (Fid → List ℕ → List Shown → Need) → Option Parted → Need
+at_parent o home rs more None = answers 22
+at_parent o home rs more (Some p) = in_home o home (λ id. walk true (λ d rest. reading d rest (λ b later. in_directory (more d p.last later) b)) p.front rs (root_of id))
 
 -- to the parent of the last name, which is read too; the root has none
 abbrev pub to_parent : Option ℕ → Path → List Shown → (Fid → List ℕ → List Shown → Need) → Need
-to_parent home p rs more = at_parent home rs more (parted p.names)
+to_parent home p rs more = at_parent (operands.Path p) home rs more (parted p.names)
 
 -- ---- acts
 
@@ -266,7 +270,7 @@ reads_of (acts.StatAll o) = reads_to o
 reads_of (acts.GetAccessList o) = reads_to o
 reads_of acts.GiveUp = 0
 
--- the call for it; which promises are given back no need tells
+-- the call of a server for it; which promises are given back no need tells
 abbrev pub call_for : Need → FsCall
 call_for (reads f) = calls.FetchData f (pos 0) (pos 2147483647)
 call_for (reads_status f) = calls.FetchStatus f
@@ -274,6 +278,7 @@ call_for (reads_statuses fs) = calls.BulkStatus fs
 call_for (reads_rights f) = calls.FetchAcl f
 call_for (asks_for c) = c
 call_for gives_back = calls.GiveUpCallBacks [] []
+call_for (locates o) = calls.GetTime
 call_for (answers code) = calls.GetTime
 
 abbrev pub asked : Going → FsCall
@@ -281,41 +286,102 @@ asked g = call_for (next g)
 
 -- ---- where volumes are
 
-abbrev pub id_of : Option Location → Option ℕ
-id_of o = option_map (λ (l : Location). l.read_write) o
+-- a path's first name is that of a volume, or of its read-only copy or its backup
+pub data Copy : Type 0 where
+  itself : Copy
+  read_only : Copy
+  backup : Copy
 
--- a path names its volume, a fid has its number
+abbrev pub readonly_end : List ℕ
+readonly_end = codes ".readonly"
+
+abbrev pub backup_end : List ℕ
+backup_end = codes ".backup"
+
+abbrev pub copy_of : List ℕ → Copy
+copy_of name = if ends_with nat_eq name readonly_end then read_only else (if ends_with nat_eq name backup_end then backup else itself)
+
+abbrev pub without_end : Copy → List ℕ → List ℕ
+without_end itself name = name
+without_end read_only name = take (length name - length readonly_end) name
+without_end backup name = take (length name - length backup_end) name
+
+abbrev pub base_of : List ℕ → List ℕ
+base_of name = without_end (copy_of name) name
+
+-- the number 0 is none
+abbrev pub number_there : ℕ → Option ℕ
+number_there n = if nat_eq n 0 then None else Some n
+
+abbrev pub number_in : Copy → Location → Option ℕ
+number_in itself l = number_there l.read_write
+number_in read_only l = number_there l.read_only
+number_in backup l = number_there l.backup
+
+-- one of its three volumes has this number
+abbrev pub has_number : ℕ → Location → Bool
+has_number id l = not (nat_eq id 0) && (nat_eq l.read_write id || (nat_eq l.read_only id || nat_eq l.backup id))
+
+-- the entry of an operand's volume: a path has its name, a fid its number
+abbrev pub find_location : List Location → Operand → Option Location
+find_location t (operands.Path p) = find (λ l. bytes_eq l.name (base_of p.volume)) t
+find_location t (operands.Fid f) = find (has_number f.volume) t
+
+-- the number of the volume that the operand names
+abbrev pub number_for : Operand → Option Location → Option ℕ
+number_for o None = None
+number_for (operands.Path p) (Some l) = number_in (copy_of p.volume) l
+number_for (operands.Fid f) (Some l) = Some f.volume
+
 abbrev pub volume_at : List Location → Operand → Option ℕ
-volume_at t (operands.Path p) = id_of (find (λ l. bytes_eq l.name p.volume) t)
-volume_at t (operands.Fid f) = id_of (find (λ l. nat_eq l.read_write f.volume) t)
+volume_at t o = number_for o (find_location t o)
 
-abbrev pub at_one : List Location → Operand → Homes
-at_one t o = record { first = volume_at t o; second = None }
+-- the operands of an act
+abbrev pub Operands : Type 0
+Operands = Option Operand × Option Operand
 
-abbrev pub at_two : List Location → Path → Path → Homes
-at_two t p q = record { first = volume_at t (operands.Path p); second = volume_at t (operands.Path q) }
+abbrev pub one_of : Operand → Operands
+one_of o = (Some o, None)
+
+abbrev pub two_of : Path → Path → Operands
+two_of p q = (Some (operands.Path p), Some (operands.Path q))
+
+abbrev pub operands_of : Act → Operands
+operands_of (acts.Open o) = one_of o
+operands_of (acts.ListNames o) = one_of o
+operands_of (acts.ReadLink o) = one_of o
+operands_of (acts.Stat o) = one_of o
+operands_of (acts.StatAll o) = one_of o
+operands_of (acts.Close o contents) = one_of o
+operands_of (acts.Make p) = one_of (operands.Path p)
+operands_of (acts.MakeDirectory p) = one_of (operands.Path p)
+operands_of (acts.Remove p) = one_of (operands.Path p)
+operands_of (acts.RemoveDirectory p) = one_of (operands.Path p)
+operands_of (acts.Move p q) = two_of p q
+operands_of (acts.Link p q) = two_of p q
+operands_of (acts.Symlink p target) = one_of (operands.Path p)
+operands_of (acts.SetMode o mode) = one_of o
+operands_of (acts.SetAccessList o text) = one_of o
+operands_of (acts.GetAccessList o) = one_of o
+operands_of acts.GiveUp = (None, None)
+
+abbrev pub home_at : List Location → Option Operand → Option ℕ
+home_at t None = None
+home_at t (Some o) = volume_at t o
 
 abbrev pub homes_of : List Location → Act → Homes
-homes_of t (acts.Open o) = at_one t o
-homes_of t (acts.ListNames o) = at_one t o
-homes_of t (acts.ReadLink o) = at_one t o
-homes_of t (acts.Stat o) = at_one t o
-homes_of t (acts.StatAll o) = at_one t o
-homes_of t (acts.Close o contents) = at_one t o
-homes_of t (acts.Make p) = at_one t (operands.Path p)
-homes_of t (acts.MakeDirectory p) = at_one t (operands.Path p)
-homes_of t (acts.Remove p) = at_one t (operands.Path p)
-homes_of t (acts.RemoveDirectory p) = at_one t (operands.Path p)
-homes_of t (acts.Move p q) = at_two t p q
-homes_of t (acts.Link p q) = at_two t p q
-homes_of t (acts.Symlink p target) = at_one t (operands.Path p)
-homes_of t (acts.SetMode o mode) = at_one t o
-homes_of t (acts.SetAccessList o text) = at_one t o
-homes_of t (acts.GetAccessList o) = at_one t o
-homes_of t acts.GiveUp = record { first = None; second = None }
+homes_of t act = record { first = home_at t (operands_of act).0; second = home_at t (operands_of act).1 }
 
 abbrev pub began : List Location → Act → Going
 began t act = record { act = act; homes = homes_of t act; reads = [] }
+
+-- the numbers that an act lacks are looked up again
+abbrev pub known_or : Option ℕ → Option ℕ → Option ℕ
+known_or None o = o
+known_or (Some n) o = Some n
+
+abbrev pub filled : List Location → Going → Going
+filled t g = record g { homes = record { first = known_or g.homes.first (homes_of t g.act).first; second = known_or g.homes.second (homes_of t g.act).second } }
 
 abbrev pub with_read : Fid → ReadBody → Going → Going
 with_read f body g = record g { reads = g.reads ++ record { fid = f; body = body } ∷ [] }
@@ -324,12 +390,32 @@ abbrev pub read_on : Bool → Fid → ReadBody → Option Going → Option Going
 read_on true f body o = option_map (with_read f body) o
 read_on false f body o = o
 
+abbrev pub is_home : Option ℕ → ℕ → Bool
+is_home None id = false
+is_home (Some n) id = nat_eq n id
+
+-- the operand in whose volume the act calls: the first, or the second where that alone is in the volume
+abbrev pub operand_in : Going → ℕ → Option Operand
+operand_in g id = if (is_home g.homes.second id && not (is_home g.homes.first id)) then (operands_of g.act).1 else (operands_of g.act).0
+
 -- ---- a client
+
+-- a server that told that it has no such volume, or not any more, and its code
+pub record Left : Type 0 where
+  pub server : Node
+  pub code : Code
+
+-- An act that waits for the location database: for which operand it asks, and which server it left for that, if it left one
+pub record Seek : Type 0 where
+  pub act : Going
+  pub operand : Operand
+  pub left : Option Left
 
 -- Its epoch and the number of its last call in it; its user; how many entries its cache may have; where volumes are, and the boot
 -- numbers of servers, as it knows them; the servers that call it; its cache, the entry that was used last first. Of the act that
 -- runs: how often it was told to wait; whom its unanswered call is for, how often that was timed out, and whether a break spoils
--- the reply; and the promises that it gives back still, the server of the first first.
+-- the reply; and the promises that it gives back still, the server of the first first. Then the act that waits for the location
+-- database, which doesn't run meanwhile, for it waits for no server; and how often this act asked where a volume went.
 pub record ClientState : Type 0 where
   pub epoch : ℕ
   pub last : ℕ
@@ -345,3 +431,5 @@ pub record ClientState : Type 0 where
   pub tries : ℕ
   pub spoiled : Bool
   pub gifts : List Gift
+  pub seeking : Option Seek
+  pub moved : ℕ

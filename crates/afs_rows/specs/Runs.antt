@@ -4,8 +4,8 @@ use Rattle.afs_ideal.specs.Tables.{Table, get, set}
 use Rattle.afs_ideal.specs.Volumes.{Volume}
 use Rattle.afs_history.specs.declared.acts.Act.{Act}
 use Rattle.afs_rows.specs.Callbacks.{put, first_backs}
-use Rattle.afs_rows.specs.ClientRow.{begin_row, client_row, timeout_row, new_client, reborn}
-use Rattle.afs_rows.specs.Going.{ClientState, Going}
+use Rattle.afs_rows.specs.ClientRow.{act_of, begin_row, guest_row, new_client, reborn, seek_timeout_row, timeout_row}
+use Rattle.afs_rows.specs.Going.{ClientState, Going, Seek}
 use Rattle.afs_rows.specs.LocRow.{LocState}
 use Rattle.afs_rows.specs.LocSteps.{loc_kind, LocHost}
 use Rattle.afs_records.specs.LocDurable.{first_id, first_stamp, listed_line, loc_first_record, loc_place_length}
@@ -42,8 +42,8 @@ pub record Entry : Type 0 where
   pub sent : List Message
   pub volumes : Table Volume
 
--- the location database; the servers by their numbers, of which there are so many; as many clients, by theirs, and which of them are
--- down; all messages ever sent; and the clock
+-- The location database; the servers by their numbers, of which there are so many; as many clients, by theirs, and which of them are
+-- down; the locations that each client is handed where it begins; all messages ever sent; and the clock.
 pub record Cell : Type 0 where
   pub loc : LocHost
   pub host_count : ℕ
@@ -51,6 +51,7 @@ pub record Cell : Type 0 where
   pub count : ℕ
   pub clients : ℕ → ClientState
   pub away : ℕ → Bool
+  pub handed : List Location
   pub sent : List Message
   pub clock : ℕ
 
@@ -117,15 +118,14 @@ server_given c i place luck m (Some fall) = voided c
 
 -- ---- the location database
 
--- The location database stops, begins again, and its disk is set; nobody asks it anything yet. This is the cell after such a step of it,
--- and the entry of that.
+-- the cell after this step of the location database, and the entry of that
 abbrev pub loc_placed : Cell → HostStep LocState → Moved
 loc_placed c s = record {
   entry = record { actor = actors.Node Loc; lines = s.lines; sent = s.sent; volumes = [] };
   cell = record c { loc = s.host; sent = c.sent ++ s.sent };
 }
 
--- while it is down it doesn't stop, and its disk isn't set
+-- while it is down it gets no message, doesn't stop, and its disk isn't set
 abbrev pub loc_up : Cell → HostStep LocState → Option Fall → Moved
 loc_up c s None = loc_placed c s
 loc_up c s (Some fall) = voided c
@@ -147,8 +147,8 @@ is_away c n = not (has_client c.count n) || c.away n
 -- a message is given to the node that its header names
 abbrev pub given_to : Cell → ℕ → Luck → Message → Node → Moved
 given_to c place luck m (Server i) = if_host c i (server_given c i place luck m (c.hosts i).down)
-given_to c place luck m (Client n) = cond (is_away c n) (voided c) (client_moves c n (client_row (Client n) (c.clients n) c.clock place (Whole m)))
-given_to c place luck m Loc = voided c
+given_to c place luck m (Client n) = cond (is_away c n) (voided c) (client_moves c n (guest_row (Client n) (c.clients n) c.clock place (Whole m)))
+given_to c place luck m Loc = loc_up c (served loc_kind c.loc c.clock place luck m) c.loc.down
 given_to c place luck m (Admin n) = voided c
 
 abbrev pub given_at : Cell → ℕ → Luck → Option Message → Moved
@@ -160,8 +160,12 @@ abbrev pub begun_by : Cell → ℕ → Act → Option Going → Moved
 begun_by c n act None = client_moves c n (begin_row (Client n) (c.clients n) c.clock act)
 begun_by c n act (Some other) = voided c
 
+abbrev pub sought_for : Cell → ℕ → Option Seek → Moved
+sought_for c n None = voided c
+sought_for c n (Some k) = client_moves c n (seek_timeout_row (Client n) (c.clients n) k)
+
 abbrev pub waited_by : Cell → ℕ → Option Going → Moved
-waited_by c n None = voided c
+waited_by c n None = sought_for c n (c.clients n).seeking
 waited_by c n (Some act) = client_moves c n (timeout_row (Client n) (c.clients n) act)
 
 abbrev pub ticked : Cell → ℕ → Moved
@@ -172,7 +176,7 @@ abbrev pub turned : ℕ → Bool → Moved → Moved
 turned n away m = record { entry = m.entry; cell = record m.cell { away = put n away m.cell.away } }
 
 abbrev pub client_falls : Cell → ℕ → Moved
-client_falls c n = turned n true (client_moves c n (record { state = reborn (c.clients n); lines = lines.Crash (Client n) ∷ []; sent = [] }))
+client_falls c n = turned n true (client_moves c n (record { state = reborn c.handed (c.clients n); lines = lines.Crash (Client n) ∷ []; sent = [] }))
 
 abbrev pub client_rises : Cell → ℕ → Moved
 client_rises c n = turned n false (client_moves c n (record { state = c.clients n; lines = lines.Restart (Client n) (c.clients n).epoch ∷ []; sent = [] }))
@@ -210,7 +214,7 @@ server_wakes c i None = placed c i (woken (Server i) (c.hosts i) c.clock)
 server_wakes c i (Some fall) = voided c
 
 unfoldable pub moved : Cell → Input → Moved
-moved c (begins n act) = cond (is_away c n) (voided c) (begun_by c n act (c.clients n).running)
+moved c (begins n act) = cond (is_away c n) (voided c) (begun_by c n act (act_of (c.clients n)))
 moved c (gives place luck) = given_at c place luck (message_at c.sent place)
 moved c (waits n) = cond (is_away c n) (voided c) (waited_by c n (c.clients n).running)
 moved c (ticks zero) = voided c
@@ -337,6 +341,7 @@ start s = record {
   count = s.clients;
   clients = first_client s;
   away = λ n. false;
+  handed = locations s;
   sent = [];
   clock = 0;
 }
