@@ -1,21 +1,27 @@
 -- What the steps of a client tell of its acts, and what it asks for them: the lines tell which act runs, a call is that of the act
+use Rattle.afs_history.specs.declared.acts.Act.TheVariants as acts
 -- that runs, and calls under one pair are one.
+use Rattle.afs_law.proofs.Words.{no_zero}
+use Rattle.afs_law.specs.LocLaws.{IsToldIn}
+use Rattle.afs_law.specs.Breaks.{HasTimeout}
 use Rattle.afs_history.specs.declared.acts.Act.{Act}
 use Rattle.afs_history.specs.declared.lines.Line.{Line}
 use Rattle.afs_history.specs.declared.lines.Line.TheVariants as lines
 use Rattle.afs_history.specs.declared.scripts.Script.{Script}
 use Rattle.afs_ideal.specs.Operations.{volume_changed}
 use Rattle.afs_law.proofs.Backing.{all_lines}
-use Rattle.afs_law.proofs.Basics.{Each, IfCall, found-cached-fid, same_fid-true, same_node-refl, same_node-true, some_of}
-use Rattle.afs_law.proofs.Calling.{AreReplies, IsAnswer, kept_answer, uncalled_any}
+use Rattle.afs_law.proofs.Basics.{Each, IfCall, found-cached-fid, same_fid-true, same_node-refl, same_node-true, some_of, Below, asks_lookup, both, LastSeat, kept_last}
+use Rattle.afs_law.proofs.Calling.{AreReplies, IsAnswer, kept_answer, uncalled_any, IsUncalled}
+use Rattle.afs_history.specs.declared.acts.Operand.{Operand}
 use Rattle.afs_law.proofs.Firm.{IsFirm, IsSentBy}
-use Rattle.afs_law.proofs.Seating.{AreSeated, code_half, kept_from, seated}
-use Rattle.afs_law.specs.Legal.{IsInPlace, IsNeeded, IsNeededFrom}
+use Rattle.afs_law.specs.Legal.{IsInPlace, IsNeeded, IsNeededFrom, IsRefusedWith, IsNowhere}
+use Rattle.afs_law.proofs.Seated.{AreSeated, code_half, kept_from, seated}
 use Rattle.afs_law.specs.Parts.{EachLine}
-use Rattle.afs_law.specs.Past.{HasCode, has_begun, has_given, lines_of, onto, running}
+use Rattle.afs_law.specs.Past.{HasCode, has_begun, has_given, lines_of, onto, running, called_key}
+use Rattle.afs_model.specs.CellRows as cell_rows
 use Rattle.afs_model.specs.Calls as pairs
 use Rattle.afs_model.specs.FsRows.{call_number}
-use Rattle.afs_model.specs.Calls.{Admitted, admitted}
+use Rattle.afs_model.specs.Calls.{Admitted, admitted, paired, call_seat}
 use Rattle.afs_num.specs.Fids.{same_fid}
 use Rattle.afs_num.specs.Nodes.{same_node}
 use Rattle.afs_num.specs.declared.calls.AfsCallBack.{AfsCallBack}
@@ -43,14 +49,16 @@ use Rattle.afs_num.specs.declared.types.Fid.{Fid}
 use Rattle.afs_num.specs.declared.types.Head.{Head}
 use Rattle.afs_num.specs.declared.types.Key.{Key}
 use Rattle.afs_num.specs.declared.types.Node.{Node}
-use Rattle.afs_num.specs.declared.types.Node.TheVariants.{Client}
-use Rattle.afs_rows.specs.ClientRow.{Look, Walked, admits_call, asking, awaits, begin_row, begins_by, behind_batch, body_seen, body_told, breaks, call_message, call_of, callee_by, calls_again, calls_step, client_row, counts, dead_code, drop_line, dropped, dropped_after, ends_step, entries_told, entry_told, find_cached, gift_of, given, given_up_in, gives_by, goes_by, hears, ignores, in_order, is_awaited, is_busy_code, is_older, is_spent, is_trusted, look_at, looked, most_busy, most_reads, put_entries, put_entry, read_lines, reborn, refuses, replies_step, runs_carried, shown_by, status_look, status_told, stays, takes, takes_bulk, takes_bytes, takes_data, takes_entries, takes_entry, takes_given, takes_list, takes_plain, takes_rights, takes_set, takes_shown, takes_status, takes_stored, timeout_line, timeout_row, told_step, trusted_in, untrusted_in, used_first, walked, walked_at, walked_by, walked_with, walks_on, whole, with_statuses}
-use Rattle.afs_rows.specs.Going.{ClientState, Going, Need, answers, began, gives_back, next, reads, reads_status, with_read}
+use Rattle.afs_num.specs.declared.types.Node.TheVariants.{Client, Loc}
+use Rattle.afs_rows.specs.ClientRow.{knows, boot_of, with_boot, question, Look, Walked, admits_call, asking, awaits, begin_row, begins_by, behind_batch, body_seen, body_told, breaks, call_message, call_of, callee_by, calls_again, calls_step, client_row, counts, dead_code, drop_line, dropped, dropped_after, ends_step, entries_told, entry_told, find_cached, gift_of, given, given_up_in, gives_by, goes_by, hears, ignores, in_order, is_awaited, is_busy_code, is_older, is_spent, is_trusted, look_at, looked, most_busy, most_reads, put_entries, put_entry, read_lines, reborn, refuses, replies_step, runs_carried, shown_by, status_look, status_told, stays, takes, takes_bulk, takes_bytes, takes_data, takes_entries, takes_entry, takes_given, takes_list, takes_plain, takes_rights, takes_set, takes_shown, takes_status, takes_stored, timeout_line, timeout_row, told_step, trusted_in, untrusted_in, used_first, walked, walked_at, walked_by, walked_with, walks_on, whole, with_statuses, act_by, act_of, act_sought, asks_where, entry_in, has_location, is_gone_code, located, located_by, located_on, most_moved, moved_on, no_entry_code, put_location, refuses_for_good, seek_message, seek_timeout_row, seeking_for, seeks_again, seeks_step, sought_by, sought_ends, stands_for, volume_asked, answers_step, callee_of}
+use Rattle.afs_rows.specs.Going.{ClientState, Going, Need, answers, began, gives_back, next, reads, reads_status, with_read, Homes, Left, Seek, filled, homes_of, known_or, locates, operand_in, volume_at, no_entry, act_needs, operands_of, is_home}
+use Rattle.afs_num.specs.declared.location_calls.LocCall.{LocCall}
+use Rattle.afs_num.specs.declared.location_calls.LocEntry.{LocEntry}
 use Rattle.afs_rows.specs.Runs.{Entry, locations}
 use Rattle.afs_rows.specs.ServerRow.{boot_told, key_of, replied, reply_head}
 use Rattle.afs_rows.specs.States.{CacheEntry, Gift, Location, Seat}
 use Rattle.afs_rows.specs.Steps.{Step}
-use Rattle.std.proofs.Common.{zero, suc, ◌+◌, ◌≡◌, ℕ, ◌⊎◌, inl, inr, Bool, true, false, cond, List, [], ◌∷◌, ◌++◌, map, Option, Some, None, refl, sym, subst, filter, not, ap, ◌∙◌}
+use Rattle.std.proofs.Common.{pos, zero, suc, ◌+◌, ◌≡◌, ℕ, ◌⊎◌, inl, inr, Bool, true, false, cond, List, [], ◌∷◌, ◌++◌, map, Option, Some, None, refl, sym, subst, filter, not, ap, ◌∙◌, arith, nat_eq}
 use Rattle.std.specs.List.{list_any}
 use Rattle.std.specs.Prelude.{⊤, ◌&&◌, nat_lt}
 
@@ -80,10 +88,24 @@ pub record Who : Type 0 where
   pub user : List ℕ
   pub table : List Location
   pub running : Option Going
+  pub seeking : Option Seek
+  pub callee : Node
+  pub tries : ℕ
   pub seats : List Seat
 
 abbrev pub who_at : ClientState → Who
-who_at c = record { epoch = c.epoch; last = c.last; user = c.user; table = c.table; running = c.running; seats = c.seats }
+who_at c = record { epoch = c.epoch; last = c.last; user = c.user; table = c.table; running = c.running; seeking = c.seeking; callee = c.callee; tries = c.tries; seats = c.seats }
+
+-- the act that it began and that isn't answered, whomever it waits for
+abbrev pub began_by : Who → Option Going
+began_by x = act_by x.running x.seeking
+
+pub runs_act : (c : ClientState) (act : Going) → c.running ≡ Some act → act_of c ≡ Some act
+runs_act c act r = ap (λ (a : Option Going). act_by a c.seeking) r
+
+-- one that waits for the location database
+pub seeks_act : (c : ClientState) (k : Seek) → c.running ≡ None → c.seeking ≡ Some k → act_of c ≡ Some k.act
+seeks_act c k r z = ap (λ (a : Option Going). act_by a c.seeking) r ∙ ap act_sought z
 
 -- the key of its last call
 abbrev pub last_key : ℕ → ClientState → Key
@@ -99,7 +121,8 @@ pub record IsTheCall (j : ℕ) (c : ClientState) (head : Head) (user : List ℕ)
   pub to : head.to ≡ c.callee
   pub opcode : head.opcode ≡ call_number call
 
--- it has the pair that it had, and goes on with the act that ran or with none; or it asks for an act, under the next pair; or it stopped
+-- it has the pair that it had, and goes on with the act that ran or with none; or it asks for an act, under the next pair; or no act of it
+-- waits for a server, and its pair has risen: it stopped, or asks where a volume is
 pub record Rests (j : ℕ) (x : Who) (gs : List Gift) (s : Step ClientState) : Type 0 where
   pub epoch : s.state.epoch ≡ x.epoch
   pub last : s.state.last ≡ x.last
@@ -112,14 +135,75 @@ pub record Asks (j : ℕ) (x : Who) (s : Step ClientState) : Type 0 where
   pub act : Going
   pub runs : s.state.running ≡ Some act
   pub sent : s.sent ≡ call_message (Client j) s.state act ∷ []
-  pub callee : s.state.callee ≡ callee_by s.state (next act)
+  pub callee : s.state.callee ≡ callee_of s.state act
+
+-- it falls: it begins again in the next epoch
+abbrev pub Halts : ℕ → Who → Step ClientState → Type 0
+Halts j x s = (s.state.epoch ≡ x.epoch + 1) × ((s.state.last ≡ 0) × (s.lines ≡ lines.Crash (Client j) ∷ []))
+
+-- or it asks the location database, under the next pair
+abbrev pub Turns : ℕ → Who → Step ClientState → Type 0
+Turns j x s = (s.state.epoch ≡ x.epoch) × ((s.state.last ≡ x.last + 1) × ((o : Operand) × (s.sent ≡ seek_message (Client j) s.state o ∷ [])))
 
 pub record Stops (j : ℕ) (x : Who) (s : Step ClientState) : Type 0 where
-  pub epoch : s.state.epoch ≡ x.epoch + 1
-  pub last : s.state.last ≡ 0
   pub act : s.state.running ≡ None
-  pub sent : s.sent ≡ []
-  pub lines : s.lines ≡ lines.Crash (Client j) ∷ []
+  pub sent : Each IsUncalled s.sent
+  pub how : Halts j x s ⊎ Turns j x s
+
+-- what is asked of the location database is asked under the client's last key, by an act that waits for it
+pub record IsTheSeek (j : ℕ) (y : ClientState) (head : Head) (user : List ℕ) (call : LocCall) : Type 0 where
+  pub key : called_key head ≡ last_key j y
+  pub its : Seek
+  pub seeks : y.seeking ≡ Some its
+  pub user' : user ≡ y.user
+  pub asks : call ≡ question its.operand
+  pub to : head.to ≡ Loc
+  pub opcode : head.opcode ≡ cell_rows.call_number (ask.Location call)
+  pub boot : head.boot ≡ boot_of Loc y.boots
+
+abbrev pub OfSeek : (Head → List ℕ → LocCall → Type 0) → Head → Carried → Type 0
+OfSeek P head (carried.Call user (ask.Location call)) = P head user call
+OfSeek P head x = ⊤
+
+abbrev pub IfSeek : (Head → List ℕ → LocCall → Type 0) → Message → Type 0
+IfSeek P m = OfSeek P m.head m.carried
+
+abbrev pub IsOwnSeek : ℕ → ClientState → Message → Type 0
+IsOwnSeek j y m = IfSeek (IsTheSeek j y) m
+
+code_seek : (j : ℕ) (y : ClientState) (head : Head) (x : Carried) → HasCode x → OfSeek (IsTheSeek j y) head x
+code_seek j y head (carried.Call user call) h = absurd h
+code_seek j y head (carried.Refusal code) h = tt
+code_seek j y head (carried.Reply reply) h = tt
+code_seek j y head carried.Notice h = tt
+
+own_seek : (j : ℕ) (y : ClientState) (k : Seek) → y.seeking ≡ Some k → IsOwnSeek j y (seek_message (Client j) y k.operand)
+own_seek j y k z = record { key = refl; its = k; seeks = z; user' = refl; asks = refl; to = refl; opcode = refl; boot = refl }
+
+kept_code : (t : Bool) (me : Node) (boot : ℕ) (ss : List Seat) (head : Head) (m : Message) → AreSeated me ss → cond t (paired head.epoch head.number (call_seat head.from ss)) (pairs.wrong_boot boot) ≡ pairs.kept m → HasCode m.carried
+kept_code true me boot ss head m h e = let l : LastSeat head.epoch head.number (call_seat head.from ss) m = kept_last head.epoch head.number (call_seat head.from ss) m e in (h head.from l.seat m l.at l.reply).reply.1
+kept_code false me boot ss head m h e = absurd cc
+
+-- it waited for the location database, and does still
+pub record SeeksOn (j : ℕ) (x : Who) (k : Seek) (s : Step ClientState) : Type 0 where
+  pub before : x.seeking ≡ Some k
+  pub running : s.state.running ≡ x.running
+  pub epoch : s.state.epoch ≡ x.epoch
+  pub last : s.state.last ≡ x.last
+  pub callee : s.state.callee ≡ x.callee
+  pub tries : (s.state.tries ≡ x.tries) ⊎ ((s.state.tries ≡ x.tries + 1) × ((o : List Line) → HasTimeout (Client j) x.callee x.epoch x.last (x.tries + 1) (onto o s.lines)))
+  pub begins : has_begun (Client j) s.lines ≡ false
+
+-- or it asks that now
+pub record SeeksNow (j : ℕ) (x : Who) (k : Seek) (s : Step ClientState) : Type 0 where
+  pub running : s.state.running ≡ None
+  pub callee : s.state.callee ≡ Loc
+  pub tries : s.state.tries ≡ 0
+  pub above : (s.state.epoch ≡ x.epoch) × (s.state.last ≡ x.last + 1)
+  pub gone : (left : Left) → k.left ≡ Some left → is_gone_code left.code ≡ true
+  pub sent : s.sent ≡ seek_message (Client j) s.state k.operand ∷ []
+  pub needs : k.left ≡ None → next k.act ≡ locates k.operand
+  pub asks : k.act.act ≡ acts.GiveUp → ⊥
 
 -- all these lines stand where they may
 abbrev pub AreInPlace : Script → ℕ → List Entry → List Line → List Line → Type 0
@@ -129,10 +213,12 @@ pub record Acts (j : ℕ) (x : Who) (gs : List Gift) (s : Step ClientState) : Ty
   pub user : s.state.user ≡ x.user
   pub table : s.state.table ≡ x.table
   pub of : all_lines (is_of j) s.lines ≡ true
-  pub runs : (S : Script) → x.table ≡ locations S → (o : List Line) → running S (Client j) o ≡ x.running → running S (Client j) (onto o s.lines) ≡ s.state.running
+  pub runs : (S : Script) → x.table ≡ locations S → (o : List Line) → running S (Client j) o ≡ began_by x → running S (Client j) (onto o s.lines) ≡ act_of s.state
   pub goes : Rests j x gs s ⊎ (Asks j x s ⊎ Stops j x s)
-  pub each : (S : Script) (past : List Entry) → x.table ≡ locations S → running S (Client j) (lines_of past) ≡ x.running → AreInPlace S j past [] s.lines
+  pub seeks : (k : Seek) → s.state.seeking ≡ Some k → SeeksOn j x k s ⊎ SeeksNow j x k s
+  pub each : (S : Script) (past : List Entry) → x.table ≡ locations S → running S (Client j) (lines_of past) ≡ began_by x → AreInPlace S j past [] s.lines
   pub seats : AreSeated (Client j) x.seats → AreSeated (Client j) s.state.seats
+  pub keys : Each (IsOwnSeek j s.state) s.sent
   pub from : Each (IsSentBy (Client j)) s.sent
 
 -- ---- what stands before further lines
@@ -293,53 +379,81 @@ status_reads (e ∷ es) act = status_reads es (with_read e.fid (seen.Status e.st
 
 -- ---- its ends
 
-told_acts : (j : ℕ) (c : ClientState) (place : ℕ) (ms : List Message) → Each (IfCall (IsTheCall j c)) ms → Each (IsSentBy (Client j)) ms → Acts j (who_at c) c.gifts (told_step c place ms)
-told_acts j c place ms h own = record { user = refl; table = refl; of = refl; runs = λ S t o r. r; goes = inl (record { epoch = refl; last = refl; act = inr (refl, (refl, refl)); sent = h }); each = λ S past t r. (refl, tt); seats = λ k. k; from = own }
+told_acts : (j : ℕ) (c : ClientState) (place : ℕ) (ms : List Message) → Each (IfCall (IsTheCall j c)) ms → Each (IsOwnSeek j c) ms → Each (IsSentBy (Client j)) ms → Acts j (who_at c) c.gifts (told_step c place ms)
+told_acts j c place ms h ks own = record { user = refl; table = refl; of = refl; runs = λ S t o r. r; goes = inl (record { epoch = refl; last = refl; act = inr (refl, (refl, refl)); sent = h }); seeks = λ k e. inl (record { before = e; running = refl; epoch = refl; last = refl; callee = refl; tries = inl refl; begins = refl }); each = λ S past t r. (refl, tt); seats = λ k. k; keys = ks; from = own }
 
 ignores_acts : (j : ℕ) (c : ClientState) (place : ℕ) → Acts j (who_at c) c.gifts (ignores c place)
-ignores_acts j c place = told_acts j c place [] tt tt
+ignores_acts j c place = told_acts j c place [] tt tt tt
 
 answered : (j : ℕ) (S : Script) (code : Code) (o : List Line) → running S (Client j) (lines.Answer (Client j) code ∷ o) ≡ None
 answered j S code o = rw (same_node-refl (Client j)) refl
 
-ends_acts : (j : ℕ) (gs : List Gift) (c : ClientState) (cache : List CacheEntry) (front : List Line → List Line) (code : Code) (g : Going) → Front j c.table c.running g front → Acts j (who_at c) gs (ends_step (Client j) c cache front code)
+ends_acts : (j : ℕ) (gs : List Gift) (c : ClientState) (cache : List CacheEntry) (front : List Line → List Line) (code : Code) (g : Going) → Front j c.table (act_of c) g front → Acts j (who_at c) gs (ends_step (Client j) c cache front code)
 ends_acts j gs c cache front code g f = record {
   user = refl;
   table = refl;
   of = f.of (lines.Answer (Client j) code ∷ []) (one_of j true refl);
   runs = λ S t o r. let a : Comes j g S o front = f.comes S t o r in ap (running S (Client j)) (a.on (lines.Answer (Client j) code ∷ [])) ∙ answered j S code a.to;
   goes = inl (record { epoch = refl; last = refl; act = inl refl; sent = tt });
+  seeks = λ k e. absurd cc;
   each = λ S past t r. f.each S past (lines.Answer (Client j) code ∷ []) t r (refl, refl) (λ own q. ((refl, record { act = g; runs = q }), tt));
   seats = λ k. k;
+  keys = tt;
   from = tt;
 }
 
-asking_callee : (c : ClientState) (act : Going) (need : Need) → callee_by c need ≡ callee_by (asking c act) need
+asking_callee : (c : ClientState) (act : Going) (need : Need) → callee_by c act need ≡ callee_by (asking c act) act need
 asking_callee c act gives_back = refl
 asking_callee c act need = refl
 
-calls_acts : (j : ℕ) (gs : List Gift) (c : ClientState) (act : Going) (front : List Line → List Line) → Front j c.table c.running act front → Acts j (who_at c) gs (calls_step (Client j) c act front)
+calls_acts : (j : ℕ) (gs : List Gift) (c : ClientState) (act : Going) (front : List Line → List Line) → Front j c.table (act_of c) act front → Acts j (who_at c) gs (calls_step (Client j) c act front)
 calls_acts j gs c act front f = record {
   user = refl;
   table = refl;
   of = f.of [] refl;
   runs = λ S t o r. let a : Comes j act S o front = f.comes S t o r in ap (running S (Client j)) (a.on []) ∙ a.runs;
   goes = inr (inl (record { epoch = refl; last = refl; act = act; runs = refl; sent = refl; callee = asking_callee c act (next act) }));
+  seeks = λ k e. absurd cc;
   each = λ S past t r. f.each S past [] t r (refl, refl) (λ own q. tt);
   seats = λ k. k;
+  keys = (tt, tt);
   from = (record { from = refl; half = λ z. refl; firm = tt; gift = λ z ls. absurd cc }, tt);
 }
 
-goes_acts : (j : ℕ) (gs : List Gift) (c : ClientState) (front : List Line → List Line) (w : Walked) (need : Need) → Front j c.table c.running w.act (λ ls. front (looked (Client j) w.looks ls)) → Acts j (who_at c) gs (goes_by (Client j) c front w need)
-goes_acts j gs c front w (answers n) f = ends_acts j gs c w.cache (λ ls. front (looked (Client j) w.looks ls)) _ w.act f
-goes_acts j gs c front w need f = calls_acts j gs (record c { cache = w.cache }) w.act (λ ls. front (looked (Client j) w.looks ls)) f
+-- an act that gives promises back asks for no place
+locates_not : (g : Going) (o : Operand) → next g ≡ locates o → g.act ≡ acts.GiveUp → ⊥
+locates_not g o is e = let no : gives_back ≡ locates o = sym (ap (λ (a : Act). act_needs g.homes a g.reads) e) ∙ is in absurd cc
 
-walks_acts : (j : ℕ) (gs : List Gift) (c : ClientState) (clock : ℕ) (front : List Line → List Line) (act : Going) (cache : List CacheEntry) → Front j c.table c.running act front → Acts j (who_at c) gs (walks_on (Client j) c clock front act cache)
+one_of_act : (t : Bool) (a : Act) (o : Operand) → cond t (operands_of a).1 (operands_of a).0 ≡ Some o → a ≡ acts.GiveUp → ⊥
+one_of_act true a o is e = let no : None ≡ Some o = sym (ap (λ (x : Act). (operands_of x).1) e) ∙ is in absurd cc
+one_of_act false a o is e = let no : None ≡ Some o = sym (ap (λ (x : Act). (operands_of x).0) e) ∙ is in absurd cc
+
+-- it asks where a volume is
+seeks_acts : (j : ℕ) (gs : List Gift) (c : ClientState) (k : Seek) (cache : List CacheEntry) (front : List Line → List Line) → ((left : Left) → k.left ≡ Some left → is_gone_code left.code ≡ true) → (k.left ≡ None → next k.act ≡ locates k.operand) → (k.act.act ≡ acts.GiveUp → ⊥) → Front j c.table (act_of c) k.act front → Acts j (who_at c) gs (seeks_step (Client j) c k cache front)
+seeks_acts j gs c k cache front gone needs asks f = record {
+  user = refl;
+  table = refl;
+  of = f.of [] refl;
+  runs = λ S t o r. let a : Comes j k.act S o front = f.comes S t o r in ap (running S (Client j)) (a.on []) ∙ a.runs;
+  goes = inr (inr (record { act = refl; sent = ((refl, (refl, asks_lookup k.operand)), tt); how = inr (refl, (refl, (k.operand, refl))) }));
+  seeks = λ o e. let same : k ≡ o = some_of k o e in inr (record { running = refl; callee = refl; tries = refl; above = (refl, refl); gone = subst (λ (q : Seek). (left : Left) → q.left ≡ Some left → is_gone_code left.code ≡ true) same gone; sent = ap (λ (q : Seek). seek_message (Client j) (seeking_for c k cache) q.operand ∷ []) same; needs = subst (λ (q : Seek). q.left ≡ None → next q.act ≡ locates q.operand) same needs; asks = subst (λ (q : Seek). q.act.act ≡ acts.GiveUp → ⊥) same asks });
+  each = λ S past t r. f.each S past [] t r (refl, refl) (λ own q. tt);
+  seats = λ k. k;
+  keys = (own_seek j (seeking_for c k cache) k refl, tt);
+  from = (record { from = refl; half = λ z. refl; firm = tt; gift = λ z ls. absurd cc }, tt);
+}
+
+goes_acts : (j : ℕ) (gs : List Gift) (c : ClientState) (front : List Line → List Line) (w : Walked) (need : Need) → next w.act ≡ need → Front j c.table (act_of c) w.act (λ ls. front (looked (Client j) w.looks ls)) → Acts j (who_at c) gs (goes_by (Client j) c front w need)
+goes_acts j gs c front w (answers n) is f = ends_acts j gs c w.cache (λ ls. front (looked (Client j) w.looks ls)) _ w.act f
+goes_acts j gs c front w (locates o) is f = seeks_acts j gs c (record { act = w.act; operand = o; left = None }) w.cache (λ ls. front (looked (Client j) w.looks ls)) (λ left z. absurd cc) (λ z. is) (locates_not w.act o is) f
+goes_acts j gs c front w need is f = calls_acts j gs (record c { cache = w.cache }) w.act (λ ls. front (looked (Client j) w.looks ls)) f
+
+walks_acts : (j : ℕ) (gs : List Gift) (c : ClientState) (clock : ℕ) (front : List Line → List Line) (act : Going) (cache : List CacheEntry) → Front j c.table (act_of c) act front → Acts j (who_at c) gs (walks_on (Client j) c clock front act cache)
 walks_acts j gs c clock front act cache f =
     let w : Walked = walked (most_reads act) clock act cache in
-    goes_acts j gs c front w (next w.act) (subst (λ (g : Going). Front j c.table c.running g (λ ls. front (looked (Client j) w.looks ls))) (walked_reads (most_reads act) clock act cache) (then_front j c.table c.running act (read_all w.looks act) front (looked (Client j) w.looks) f (looked_more j act w.looks (walked_needed (most_reads act) clock act cache))))
+    goes_acts j gs c front w (next w.act) refl (subst (λ (g : Going). Front j c.table (act_of c) g (λ ls. front (looked (Client j) w.looks ls))) (walked_reads (most_reads act) clock act cache) (then_front j c.table (act_of c) act (read_all w.looks act) front (looked (Client j) w.looks) f (looked_more j act w.looks (walked_needed (most_reads act) clock act cache))))
 
-gives_acts : (j : ℕ) (gs : List Gift) (c : ClientState) (front : List Line → List Line) (act : Going) (more : List Gift) → Front j c.table c.running act front → Acts j (who_at c) gs (gives_by (Client j) c front act more)
+gives_acts : (j : ℕ) (gs : List Gift) (c : ClientState) (front : List Line → List Line) (act : Going) (more : List Gift) → Front j c.table (act_of c) act front → Acts j (who_at c) gs (gives_by (Client j) c front act more)
 gives_acts j gs c front act [] f = ends_acts j gs c c.cache front _ act f
 gives_acts j gs c front act (g ∷ more) f = calls_acts j gs (record c { gifts = g ∷ more }) act front f
 
@@ -359,10 +473,12 @@ replies_acts j x gs c place head ls y same gifts q h to code firm = record {
   user = ap (λ (w : Who). w.user) same;
   table = ap (λ (w : Who). w.table) same;
   of = q.of;
-  runs = λ S t o r. q.runs S (lines.Given place ∷ o) ∙ (r ∙ sym (ap (λ (w : Who). w.running) same));
+  runs = λ S t o r. q.runs S (lines.Given place ∷ o) ∙ (r ∙ sym (ap began_by same));
   goes = inl (record { epoch = ap (λ (w : Who). w.epoch) same; last = ap (λ (w : Who). w.last) same; act = inr (ap (λ (w : Who). w.running) same, (gifts, q.begins)); sent = (h, tt) });
+  seeks = λ k e. inl (record { before = sym (ap (λ (w : Who). w.seeking) same) ∙ e; running = ap (λ (w : Who). w.running) same; epoch = ap (λ (w : Who). w.epoch) same; last = ap (λ (w : Who). w.last) same; callee = ap (λ (w : Who). w.callee) same; tries = inl (ap (λ (w : Who). w.tries) same); begins = q.begins });
   each = λ S past t r. (refl, q.each S past (lines.Given place ∷ []));
   seats = λ k. seated (Client j) c.epoch head y c.seats to code firm (subst (AreSeated (Client j)) (sym (ap (λ (w : Who). w.seats) same)) k);
+  keys = (code_seek j (replies_step c place head ls y).state (replied c.epoch head y).head y code, tt);
   from = (record { from = to; half = code_half (replied c.epoch head y) code; firm = firm; gift = λ z ls. absurd cc }, tt);
 }
 
@@ -372,18 +488,18 @@ either_acts false j x gs a b h k = k
 
 -- ---- replies to its calls. `r` tells which act runs
 
-on_given : (j : ℕ) (c : ClientState) (place : ℕ) (act : Going) → c.running ≡ Some act → Front j c.table c.running act (given place)
-on_given j c place act r = subst (λ (o : Option Going). Front j c.table o act (given place)) (sym r) (given_front j c.table act place)
+on_given : (j : ℕ) (c : ClientState) (place : ℕ) (act : Going) → c.running ≡ Some act → Front j c.table (act_of c) act (given place)
+on_given j c place act r = subst (λ (o : Option Going). Front j c.table (act_by o c.seeking) act (given place)) (sym r) (given_front j c.table act place)
 
 again_acts : (j : ℕ) (gs : List Gift) (c : ClientState) (place : ℕ) (act : Going) → c.running ≡ Some act → Acts j (who_at c) gs (calls_again (Client j) c place act)
 again_acts j gs c place act r = calls_acts j gs c act (given place) (on_given j c place act r)
 
 plain_acts : (j : ℕ) (gs : List Gift) (c : ClientState) (place : ℕ) (act : Going) (call : FsCall) → c.running ≡ Some act → Acts j (who_at c) gs (takes_plain (Client j) c place call)
-plain_acts j gs c place act call r = ends_acts j gs c _ (λ ls. given place (dropped (Client j) (dropped_after call c.cache) ls)) _ act (then_front j c.table c.running act act (given place) (dropped (Client j) (dropped_after call c.cache)) (on_given j c place act r) (dropped_more j act (dropped_after call c.cache)))
+plain_acts j gs c place act call r = ends_acts j gs c _ (λ ls. given place (dropped (Client j) (dropped_after call c.cache) ls)) _ act (then_front j c.table (act_of c) act act (given place) (dropped (Client j) (dropped_after call c.cache)) (on_given j c place act r) (dropped_more j act (dropped_after call c.cache)))
 
 -- a read behind the message
-on_read : (j : ℕ) (c : ClientState) (place : ℕ) (act : Going) (l : Look) → IsNeededFrom l.source l.fid l.body (next act) → c.running ≡ Some act → Front j c.table c.running (with_read l.fid l.body act) (read_lines (Client j) place l)
-on_read j c place act l need r = then_front j c.table c.running act (with_read l.fid l.body act) (given place) (λ ls. lines.Read (Client j) l.fid l.index l.source l.body ∷ ls) (on_given j c place act r) (look_more j act l need)
+on_read : (j : ℕ) (c : ClientState) (place : ℕ) (act : Going) (l : Look) → IsNeededFrom l.source l.fid l.body (next act) → c.running ≡ Some act → Front j c.table (act_of c) (with_read l.fid l.body act) (read_lines (Client j) place l)
+on_read j c place act l need r = then_front j c.table (act_of c) act (with_read l.fid l.body act) (given place) (λ ls. lines.Read (Client j) l.fid l.index l.source l.body ∷ ls) (on_given j c place act r) (look_more j act l need)
 
 entry_acts : (j : ℕ) (gs : List Gift) (c : ClientState) (clock place : ℕ) (act : Going) (e : CacheEntry) (body : ReadBody) → c.running ≡ Some act → Acts j (who_at c) gs (takes_entry (Client j) c clock place act e body)
 entry_acts j gs c clock place act e body r =
@@ -394,14 +510,14 @@ entries_acts : (j : ℕ) (gs : List Gift) (c : ClientState) (clock place : ℕ) 
 entries_acts j gs c clock place act es r =
     either_acts (list_any (λ e. not (is_trusted clock e)) es) j (who_at c) gs _ _ (again_acts j gs c place act r)
     (walks_acts j gs c clock (λ ls. given place (looked (Client j) (map status_look es) ls)) (with_statuses es act) (put_entries c.capacity es c.cache)
-    (subst (λ (g : Going). Front j c.table c.running g (λ ls. given place (looked (Client j) (map status_look es) ls))) (status_reads es act) (then_front j c.table c.running act (read_all (map status_look es) act) (given place) (looked (Client j) (map status_look es)) (on_given j c place act r) (looked_more j act (map status_look es) (statuses_needed es act)))))
+    (subst (λ (g : Going). Front j c.table (act_of c) g (λ ls. given place (looked (Client j) (map status_look es) ls))) (status_reads es act) (then_front j c.table (act_of c) act (read_all (map status_look es) act) (given place) (looked (Client j) (map status_look es)) (on_given j c place act r) (looked_more j act (map status_look es) (statuses_needed es act)))))
 
 rights_acts : (j : ℕ) (gs : List Gift) (c : ClientState) (clock place : ℕ) (act : Going) (f : Fid) (index release : ℕ) (text : List ℕ) → c.running ≡ Some act → Acts j (who_at c) gs (takes_rights (Client j) c clock place act f index release text)
 rights_acts j gs c clock place act f index release text r =
     let look : Look = record { fid = f; index = index; source = Fetched; body = seen.AccessList text } in
     let g : Going = with_read f (seen.AccessList text) act in
     walks_acts j gs c clock (λ ls. read_lines (Client j) place look (dropped (Client j) (filter (is_older f index release) c.cache) ls)) g (filter (λ e. not (is_older f index release e)) c.cache)
-    (then_front j c.table c.running g g (read_lines (Client j) place look) (dropped (Client j) (filter (is_older f index release) c.cache)) (on_read j c place act look tt r) (dropped_more j g (filter (is_older f index release) c.cache)))
+    (then_front j c.table (act_of c) g g (read_lines (Client j) place look) (dropped (Client j) (filter (is_older f index release) c.cache)) (on_read j c place act look tt r) (dropped_more j g (filter (is_older f index release) c.cache)))
 
 stored_acts : (j : ℕ) (gs : List Gift) (c : ClientState) (clock place : ℕ) (act : Going) (f : Fid) (index : ℕ) (status : ReadStatus) (made : Option Body → Option Body) → c.running ≡ Some act → Acts j (who_at c) gs (takes_stored (Client j) c clock place f index status made)
 stored_acts j gs c clock place act f index status made r = ends_acts j gs c _ (given place) _ act (on_given j c place act r)
@@ -450,16 +566,28 @@ takes_acts j gs c clock place act call (replies.BulkStatus statuses callbacks sy
 takes_acts j gs c clock place act call replies.GiveUpCallBacks r = given_back_acts j gs c place act call r
 takes_acts j gs c clock place act call reply r = plain_acts j gs c place act call r
 
+gone_acts : (j : ℕ) (gs : List Gift) (c : ClientState) (place : ℕ) (act : Going) (code : Code) (o : Option Operand) → is_gone_code code ≡ true → ((a : Operand) → o ≡ Some a → act.act ≡ acts.GiveUp → ⊥) → c.running ≡ Some act → Acts j (who_at c) gs (asks_where (Client j) c place act code o)
+gone_acts j gs c place act code None e w r = ends_acts j gs c c.cache (given place) code act (on_given j c place act r)
+gone_acts j gs c place act code (Some o) e w r = seeks_acts j gs (record c { moved = c.moved + 1 }) (record { act = act; operand = o; left = Some (record { server = c.callee; code = code }) }) c.cache (given place) (λ left z. subst (λ (l : Left). is_gone_code l.code ≡ true) (some_of (record { server = c.callee; code = code }) left z) e) (λ z. absurd cc) (w o refl) (on_given j c place act r)
+
+for_good_by : (t : Bool) (j : ℕ) (gs : List Gift) (c : ClientState) (place : ℕ) (act : Going) (code : Code) → (is_gone_code code && nat_lt c.moved most_moved) ≡ t → c.running ≡ Some act → Acts j (who_at c) gs (cond t (asks_where (Client j) c place act code (operand_in act (volume_asked (call_of c act)))) (answers_step (Client j) c place code))
+for_good_by true j gs c place act code e r = gone_acts j gs c place act code (operand_in act (volume_asked (call_of c act))) (both (is_gone_code code) (nat_lt c.moved most_moved) e).0 (λ a is. one_of_act (is_home act.homes.second (volume_asked (call_of c act)) && not (is_home act.homes.first (volume_asked (call_of c act)))) act.act a is) r
+for_good_by false j gs c place act code e r = ends_acts j gs c c.cache (given place) code act (on_given j c place act r)
+
+for_good_acts : (j : ℕ) (gs : List Gift) (c : ClientState) (place : ℕ) (act : Going) (code : Code) → c.running ≡ Some act → Acts j (who_at c) gs (refuses_for_good (Client j) c place act code)
+for_good_acts j gs c place act code r =
+    for_good_by (is_gone_code code && nat_lt c.moved most_moved) j gs c place act code refl r
+
 refuses_acts : (j : ℕ) (gs : List Gift) (c : ClientState) (place : ℕ) (act : Going) (code : Code) → c.running ≡ Some act → Acts j (who_at c) gs (refuses (Client j) c place act code)
 refuses_acts j gs c place act code r =
-    either_acts (is_busy_code code && nat_lt c.busy most_busy) j (who_at c) gs _ _ (again_acts j gs (record c { busy = c.busy + 1 }) place act r) (ends_acts j gs c c.cache (given place) code act (on_given j c place act r))
+    either_acts (is_busy_code code && nat_lt c.busy most_busy) j (who_at c) gs _ _ (again_acts j gs (record c { busy = c.busy + 1 }) place act r) (for_good_acts j gs c place act code r)
 
 counts_acts : (j : ℕ) (c : ClientState) (clock place : ℕ) (act : Going) (head : Head) (x : Carried) → c.running ≡ Some act → Acts j (who_at c) c.gifts (counts (Client j) c clock place act head x)
 counts_acts j c clock place act head (carried.Call user call) r = ignores_acts j c place
 counts_acts j c clock place act head (carried.Refusal code) r = either_acts (is_spent c act) j (who_at c) c.gifts _ _ (again_acts j c.gifts c place act r) (refuses_acts j c.gifts c place act code r)
 counts_acts j c clock place act head (carried.Reply (tell.File reply)) r = either_acts (is_spent c act) j (who_at c) c.gifts _ _ (again_acts j c.gifts c place act r) (takes_acts j c.gifts c clock place act _ reply r)
 counts_acts j c clock place act head (carried.Reply reply) r = ignores_acts j c place
-counts_acts j c clock place act head carried.Notice r = record { user = refl; table = refl; of = refl; runs = λ S t o q. q; goes = inl (record { epoch = refl; last = refl; act = inr (refl, (refl, refl)); sent = (record { key = refl; act = act; runs = r; user' = refl; asks = refl; to = refl; opcode = refl }, tt) }); each = λ S past t q. (refl, tt); seats = λ k. k; from = (record { from = refl; half = λ z. refl; firm = tt; gift = λ z ls. absurd cc }, tt) }
+counts_acts j c clock place act head carried.Notice r = record { user = refl; table = refl; of = refl; runs = λ S t o q. q; goes = inl (record { epoch = refl; last = refl; act = inr (refl, (refl, refl)); sent = (record { key = refl; act = act; runs = r; user' = refl; asks = refl; to = refl; opcode = refl }, tt) }); seeks = λ k e. inl (record { before = e; running = refl; epoch = refl; last = refl; callee = refl; tries = inl refl; begins = refl }); each = λ S past t q. (refl, tt); seats = λ k. k; keys = (tt, tt); from = (record { from = refl; half = λ z. refl; firm = tt; gift = λ z ls. absurd cc }, tt) }
 
 awaited_acts : (t : Bool) (j : ℕ) (c : ClientState) (clock place : ℕ) (act : Going) (head : Head) (x : Carried) → c.running ≡ Some act → Acts j (who_at c) c.gifts (cond t (counts (Client j) c clock place act head x) (ignores c place))
 awaited_acts true j c clock place act head x r = counts_acts j c clock place act head x r
@@ -492,10 +620,10 @@ admits_acts : (K L : Head → Type 0) (j : ℕ) (c : ClientState) (place : ℕ) 
 admits_acts K L j c place head x pairs.runs k q to e = carried_acts j c place head x to
 admits_acts K L j c place head x (pairs.kept reply) k q to e =
     let a : IsAnswer K L reply = kept_answer K L c.epoch c.seats head reply k e in
-    told_acts j c place (reply ∷ []) (uncalled_any (IsTheCall j c) reply a.0, tt) (kept_from (Client j) c.epoch c.seats head reply q e, tt)
+    told_acts j c place (reply ∷ []) (uncalled_any (IsTheCall j c) reply a.0, tt) (code_seek j c reply.head reply.carried (kept_code (nat_eq head.boot c.epoch) (Client j) c.epoch c.seats head reply q e), tt) (kept_from (Client j) c.epoch c.seats head reply q e, tt)
 admits_acts K L j c place head x pairs.in_progress k q to e = ignores_acts j c place
 admits_acts K L j c place head x pairs.older k q to e = ignores_acts j c place
-admits_acts K L j c place head x (pairs.wrong_boot boot) k q to e = told_acts j c place (boot_told c.epoch head ∷ []) (tt, tt) (record { from = to; half = λ z. absurd z; firm = tt; gift = λ z ls. absurd cc }, tt)
+admits_acts K L j c place head x (pairs.wrong_boot boot) k q to e = told_acts j c place (boot_told c.epoch head ∷ []) (tt, tt) (tt, tt) (record { from = to; half = λ z. absurd z; firm = tt; gift = λ z ls. absurd cc }, tt)
 
 hears_acts : (K L : Head → Type 0) (j : ℕ) (c : ClientState) (clock place : ℕ) (head : Head) (x : Carried) → AreReplies K L c.seats → AreSeated (Client j) c.seats → head.to ≡ Client j → Acts j (who_at c) c.gifts (hears (Client j) c clock place head x)
 hears_acts K L j c clock place head (carried.Call user call) k q to = admits_acts K L j c place head (carried.Call user call) (admitted c.epoch c.seats head) k q to refl
@@ -512,25 +640,136 @@ pub given_acts : (K L : Head → Type 0) (j : ℕ) (c : ClientState) (clock plac
 unfolding client_row
 given_acts K L j c clock place m k q = if_acts (same_node m.head.to (Client j)) j (who_at c) c.gifts _ _ m.head refl (λ to. hears_acts K L j c clock place m.head m.carried k q to) (ignores_acts j c place)
 
-first_acts : (j : ℕ) (gs : List Gift) (c : ClientState) (clock : ℕ) (front : List Line → List Line) (act : Going) (need : Need) → Front j c.table c.running act front → Acts j (who_at c) gs (begins_by (Client j) c clock front act need)
+first_acts : (j : ℕ) (gs : List Gift) (c : ClientState) (clock : ℕ) (front : List Line → List Line) (act : Going) (need : Need) → Front j c.table (act_of c) act front → Acts j (who_at c) gs (begins_by (Client j) c clock front act need)
 first_acts j gs c clock front act gives_back f =
     gives_acts j gs (record c { cache = untrusted_in clock c.cache }) (λ ls. front (dropped (Client j) (trusted_in clock c.cache) ls)) act (in_order (map gift_of (trusted_in clock c.cache)))
-    (then_front j c.table c.running act act front (dropped (Client j) (trusted_in clock c.cache)) f (dropped_more j act (trusted_in clock c.cache)))
+    (then_front j c.table (act_of c) act act front (dropped (Client j) (trusted_in clock c.cache)) f (dropped_more j act (trusted_in clock c.cache)))
 first_acts j gs c clock front act need f = walks_acts j gs c clock front act c.cache f
 
-pub begins_acts : (j : ℕ) (c : ClientState) (clock : ℕ) (act : Act) → c.running ≡ None → Acts j (who_at c) c.gifts (begin_row (Client j) c clock act)
+pub begins_acts : (j : ℕ) (c : ClientState) (clock : ℕ) (act : Act) → c.running ≡ None → c.seeking ≡ None → Acts j (who_at c) c.gifts (begin_row (Client j) c clock act)
 unfolding begin_row
-begins_acts j c clock act r = first_acts j c.gifts (record c { busy = 0 }) clock (λ ls. lines.Begin (Client j) act ∷ ls) (began c.table act) (next (began c.table act)) (subst (λ (o : Option Going). Front j c.table o (began c.table act) (λ ls. lines.Begin (Client j) act ∷ ls)) (sym r) (begin_front j c.table act))
+begins_acts j c clock act r z =
+    first_acts j c.gifts (record c { busy = 0; moved = 0 }) clock (λ ls. lines.Begin (Client j) act ∷ ls) (began c.table act) (next (began c.table act))
+    (subst (λ (o : Option Going). Front j c.table o (began c.table act) (λ ls. lines.Begin (Client j) act ∷ ls)) (sym (ap (λ (a : Option Going). act_by a c.seeking) r ∙ ap act_sought z)) (begin_front j c.table act))
 
 pub waits_acts : (j : ℕ) (c : ClientState) (act : Going) → c.running ≡ Some act → Acts j (who_at c) c.gifts (timeout_row (Client j) c act)
 waits_acts j c act r = either_acts (nat_lt c.tries 2) j (who_at c) c.gifts _ _
-    (record { user = refl; table = refl; of = one_of j true refl; runs = λ S t o q. q; goes = inl (record { epoch = refl; last = refl; act = inr (refl, (refl, refl)); sent = (record { key = refl; act = act; runs = r; user' = refl; asks = refl; to = refl; opcode = refl }, tt) }); each = λ S past t q. ((refl, ((refl, refl), (refl, refl))), tt); seats = λ k. k; from = (record { from = refl; half = λ z. refl; firm = tt; gift = λ z ls. absurd cc }, tt) })
+    (record { user = refl; table = refl; of = one_of j true refl; runs = λ S t o q. q; goes = inl (record { epoch = refl; last = refl; act = inr (refl, (refl, refl)); sent = (record { key = refl; act = act; runs = r; user' = refl; asks = refl; to = refl; opcode = refl }, tt) }); seeks = λ k e. inl (record { before = e; running = refl; epoch = refl; last = refl; callee = refl; tries = inr (refl, λ o. inl (refl, (refl, (refl, (refl, refl))))); begins = refl }); each = λ S past t q. ((refl, ((refl, refl), (refl, refl))), tt); seats = λ k. k; keys = (tt, tt); from = (record { from = refl; half = λ z. refl; firm = tt; gift = λ z ls. absurd cc }, tt) })
     (ends_acts j c.gifts c _ (λ ls. timeout_line (Client j) c 3 ∷ dropped (Client j) (given_up_in (volume_changed (call_of c act)) c.cache) ls) dead_code act
-    (subst (λ (o : Option Going). Front j c.table o act (λ ls. timeout_line (Client j) c 3 ∷ dropped (Client j) (given_up_in (volume_changed (call_of c act)) c.cache) ls)) (sym r)
+    (subst (λ (o : Option Going). Front j c.table (act_by o c.seeking) act (λ ls. timeout_line (Client j) c 3 ∷ dropped (Client j) (given_up_in (volume_changed (call_of c act)) c.cache) ls)) (sym r)
     (then_front j c.table (Some act) act act (λ ls. timeout_line (Client j) c 3 ∷ ls) (dropped (Client j) (given_up_in (volume_changed (call_of c act)) c.cache)) (timeout_front j c c.table act 3) (dropped_more j act (given_up_in (volume_changed (call_of c act)) c.cache)))))
 
-pub falls_acts : (j : ℕ) (c : ClientState) → Acts j (who_at c) c.gifts (record { state = reborn c; lines = lines.Crash (Client j) ∷ []; sent = [] })
-falls_acts j c = record { user = refl; table = refl; of = one_of j true refl; runs = λ S t o r. rw (same_node-refl (Client j)) refl; goes = inr (inr (record { epoch = refl; last = refl; act = refl; sent = refl; lines = refl })); each = λ S past t r. (refl, tt); seats = λ k n seat m e. absurd cc; from = tt }
+-- it is handed the table that it had
+pub falls_acts : (j : ℕ) (handed : List Location) (c : ClientState) → handed ≡ c.table → Acts j (who_at c) c.gifts (record { state = reborn handed c; lines = lines.Crash (Client j) ∷ []; sent = [] })
+falls_acts j handed c same = record { user = refl; table = same; of = one_of j true refl; runs = λ S t o r. rw (same_node-refl (Client j)) refl; goes = inr (inr (record { act = refl; sent = tt; how = inl (refl, (refl, refl)) })); seeks = λ k e. absurd cc; each = λ S past t r. (refl, tt); seats = λ k n seat m e. absurd cc; keys = tt; from = tt }
 
 pub rises_acts : (j : ℕ) (c : ClientState) → Acts j (who_at c) c.gifts (record { state = c; lines = lines.Restart (Client j) c.epoch ∷ []; sent = [] })
-rises_acts j c = record { user = refl; table = refl; of = one_of j true refl; runs = λ S t o r. r; goes = inl (record { epoch = refl; last = refl; act = inr (refl, (refl, refl)); sent = tt }); each = λ S past t r. ((refl, tt), tt); seats = λ k. k; from = tt }
+rises_acts j c = record { user = refl; table = refl; of = one_of j true refl; runs = λ S t o r. r; goes = inl (record { epoch = refl; last = refl; act = inr (refl, (refl, refl)); sent = tt }); seeks = λ k e. inl (record { before = e; running = refl; epoch = refl; last = refl; callee = refl; tries = inl refl; begins = refl }); each = λ S past t r. ((refl, tt), tt); seats = λ k. k; keys = tt; from = tt }
+
+-- ---- an act that waits for the location database, where that knows no more than the client
+
+-- it does: what is asked of it, the act needs
+pub record IsPlaced (S : Script) (c : ClientState) (k : Seek) : Type 0 where
+  pub table : c.table ≡ locations S
+  pub idle : c.running ≡ None
+  pub seeking : c.seeking ≡ Some k
+  pub unknown : k.left ≡ None → volume_at (locations S) k.operand ≡ None
+
+-- the act is answered: the database has no such volume, for who knows none; it refuses who left a server; or that server is the one
+-- that it knows
+abbrev pub IsEnd : Seek → Carried → Code → Type 0
+IsEnd k x code = ((k.left ≡ None) × (IsNowhere code.0 x × (code.0 ≡ pos no_entry))) ⊎ (((left : Left) × ((k.left ≡ Some left) × (IsRefusedWith code.0 x × (code.0 ≡ pos no_entry)))) ⊎ ((left : Left) × ((k.left ≡ Some left) × (code ≡ left.code))))
+
+-- what comes of a message to it
+pub data Quietly (j : ℕ) (c : ClientState) (place : ℕ) (k : Seek) (head : Head) (x : Carried) (s : Step ClientState) : Type 0 where
+  ends : (code : Code) → IsEnd k x code → HasCode x → s ≡ sought_ends (Client j) c (given place) code → Quietly j c place k head x s
+  ignored : s ≡ ignores c place → Quietly j c place k head x s
+  again : s ≡ seeks_again (Client j) c place k head.boot → Quietly j c place k head x s
+
+put_there : (t : Bool) (l : Location) (ls : List Location) → has_location l ls ≡ t → t ≡ true → put_location l ls ≡ ls
+put_there t l ls e f = ap (λ (b : Bool). cond b ls (filter (λ k. not (stands_for l k)) ls ++ l ∷ [])) (e ∙ f)
+
+located_quiet : (S : Script) (j : ℕ) (c : ClientState) (clock place : ℕ) (k : Seek) (head : Head) (x : Carried) (l : Location) (o : Option Left) → k.left ≡ o → IsPlaced S c k → HasCode x → IsNowhere no_entry_code.0 x → has_location l (locations S) ≡ true → Quietly j c place k head x (located (Client j) c clock place k l o)
+located_quiet S j c clock place k head x l None left p code none there =
+    let same : put_location l c.table ≡ c.table = put_there (has_location l c.table) l c.table refl (ap (has_location l) p.table ∙ there) in
+    ends no_entry_code (inl (left, (none, refl))) code
+    (ap (λ (t : List Location). located_on (Client j) (record c { table = t }) clock place k.act (volume_at t k.operand)) same
+    ∙ ap (located_on (Client j) c clock place k.act) (ap (λ (t : List Location). volume_at t k.operand) p.table ∙ p.unknown left))
+located_quiet S j c clock place k head x l (Some left) is p code none there =
+    ends left.code (inr (inr (left, (is, refl)))) code (ap (λ (b : Bool). cond b (sought_ends (Client j) c (given place) left.code) (moved_on (Client j) (knows l c) place k.act left (volume_at (knows l c).table k.operand))) (ap (has_location l) p.table ∙ there))
+
+entry_quiet : (S : Script) (j : ℕ) (c : ClientState) (clock place : ℕ) (k : Seek) (head : Head) (x : Carried) (o : Option LocEntry) → IsPlaced S c k → HasCode x → IsNowhere no_entry_code.0 x → ((e : LocEntry) → o ≡ Some e → has_location e (locations S) ≡ true) → Quietly j c place k head x (located_by (Client j) c clock place k o)
+entry_quiet S j c clock place k head x None p code none w = ignored refl
+entry_quiet S j c clock place k head x (Some e) p code none w = located_quiet S j c clock place k head x e k.left refl p code none (w e refl)
+
+refused_end : (k : Seek) (code : Code) (o : Option Left) → k.left ≡ o → code.0 ≡ pos no_entry → IsEnd k (carried.Refusal code) code
+refused_end k code None e some = inl (e, (refl, some))
+refused_end k code (Some left) e some = inr (inl (left, (e, (refl, some))))
+
+pub sought_quiet : (S : Script) (j : ℕ) (c : ClientState) (clock place : ℕ) (k : Seek) (head : Head) (x : Carried) → IsPlaced S c k → IsToldIn S x → Quietly j c place k head x (sought_by (Client j) c clock place k head x)
+sought_quiet S j c clock place k head (carried.Call user call) p w = ignored refl
+sought_quiet S j c clock place k head (carried.Refusal code) p w = ends code (refused_end k code k.left refl w) tt refl
+sought_quiet S j c clock place k head (carried.Reply (tell.File reply)) p w = ignored refl
+sought_quiet S j c clock place k head (carried.Reply (tell.Volume reply)) p w = ignored refl
+sought_quiet S j c clock place k head (carried.Reply (tell.Location reply)) p w = entry_quiet S j c clock place k head (carried.Reply (tell.Location reply)) (entry_in reply) p tt tt w
+sought_quiet S j c clock place k head carried.Notice p w = again refl
+
+pub by_quiet : (P : Step ClientState → Type 0) (j : ℕ) (c : ClientState) (place : ℕ) (k : Seek) (head : Head) (x : Carried) (s : Step ClientState) → Quietly j c place k head x s → ((code : Code) → IsEnd k x code → HasCode x → P (sought_ends (Client j) c (given place) code)) → P (ignores c place) → P (seeks_again (Client j) c place k head.boot) → P s
+by_quiet P j c place k head x s (ends code e h q) a b d = subst P (sym q) (a code e h)
+by_quiet P j c place k head x s (ignored q) a b d = subst P (sym q) b
+by_quiet P j c place k head x s (again q) a b d = subst P (sym q) d
+
+-- its front
+on_sought : (j : ℕ) (c : ClientState) (k : Seek) (front : List Line → List Line) → c.running ≡ None → c.seeking ≡ Some k → Front j c.table (Some k.act) k.act front → Front j c.table (act_of c) k.act front
+on_sought j c k front r z f = subst (λ (o : Option Going). Front j c.table o k.act front) (sym (ap (λ (a : Option Going). act_by a c.seeking) r ∙ ap act_sought z)) f
+
+sought_ends_acts : (j : ℕ) (c : ClientState) (k : Seek) (front : List Line → List Line) (code : Code) → c.running ≡ None → Front j c.table (act_of c) k.act front → Acts j (who_at c) c.gifts (sought_ends (Client j) c front code)
+sought_ends_acts j c k front code none f = record {
+  user = refl;
+  table = refl;
+  of = f.of (lines.Answer (Client j) code ∷ []) (one_of j true refl);
+  runs = λ S t o r. let a : Comes j k.act S o front = f.comes S t o r in ap (running S (Client j)) (a.on (lines.Answer (Client j) code ∷ [])) ∙ (answered j S code a.to ∙ sym (ap (λ (a : Option Going). act_by a None) none));
+  goes = inl (record { epoch = refl; last = refl; act = inl none; sent = tt });
+  seeks = λ k e. absurd cc;
+  each = λ S past t r. f.each S past (lines.Answer (Client j) code ∷ []) t r (refl, refl) (λ own q. ((refl, record { act = k.act; runs = q }), tt));
+  seats = λ k. k;
+  keys = tt;
+  from = tt;
+}
+
+told_seek_acts : (j : ℕ) (c : ClientState) (place : ℕ) (k : Seek) (boot : ℕ) → c.seeking ≡ Some k → Acts j (who_at c) c.gifts (seeks_again (Client j) c place k boot)
+told_seek_acts j c place k boot z = record {
+  user = refl;
+  table = refl;
+  of = refl;
+  runs = λ S t o r. r;
+  goes = inl (record { epoch = refl; last = refl; act = inr (refl, (refl, refl)); sent = ((refl, (refl, asks_lookup k.operand)), tt) });
+  seeks = λ k e. inl (record { before = e; running = refl; epoch = refl; last = refl; callee = refl; tries = inl refl; begins = refl });
+  each = λ S past t r. (refl, tt);
+  seats = λ k. k;
+  keys = (own_seek j (record c { boots = with_boot Loc boot c.boots }) k z, tt);
+  from = (record { from = refl; half = λ z. refl; firm = tt; gift = λ z ls. absurd cc }, tt);
+}
+
+pub sought_acts : (S : Script) (j : ℕ) (c : ClientState) (clock place : ℕ) (k : Seek) (head : Head) (x : Carried) → IsPlaced S c k → IsToldIn S x → Acts j (who_at c) c.gifts (sought_by (Client j) c clock place k head x)
+sought_acts S j c clock place k head x p w =
+    by_quiet (Acts j (who_at c) c.gifts) j c place k head x (sought_by (Client j) c clock place k head x) (sought_quiet S j c clock place k head x p w)
+    (λ code e h. sought_ends_acts j c k (given place) code p.idle (on_sought j c k (given place) p.idle p.seeking (given_front j c.table k.act place)))
+    (ignores_acts j c place)
+    (told_seek_acts j c place k head.boot p.seeking)
+
+pub missed_acts : (j : ℕ) (c : ClientState) (k : Seek) → c.running ≡ None → c.seeking ≡ Some k → Acts j (who_at c) c.gifts (seek_timeout_row (Client j) c k)
+missed_acts j c k none z = either_acts (nat_lt c.tries 2) j (who_at c) c.gifts _ _
+    (record {
+      user = refl;
+      table = refl;
+      of = one_of j true refl;
+      runs = λ S t o q. q;
+      goes = inl (record { epoch = refl; last = refl; act = inr (refl, (refl, refl)); sent = ((refl, (refl, asks_lookup k.operand)), tt) });
+      seeks = λ k e. inl (record { before = e; running = refl; epoch = refl; last = refl; callee = refl; tries = inr (refl, λ o. inl (refl, (refl, (refl, (refl, refl))))); begins = refl });
+      each = λ S past t q. ((refl, ((refl, refl), (refl, refl))), tt);
+      seats = λ k. k;
+      keys = (own_seek j (record c { tries = c.tries + 1 }) k z, tt);
+      from = (record { from = refl; half = λ z. refl; firm = tt; gift = λ z ls. absurd cc }, tt);
+    })
+    (sought_ends_acts j c k (λ ls. timeout_line (Client j) c 3 ∷ ls) dead_code none (on_sought j c k (λ ls. timeout_line (Client j) c 3 ∷ ls) none z (timeout_front j c c.table k.act 3)))

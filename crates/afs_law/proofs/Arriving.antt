@@ -1,4 +1,5 @@
 -- The reply for which a client waits, where it comes: it tells what the ideal cell made of its call; and what it brings can be shown.
+use Rattle.afs_law.proofs.Housed.{server_at}
 use Rattle.afs_law.proofs.Passing.{sent_left}
 use Rattle.afs_law.proofs.Loading.{onto_both}
 use Rattle.afs_history.specs.declared.lines.Line.{Line}
@@ -52,7 +53,7 @@ use Rattle.afs_num.specs.declared.types.Head.{Head}
 use Rattle.afs_num.specs.declared.types.Key.{Key}
 use Rattle.afs_num.specs.declared.types.Node.{Node}
 use Rattle.afs_num.specs.declared.types.Node.TheVariants.{Client, Server}
-use Rattle.afs_rows.specs.ClientRow.{call_of, is_awaited, names_call, opcode_of, server_at}
+use Rattle.afs_rows.specs.ClientRow.{call_of, is_awaited, names_call, opcode_of}
 use Rattle.afs_rows.specs.Going.{ClientState, Going}
 use Rattle.afs_rows.specs.Runs.{Cell, Entry, locations, message_at, start}
 use Rattle.afs_rows.specs.ServerRow.{promised_in}
@@ -72,7 +73,7 @@ pub record Based (s : Script) (c : Cell) (past : List Entry) : Type 0 where
   pub ticks : HeldTicks s c past
 
 pub based_kept : (s : Script) → IsKept (Based s)
-based_kept s c past x h = record { truthful = truthful_kept s c past x h.truthful; lones = lones_kept s c past x h.lones; recorded = recorded_kept s c past x h.recorded; silent = silent_kept s c past x h.silent; kept = kept_kept s c past x h.kept; ticks = ticks_kept s c past x h.ticks }
+based_kept s c past x so h = record { truthful = truthful_kept s c past x so h.truthful; lones = lones_kept s c past x so h.lones; recorded = recorded_kept s c past x so h.recorded; silent = silent_kept s c past x so h.silent; kept = kept_kept s c past x so h.kept; ticks = ticks_kept s c past x so h.ticks }
 
 pub based_first : (s : Script) → Based s (start s) (set_up s ∷ [])
 based_first s = record { truthful = truthful_first s; lones = lones_first s; recorded = recorded_first s; silent = silent_first s; kept = kept_first s; ticks = ticks_first s }

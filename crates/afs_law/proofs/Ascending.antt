@@ -1,4 +1,5 @@
 -- The versions of an object ascend, and its server holds the last one, however many servers a cell has.
+use Rattle.afs_law.proofs.Listing.{}
 use Rattle.afs_law.proofs.Walking.{onto_last}
 use Rattle.afs_law.proofs.Ideals.{at_home, AreBlank, Held, IsCalled, VolumesIn, blank_by, blank_last, blow_blank, cut_by, cut_call, from_blank, held_kept, is_blank, of_blank, own_from, saved_at, volumes_first, volumes_moves, loc_blank}
 use Rattle.afs_law.proofs.Loading.{onto_both}
@@ -7,7 +8,7 @@ use Rattle.afs_history.specs.declared.lines.Line.TheVariants as lines
 use Rattle.afs_history.specs.declared.scripts.Script.{Script}
 use Rattle.afs_ideal.specs.Tables.{Table}
 use Rattle.afs_ideal.specs.Volumes.{Volume}
-use Rattle.afs_law.proofs.Acting.{begins_acts, given_acts, is_of, waits_acts}
+use Rattle.afs_law.proofs.Acting.{begins_acts, given_acts, is_of, waits_acts, missed_acts}
 use Rattle.afs_law.proofs.Backing.{all_lines}
 use Rattle.afs_law.proofs.Basics.{IfCall, at_put, both, each_at}
 use Rattle.afs_law.proofs.Booting.{disk_front}
@@ -17,7 +18,7 @@ use Rattle.afs_law.proofs.KeysOnce.{IsKnown, any_told, by_key}
 use Rattle.afs_law.proofs.Words.{IsOne}
 use Rattle.afs_law.proofs.SettingUp.{FirstFacts, first_facts}
 use Rattle.afs_law.proofs.Moving.{Behind, EachMove, IsKept as IsKeptBy, each_moved, run_keeps}
-use Rattle.afs_law.proofs.Origins.{asked_first}
+use Rattle.afs_law.proofs.Origins.{asked_first, sought_acts_in}
 use Rattle.afs_law.proofs.Saving.{onto_versioned, versions_by_next}
 use Rattle.afs_law.proofs.Latest.{has_onto, holding_by, later_by}
 use Rattle.afs_law.specs.Ideal.{HasVersion, first_lines, is_at, last_version, set_up, versions_in, volume_after}
@@ -33,7 +34,7 @@ use Rattle.afs_num.specs.declared.types.Key.{Key}
 use Rattle.afs_num.specs.declared.types.Node.{Node}
 use Rattle.afs_num.specs.declared.types.Node.TheVariants.{Client, Server}
 use Rattle.afs_records.specs.Durable.{Stored}
-use Rattle.afs_rows.specs.ClientRow.{begin_row, client_row, timeout_row}
+use Rattle.afs_rows.specs.ClientRow.{begin_row, client_row, timeout_row, sought_by, seek_timeout_row}
 use Rattle.afs_law.proofs.Steps.{blow_line, server_stays}
 use Rattle.afs_rows.specs.Steps.{Begun}
 use Rattle.afs_rows.specs.Runs.{Cell, Entry, Fall, Moved, RunsTo, at_rest, begun_by_disk, first_volumes, in_boot, start, unarmed, ServerHost}
@@ -107,12 +108,14 @@ ascend_moves : (s : Script) → EachMove (HeldAscend s) (Behind AscendIn)
 ascend_moves s = record {
   void = λ c past h. blank_ascend (lines.Void ∷ []) (lines_of past) refl h.1;
   ticked = λ c past n h. blank_ascend (lines.Tick (suc n) ∷ []) (lines_of past) refl h.1;
-  begun = λ c past n act h r. acts_ascend past n (begin_row (Client n) (c.clients n) c.clock act).lines h.1 (begins_acts n (c.clients n) c.clock act r).of;
+  begun = λ c past n act h r z. acts_ascend past n (begin_row (Client n) (c.clients n) c.clock act).lines h.1 (begins_acts n (c.clients n) c.clock act r z).of;
   told = λ c past n place m h at to. acts_ascend past n (client_row (Client n) (c.clients n) c.clock place (Whole m)).lines h.1 (given_acts (by_key (IsKnown h.0.0.0.keys.callees c.clients)) any_told n (c.clients n) c.clock place m (h.0.0.0.keys.replies n) (h.0.0.1.seats n)).of;
+  sought = λ c past n place m k h at to z e. acts_ascend past n (sought_by (Client n) (c.clients n) c.clock place k m.head m.carried).lines h.1 (sought_acts_in s c past n place m k h.0.0.1 at z e).of;
+  missed = λ c past n k h r z. acts_ascend past n (seek_timeout_row (Client n) (c.clients n) k).lines h.1 (missed_acts n (c.clients n) k r z).of;
   waited = λ c past n act h r. acts_ascend past n (timeout_row (Client n) (c.clients n) act).lines h.1 (waits_acts n (c.clients n) act r).of;
   fallen = λ c past n h. blank_ascend (lines.Crash (Client n) ∷ []) (lines_of past) refl h.1;
   risen = λ c past n h. blank_ascend (lines.Restart (Client n) (c.clients n).epoch ∷ []) (lines_of past) refl h.1;
-  loc = λ c past l ls h st. blank_ascend ls (lines_of past) (loc_blank ls st.lines) h.1;
+  loc = λ c past l ls ms h st. blank_ascend ls (lines_of past) (loc_blank ls st.lines) h.1;
   served = λ c past i place m armed h up at to. works_ascend s c past i _ _ h (serves_works (IsCalled c.sent) (Server i) (c.hosts i).state c.clock place m (λ rest. each_at (IfCall (IsOne c.sent)) c.sent place m at h.0.0.1.ones));
   cut = λ c past i place m t h up at to. blank_ascend (lines.Given place ∷ blow_line i t.stops ∷ []) (lines_of past) (blow_blank i place t.stops) h.1;
   stopped = λ c past i h up. blank_ascend (lines.Crash (Server i) ∷ []) (lines_of past) refl h.1;
@@ -129,7 +132,7 @@ ascend_moves s = record {
 }
 
 pub ascend_kept : (s : Script) → IsKeptBy (HeldAscend s)
-ascend_kept s c past x h = (held_kept s c past x h.0, each_moved (HeldAscend s) (Behind AscendIn) (ascend_moves s) c past x h)
+ascend_kept s c past x so h = (held_kept s c past x so h.0, each_moved (HeldAscend s) (Behind AscendIn) (ascend_moves s) c past x so h)
 
 pub ascend_first : (s : Script) → HeldAscend s (start s) (set_up s ∷ [])
 ascend_first s = let facts : FirstFacts (first_volumes s.volumes) (onto [] (first_lines s.volumes)) = first_facts s.volumes in ((asked_first s, volumes_first s), record { top = facts.top; one = facts.one })
@@ -159,7 +162,7 @@ kept_behind s c past i v fall h down at told =
     record { last = k.last; is_last = sym (ap (last_version v.fid) l) ∙ k.is_last; since = k.since; same = k.same; volume = k.volume; at = ap (volume_in v.fid.volume) (sym here) ∙ k.at; held = k.held }
 
 ascend_at : (s : Script) (h : List Entry) (end : Cell) → RunsTo h s end → HeldAscend s end (past_of (set_up s ∷ []) h)
-ascend_at s h end r = run_keeps (HeldAscend s) (ascend_kept s) r.inputs (start s) (set_up s ∷ []) h end (ascend_first s) r.leads
+ascend_at s h end r = run_keeps (HeldAscend s) (ascend_kept s) r.inputs s (set_up s ∷ []) h end (ascend_first s) r.leads
 
 pub run_versions : VersionsAreKept
 run_versions s h end r i v home told =

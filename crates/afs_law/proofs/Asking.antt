@@ -1,7 +1,8 @@
 -- What a client sends is the call of its running act, under its last pair, to the server of what it names, however many servers a cell has.
+use Rattle.afs_law.proofs.Listing.{loc_uncalled}
 use Rattle.afs_history.specs.declared.lines.Line.{Line}
 use Rattle.afs_history.specs.declared.scripts.Script.{Script}
-use Rattle.afs_law.proofs.Acting.{Acts, IsTheCall, begins_acts, falls_acts, given_acts, last_key, rises_acts, waits_acts, who_at}
+use Rattle.afs_law.proofs.Acting.{Acts, IsTheCall, begins_acts, falls_acts, given_acts, last_key, rises_acts, waits_acts, who_at, missed_acts, IfSeek, OfSeek}
 use Rattle.afs_law.proofs.Addressed.{AsksOf, IsHome, IsOneIn}
 use Rattle.afs_law.proofs.Basics.{ByClient, Each, IfCall, OfCall, UpTo, at_put, by_client, each_map, if_call}
 use Rattle.afs_law.proofs.Calling.{IsUncalled, uncalled_any}
@@ -10,7 +11,7 @@ use Rattle.afs_law.proofs.KeysOnce.{IsKnown, any_told, by_key, known_pair}
 use Rattle.afs_law.proofs.Knowing.{served_uncalled, started_uncalled, timed_uncalled, woken_uncalled}
 use Rattle.afs_law.proofs.Located.{laid_at}
 use Rattle.afs_law.proofs.Moving.{EachMove}
-use Rattle.afs_law.proofs.Origins.{KnownAsked, the_calls}
+use Rattle.afs_law.proofs.Origins.{KnownAsked, the_calls, handed_same, sought_acts_in, IsUpToLast}
 use Rattle.afs_law.proofs.SettingUp.{any_home}
 use Rattle.afs_law.specs.Ideal.{is_at}
 use Rattle.afs_law.specs.Legal.{AcceptsEach, IsAtHome, IsLastCall}
@@ -58,12 +59,14 @@ pub asks_moves : (s : Script) → EachMove (KnownAsked s) AsksNow
 asks_moves s = record {
   void = λ c past h. tt;
   ticked = λ c past n h. tt;
-  begun = λ c past n act h r. client_now c n _ (begins_acts n (c.clients n) c.clock act r);
+  begun = λ c past n act h r z0. client_now c n _ (begins_acts n (c.clients n) c.clock act r z0);
   told = λ c past n place m h at to. client_now c n _ (given_acts (by_key (IsKnown h.0.keys.callees c.clients)) any_told n (c.clients n) c.clock place m (h.0.keys.replies n) (h.1.seats n));
+  sought = λ c past n place m k h at to z e. client_now c n _ (sought_acts_in s c past n place m k h.1 at z e);
+  missed = λ c past n k h r z. client_now c n _ (missed_acts n (c.clients n) k r z);
+  loc = λ c past l ls ms h st. none_now c _ (loc_uncalled c l ls ms st);
   waited = λ c past n act h r. client_now c n _ (waits_acts n (c.clients n) act r);
-  fallen = λ c past n h. client_now c n _ (falls_acts n (c.clients n));
+  fallen = λ c past n h. client_now c n _ (falls_acts n c.handed (c.clients n) (handed_same s c past (h.1) n));
   risen = λ c past n h. client_now c n _ (rises_acts n (c.clients n));
-  loc = λ c past l ls h st. tt;
   served = λ c past i place m armed h up at to. none_now c _ (served_uncalled c past i place m h.0 at);
   cut = λ c past i place m t h up at to. tt;
   stopped = λ c past i h up. tt;
@@ -82,19 +85,19 @@ asks_moves s = record {
 abbrev KnownBy : (Key → Node) → (ℕ → ClientState) → Head → List ℕ → FsCall → Type 0
 KnownBy callees clients head user call = IsKnown callees clients head.to (key_of head)
 
-up_to_last : (callees : Key → Node) (clients : ℕ → ClientState) (n : ℕ) (head : Head) (x : Carried) → IsCall x → head.from ≡ Client n → OfCall (ByClient (KnownBy callees clients)) head x → UpTo head.epoch head.number (clients n).epoch (clients n).last
-up_to_last callees clients n head (carried.Call user (ask.File call)) is from h = known_pair callees clients head.to (key_of head) n from (by_client n head.from (KnownBy callees clients head user call) from h)
-up_to_last callees clients n head (carried.Call user (ask.Volume call)) is from h = absurd h
-up_to_last callees clients n head (carried.Call user (ask.Location call)) is from h = absurd h
-up_to_last callees clients n head (carried.Refusal code) is from h = absurd is
-up_to_last callees clients n head (carried.Reply reply) is from h = absurd is
-up_to_last callees clients n head carried.Notice is from h = absurd is
+pub up_to_last : (callees : Key → Node) (clients : ℕ → ClientState) (n : ℕ) (head : Head) (x : Carried) → IsCall x → head.from ≡ Client n → OfCall (ByClient (KnownBy callees clients)) head x → OfSeek (IsUpToLast clients) head x → UpTo head.epoch head.number (clients n).epoch (clients n).last
+up_to_last callees clients n head (carried.Call user (ask.File call)) is from h q = known_pair callees clients head.to (key_of head) n from (by_client n head.from (KnownBy callees clients head user call) from h)
+up_to_last callees clients n head (carried.Call user (ask.Volume call)) is from h q = absurd h
+up_to_last callees clients n head (carried.Call user (ask.Location call)) is from h q = q n from
+up_to_last callees clients n head (carried.Refusal code) is from h q = absurd is
+up_to_last callees clients n head (carried.Reply reply) is from h q = absurd is
+up_to_last callees clients n head carried.Notice is from h q = absurd is
 
-pub its_last : (callees : Key → Node) (clients : ℕ → ClientState) (n : ℕ) (k : Key) (ms : List Message) → k ≡ last_key n (clients n) → Each (IfCall (KnownBy callees clients)) ms → IsLastCall k ms
-its_last callees clients n k [] key h = tt
-its_last callees clients n k (m ∷ ms) key h = (
-  λ is from. subst (λ (l : Key). UpTo m.head.epoch m.head.number l.epoch l.number) (sym key) (up_to_last callees clients n m.head m.carried is (subst (λ (l : Key). m.head.from ≡ l.node) key from) h.0),
-  its_last callees clients n k ms key h.1,
+pub its_last : (callees : Key → Node) (clients : ℕ → ClientState) (n : ℕ) (k : Key) (ms : List Message) → k ≡ last_key n (clients n) → Each (IfCall (KnownBy callees clients)) ms → Each (IfSeek (IsUpToLast clients)) ms → IsLastCall k ms
+its_last callees clients n k [] key h q = tt
+its_last callees clients n k (m ∷ ms) key h q = (
+  λ is from. subst (λ (l : Key). UpTo m.head.epoch m.head.number l.epoch l.number) (sym key) (up_to_last callees clients n m.head m.carried is (subst (λ (l : Key). m.head.from ≡ l.node) key from) h.0 q.0),
+  its_last callees clients n k ms key h.1 q.1,
 )
 
 -- ---- the callee accepts stores of what the call names

@@ -20,6 +20,12 @@ use Rattle.afs_num.specs.declared.types.Head.{Head}
 use Rattle.afs_num.specs.declared.types.Key.{Key}
 use Rattle.afs_num.specs.declared.types.Node.{Node}
 use Rattle.afs_num.specs.declared.types.Node.TheVariants.{Loc, Server, Client, Admin}
+use Rattle.afs_num.specs.declared.location_calls.LocCall.{LocCall}
+use Rattle.afs_num.specs.declared.location_calls.LocCall.TheVariants as loc
+use Rattle.afs_history.specs.declared.acts.Operand.{Operand}
+use Rattle.afs_history.specs.declared.acts.Operand.TheVariants as operands
+use Rattle.afs_rows.specs.ClientRow.{question}
+use Rattle.afs_rows.specs.ServerRow.{is_client}
 use Rattle.afs_num.specs.declared.calls.FsCall.{FsCall}
 use Rattle.afs_num.specs.declared.messages.Carried.{Carried}
 use Rattle.afs_num.specs.declared.messages.Message.{Message}
@@ -287,8 +293,26 @@ found-refreshed clock f g i t b (v ∷ vs) = rw (refreshed_fid_by (same_fid v.fi
 
 -- ---- every call, every reply in a list of messages
 
+-- where a volume is
+abbrev pub IsLookup : LocCall → Type 0
+IsLookup (loc.GetEntryById id) = ⊤
+IsLookup (loc.GetEntryByName name) = ⊤
+IsLookup call = ⊥
+
+-- of the location database clients ask nothing but that, and nobody else asks it
+abbrev pub IsSeek : Head → LocCall → Type 0
+IsSeek head call = (head.to ≡ Loc) × ((is_client head.from ≡ true) × IsLookup call)
+
+pub asks_lookup : (o : Operand) → IsLookup (question o)
+asks_lookup (operands.Path p) = tt
+asks_lookup (operands.Fid f) = tt
+
+pub not_loc : (head : Head) (n : Node) (A : Type 0) → head.to ≡ n → same_node n Loc ≡ false → head.to ≡ Loc → A
+not_loc head n A to ne is = absurd (let no : same_node n Loc ≡ true = subst (λ (q : Node). same_node q Loc ≡ true) (sym is ∙ to) refl in absurd cc)
+
 abbrev pub OfCall : (Head → List ℕ → FsCall → Type 0) → Head → Carried → Type 0
 OfCall P head (carried.Call user (ask.File call)) = P head user call
+OfCall P head (carried.Call user (ask.Location call)) = IsSeek head call
 OfCall P head (carried.Call user call) = ⊥
 OfCall P head c = ⊤
 
@@ -375,7 +399,7 @@ each_at P (x ∷ a) (suc (suc p)) m e h = each_at P a (suc p) m e h.1
 pub of_call : (P Q : Head → List ℕ → FsCall → Type 0) → ((head : Head) (user : List ℕ) (call : FsCall) → P head user call → Q head user call) → (head : Head) (c : Carried) → OfCall P head c → OfCall Q head c
 of_call P Q w head (carried.Call user (ask.File call)) h = w head user call h
 of_call P Q w head (carried.Call user (ask.Volume call)) h = absurd h
-of_call P Q w head (carried.Call user (ask.Location call)) h = absurd h
+of_call P Q w head (carried.Call user (ask.Location call)) h = h
 of_call P Q w head (carried.Refusal code) h = tt
 of_call P Q w head (carried.Reply reply) h = tt
 of_call P Q w head carried.Notice h = tt

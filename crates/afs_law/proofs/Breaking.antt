@@ -15,7 +15,7 @@ use Rattle.afs_law.proofs.Passing.{no_change}
 use Rattle.afs_law.proofs.Promising.{Owed, hits, saves_turn, saves_turn_is, shows_turn, shows_turn_is, staying, with_promises, without_promises}
 use Rattle.afs_law.proofs.Reasons.{IsRead, Ran, Runs, Why, gives_up_as, held_by}
 use Rattle.afs_law.proofs.Saving.{carried_reply, on_changed, onto_versioned, versioned_front, versions_lines}
-use Rattle.afs_law.proofs.Seating.{IsReplyOf}
+use Rattle.afs_law.proofs.Seated.{IsReplyOf}
 use Rattle.afs_law.proofs.Finding.{above_more, and_true, comes}
 use Rattle.afs_law.proofs.Turning.{IsServing, TurnSends, break_good, loaded, put_call, reply_key}
 use Rattle.afs_law.specs.Breaks.{AllOwes, drops_of, fids_given_up, has_answer, is_in, is_to_come, last_number, lines_at, returned_by, returned_in}

@@ -1,10 +1,12 @@
 -- What a client shows of a file from its cache came to it since it last crashed, as that of this version, however many servers a cell has.
+use Rattle.afs_history.specs.declared.acts.Operand.{Operand}
+use Rattle.afs_law.specs.LocLaws.{IsToldIn}
 use Rattle.afs_history.specs.declared.acts.Act.{Act}
 use Rattle.afs_history.specs.declared.lines.Line.{Line}
 use Rattle.afs_history.specs.declared.lines.Line.TheVariants as lines
 use Rattle.afs_history.specs.declared.scripts.Script.{Script}
 use Rattle.afs_ideal.specs.Operations.{volume_changed}
-use Rattle.afs_law.proofs.Acting.{Acts, begins_acts, falls_acts, given_acts, is_of, rises_acts, waits_acts, who_at}
+use Rattle.afs_law.proofs.Acting.{Acts, begins_acts, falls_acts, given_acts, is_of, rises_acts, waits_acts, who_at, IsPlaced, by_quiet, sought_quiet, missed_acts}
 use Rattle.afs_law.proofs.Apart.{found_filter, put_found}
 use Rattle.afs_law.proofs.Backing.{all_lines}
 use Rattle.afs_law.proofs.Basics.{at_put, both, found-cached-fid, found-refreshed, same_fid-true, same_node-refl, some_of}
@@ -21,7 +23,7 @@ use Rattle.afs_law.proofs.KeysOnce.{IsKnown, any_told, by_key}
 use Rattle.afs_law.proofs.Looking.{AreLooks, walked_looks}
 use Rattle.afs_law.proofs.Moving.{EachMove, IsKept, each_moved}
 use Rattle.afs_law.proofs.Nexts.{as_changed}
-use Rattle.afs_law.proofs.Origins.{any_cut, any_message, blow_idle, idle_works, is_idle, of_client, other_node, server_apart, loc_idle}
+use Rattle.afs_law.proofs.Origins.{any_cut, any_message, blow_idle, idle_works, is_idle, of_client, other_node, server_apart, loc_idle, sought_acts_in, placed_in, told_in, handed_same}
 use Rattle.afs_law.proofs.Sent.{call_is}
 use Rattle.afs_law.proofs.Walking.{looked_more, walked_found}
 use Rattle.afs_law.proofs.Words.{AreApart}
@@ -60,12 +62,13 @@ use Rattle.afs_num.specs.declared.types.Code.{Code}
 use Rattle.afs_num.specs.declared.types.Fid.{Fid}
 use Rattle.afs_num.specs.declared.types.Head.{Head}
 use Rattle.afs_num.specs.declared.types.Node.{Node}
-use Rattle.afs_num.specs.declared.types.Node.TheVariants.{Client, Server, Loc}
+use Rattle.afs_num.specs.declared.types.Node.TheVariants.{Client, Server, Loc, Admin}
 use Rattle.afs_rows.specs.Callbacks.{put}
-use Rattle.afs_rows.specs.ClientRow.{Look, Walked, admits_call, awaits, begin_row, begins_by, behind_batch, body_kept, body_seen, body_told, breaks, call_of, client_row, counts, dead_code, drop_line, dropped, dropped_after, ended, entries_told, entry_told, find_cached, gift_of, given, given_up_in, gives_by, gives_up, goes_by, hears, ignores, in_order, is_awaited, is_below, is_busy_code, is_named, is_older, is_spent, is_trusted, left_after, left_in, look_at, looked, most_busy, most_reads, put_entries, put_entry, read_lines, refreshed, runs_carried, shown_by, status_look, status_told, takes, takes_bulk, takes_data, takes_entries, takes_entry, takes_given, takes_list, takes_set, takes_shown, takes_status, timeout_line, timeout_row, tries_again, trusted_in, untrusted_in, walked, walks_on, whole, with_statuses, zero_code}
-use Rattle.afs_rows.specs.Going.{ClientState, Going, Need, answers, asked, asks_for, began, gives_back, next, reads, reads_rights, reads_status, reads_statuses, with_read}
+use Rattle.afs_rows.specs.ClientRow.{Look, Walked, admits_call, awaits, begin_row, begins_by, behind_batch, body_kept, body_seen, body_told, breaks, call_of, client_row, counts, dead_code, drop_line, dropped, dropped_after, ended, entries_told, entry_told, find_cached, gift_of, given, given_up_in, gives_by, gives_up, goes_by, hears, ignores, in_order, is_awaited, is_below, is_busy_code, is_named, is_older, is_spent, is_trusted, left_after, left_in, look_at, looked, most_busy, most_reads, put_entries, put_entry, read_lines, refreshed, runs_carried, shown_by, status_look, status_told, takes, takes_bulk, takes_data, takes_entries, takes_entry, takes_given, takes_list, takes_set, takes_shown, takes_status, timeout_line, timeout_row, tries_again, trusted_in, untrusted_in, walked, walks_on, whole, with_statuses, zero_code, act_by, asks_where, answers_step, calls_again, refuses, refuses_for_good, is_gone_code, most_moved, volume_asked, sought_by, seek_timeout_row, seeks_on, sought_ends}
+use Rattle.afs_rows.specs.Going.{ClientState, Going, Need, answers, asked, asks_for, began, gives_back, next, reads, reads_rights, reads_status, reads_statuses, with_read, Seek, locates, operand_in}
 use Rattle.afs_law.proofs.Steps.{blow_line, server_falls, server_moves, server_rises, server_set, server_stays, loc_becomes}
 use Rattle.afs_rows.specs.Runs.{Cell, Entry, Moved, at_rest, begun_by_disk, in_boot, in_step, message_at, start, ticked, voided}
+use Rattle.afs_law.proofs.Steps.{loc_becomes}
 use Rattle.afs_rows.specs.Scopes.{is_in_scope}
 use Rattle.afs_rows.specs.ServerSteps.{back_timeout_row, server_row, wake_row}
 use Rattle.afs_rows.specs.States.{CacheEntry, Gift}
@@ -220,7 +223,7 @@ record IsNow (s : Script) (n : ℕ) (c : ClientState) (past : List Entry) : Type
   apart : AreApart c.cache
   home : AreKept (IsAt s) c.cache
   had : Had s n c.cache (lines_of past)
-  runs : running s (Client n) (lines_of past) ≡ c.running
+  runs : (act : Going) → c.running ≡ Some act → running s (Client n) (lines_of past) ≡ Some act
 
 bare_step : (s : Script) (n : ℕ) (c : ClientState) (past : List Entry) (st : Step ClientState) → IsNow s n c past → all_lines is_bare st.lines ≡ true → Spared st.state.cache st.lines → Within st.state.cache c.cache → Carries s n past st
 bare_step s n c past st N h spared w = record { told = bare_told s (actors.Node (Client n)) past [] st.lines h; after = had_onto s n st.state.cache st.lines (lines_of past) (bare_steady st.lines h) spared (λ f e x. N.had f e (w f e x)) }
@@ -297,6 +300,7 @@ shown_body (reads_statuses fs) e x h = absurd cc
 shown_body (reads_rights f) e x h = absurd cc
 shown_body (asks_for call) e x h = absurd cc
 shown_body gives_back e x h = absurd cc
+shown_body (locates o) e x h = absurd cc
 shown_body (answers code) e x h = absurd cc
 
 pub brought_shown : (s : Script) (n : ℕ) (need : Need) (e : CacheEntry) (body : ReadBody) (o : List Line) → shown_by need e ≡ Some body → IsHad s n e.fid e o → IsBrought s (Client n) e.fid e.index Cached body o
@@ -456,25 +460,25 @@ stored_carries s n place clock c past g index status made into itself new N = re
 }
 
 -- the act that runs asks for this call
-asks_call : (s : Script) (n : ℕ) (c : ClientState) (past : List Entry) (act : Going) (call : FsCall) (P : Option Going → Type 0) → running s (Client n) (lines_of past) ≡ c.running → c.running ≡ Some act → P (Some act) → P (running s (Client n) (lines_of past))
-asks_call s n c past act call P runs run h = subst P (sym (runs ∙ run)) h
+asks_call : (s : Script) (n : ℕ) (c : ClientState) (past : List Entry) (act : Going) (call : FsCall) (P : Option Going → Type 0) → running s (Client n) (lines_of past) ≡ Some act → P (Some act) → P (running s (Client n) (lines_of past))
+asks_call s n c past act call P runs h = subst P (sym runs) h
 
 asked_is : (c : ClientState) (act : Going) (call : FsCall) → call_of c act ≡ call → as_asked call ≡ call → asked act ≡ call
 asked_is c act call same plain = sym (call_is c act) ∙ (ap as_asked same ∙ plain)
 
 -- and it is of just this object
-into_by : (s : Script) (n : ℕ) (c : ClientState) (past : List Entry) (act : Going) (call : FsCall) (f : Fid) → running s (Client n) (lines_of past) ≡ c.running → c.running ≡ Some act → call_of c act ≡ call → as_asked call ≡ call → StoresInto call f → StoresIntoBy (running s (Client n) (lines_of past)) f
-into_by s n c past act call f runs run same plain h = asks_call s n c past act call (λ o. StoresIntoBy o f) runs run (subst (λ (k : FsCall). StoresInto k f) (sym (asked_is c act call same plain)) h)
+into_by : (s : Script) (n : ℕ) (c : ClientState) (past : List Entry) (act : Going) (call : FsCall) (f : Fid) → running s (Client n) (lines_of past) ≡ Some act → call_of c act ≡ call → as_asked call ≡ call → StoresInto call f → StoresIntoBy (running s (Client n) (lines_of past)) f
+into_by s n c past act call f runs same plain h = asks_call s n c past act call (λ o. StoresIntoBy o f) runs (subst (λ (k : FsCall). StoresInto k f) (sym (asked_is c act call same plain)) h)
 
 -- a store of the whole
-stores_by : (s : Script) (n place : ℕ) (c : ClientState) (past : List Entry) (act : Going) (call : FsCall) (f : Fid) (index : ℕ) (b : Body) → HasMadeItself (Client n) f index (lines_of past) → running s (Client n) (lines_of past) ≡ c.running → c.running ≡ Some act → call_of c act ≡ call → as_asked call ≡ call → Stores call f b → HasBrought s (Client n) f index b (lines.Answer (Client n) zero_code ∷ lines.Given place ∷ lines_of past)
-stores_by s n place c past act call f index b itself runs run same plain h =
-    inl (refl, (refl, (itself, inl (asks_call s n c past act call (λ o. StoresBy o f b) runs run (subst (λ (k : FsCall). Stores k f b) (sym (asked_is c act call same plain)) h)))))
+stores_by : (s : Script) (n place : ℕ) (c : ClientState) (past : List Entry) (act : Going) (call : FsCall) (f : Fid) (index : ℕ) (b : Body) → HasMadeItself (Client n) f index (lines_of past) → running s (Client n) (lines_of past) ≡ Some act → call_of c act ≡ call → as_asked call ≡ call → Stores call f b → HasBrought s (Client n) f index b (lines.Answer (Client n) zero_code ∷ lines.Given place ∷ lines_of past)
+stores_by s n place c past act call f index b itself runs same plain h =
+    inl (refl, (refl, (itself, inl (asks_call s n c past act call (λ o. StoresBy o f b) runs (subst (λ (k : FsCall). Stores k f b) (sym (asked_is c act call same plain)) h)))))
 
 -- and a setting of what isn't in the object, over contents of the index below
-sets_by : (s : Script) (n place : ℕ) (c : ClientState) (past : List Entry) (act : Going) (call : FsCall) (f : Fid) (index below : ℕ) (b : Body) → HasMadeItself (Client n) f index (lines_of past) → index ≡ below + 1 → running s (Client n) (lines_of past) ≡ c.running → c.running ≡ Some act → call_of c act ≡ call → as_asked call ≡ call → Sets call f → HasBrought s (Client n) f below b (lines_of past) → HasBrought s (Client n) f index b (lines.Answer (Client n) zero_code ∷ lines.Given place ∷ lines_of past)
-sets_by s n place c past act call f index below b itself above runs run same plain h had =
-    inl (refl, (refl, (itself, inr (below, (above, (asks_call s n c past act call (λ o. SetsBy o f) runs run (subst (λ (k : FsCall). Sets k f) (sym (asked_is c act call same plain)) h), had))))))
+sets_by : (s : Script) (n place : ℕ) (c : ClientState) (past : List Entry) (act : Going) (call : FsCall) (f : Fid) (index below : ℕ) (b : Body) → HasMadeItself (Client n) f index (lines_of past) → index ≡ below + 1 → running s (Client n) (lines_of past) ≡ Some act → call_of c act ≡ call → as_asked call ≡ call → Sets call f → HasBrought s (Client n) f below b (lines_of past) → HasBrought s (Client n) f index b (lines.Answer (Client n) zero_code ∷ lines.Given place ∷ lines_of past)
+sets_by s n place c past act call f index below b itself above runs same plain h had =
+    inl (refl, (refl, (itself, inr (below, (above, (asks_call s n c past act call (λ o. SetsBy o f) runs (subst (λ (k : FsCall). Sets k f) (sym (asked_is c act call same plain)) h), had))))))
 
 if_carries : (t : Bool) (s : Script) (n : ℕ) (past : List Entry) (a b : Step ClientState) → (t ≡ true → Carries s n past a) → Carries s n past b → Carries s n past (cond t a b)
 if_carries true s n past a b h k = h refl
@@ -495,7 +499,7 @@ status_carries s n clock place c past act f status call into itself run same pla
     let low : is_below clock index (find_cached f c.cache) ≡ true = (both (not c.spoiled) (is_below clock index (find_cached f c.cache)) t).1 in
     let at : find_cached f c.cache ≡ Some u = ap (λ (h : Fid). find_cached h c.cache) e ∙ found in
     let above : index ≡ u.index + 1 = below_by clock index u trusted (subst (λ (o : Option CacheEntry). is_below clock index o ≡ true) at low) in
-    subst (λ (h : Fid). HasBrought s (Client n) h index b (lines.Answer (Client n) zero_code ∷ lines.Given place ∷ lines_of past)) e (sets_by s n place c past act call f index u.index b itself above N.runs run same plain sets ((N.had f u at).1 b body)))
+    subst (λ (h : Fid). HasBrought s (Client n) h index b (lines.Answer (Client n) zero_code ∷ lines.Given place ∷ lines_of past)) e (sets_by s n place c past act call f index u.index b itself above (N.runs act run) same plain sets ((N.had f u at).1 b body)))
     N)
     (plain_carries s n place c past call zero_code N)
 
@@ -506,9 +510,9 @@ Made n past call status = (f : Fid) → stored_fid call ≡ Some f → HasMadeIt
 set_carries : (s : Script) (n clock place : ℕ) (c : ClientState) (past : List Entry) (act : Going) (status : AfsFetchStatus) (call : FsCall) → Made n past call status → c.running ≡ Some act → call_of c act ≡ call → IsNow s n c past → Carries s n past (takes_set (Client n) c clock place status call)
 set_carries s n clock place c past act status (calls.StoreData f set position wanted file_length contents) M run same N =
     either_carries c.spoiled s n past _ _ (plain_carries s n place c past (calls.StoreData f set position wanted file_length contents) zero_code N)
-    (stored_carries s n place clock c past f status.sync_counter (status_told status) (λ body. Some (bodies.File contents)) (λ g e. into_by s n c past act (calls.StoreData f set position wanted file_length contents) g N.runs run same refl e) (M f refl) (λ g u b e found trusted body. stores_by s n place c past act (calls.StoreData f set position wanted file_length contents) g status.sync_counter b (subst (λ (h : Fid). HasMadeItself (Client n) h status.sync_counter (lines_of past)) e (M f refl)) N.runs run same refl (e, sym (some_of (bodies.File contents) b body))) N)
-set_carries s n clock place c past act status (calls.StoreAcl f acl) M run same N = status_carries s n clock place c past act f status (calls.StoreAcl f acl) (λ g e. into_by s n c past act (calls.StoreAcl f acl) g N.runs run same refl e) (M f refl) run same refl refl N
-set_carries s n clock place c past act status (calls.StoreStatus f set) M run same N = status_carries s n clock place c past act f status (calls.StoreStatus f set) (λ g e. into_by s n c past act (calls.StoreStatus f set) g N.runs run same refl e) (M f refl) run same refl refl N
+    (stored_carries s n place clock c past f status.sync_counter (status_told status) (λ body. Some (bodies.File contents)) (λ g e. into_by s n c past act (calls.StoreData f set position wanted file_length contents) g (N.runs act run) same refl e) (M f refl) (λ g u b e found trusted body. stores_by s n place c past act (calls.StoreData f set position wanted file_length contents) g status.sync_counter b (subst (λ (h : Fid). HasMadeItself (Client n) h status.sync_counter (lines_of past)) e (M f refl)) (N.runs act run) same refl (e, sym (some_of (bodies.File contents) b body))) N)
+set_carries s n clock place c past act status (calls.StoreAcl f acl) M run same N = status_carries s n clock place c past act f status (calls.StoreAcl f acl) (λ g e. into_by s n c past act (calls.StoreAcl f acl) g (N.runs act run) same refl e) (M f refl) run same refl refl N
+set_carries s n clock place c past act status (calls.StoreStatus f set) M run same N = status_carries s n clock place c past act f status (calls.StoreStatus f set) (λ g e. into_by s n c past act (calls.StoreStatus f set) g (N.runs act run) same refl e) (M f refl) run same refl refl N
 set_carries s n clock place c past act status call M run same N = plain_carries s n place c past call zero_code N
 
 -- ---- replies, by their calls
@@ -572,11 +576,16 @@ takes_carry s n clock place c past act call reply M run same N = plain_carries s
 abbrev AllMade : ℕ → ClientState → Going → Carried → List Entry → Type 0
 AllMade n c act x past = (r : FsReply) (status : AfsFetchStatus) → x ≡ carried.Reply (tell.File r) → status_in x ≡ Some status → Made n past (call_of c act) status
 
+where_carries : (s : Script) (n place : ℕ) (c : ClientState) (act : Going) (code : Code) (past : List Entry) (o : Option Operand) → IsNow s n c past → Carries s n past (asks_where (Client n) c place act code o)
+where_carries s n place c act code past None N = tame_step s n c past _ N refl (λ f e z. z)
+where_carries s n place c act code past (Some o) N = tame_step s n c past _ N refl (λ f e z. z)
+
 counts_carry : (s : Script) (n clock place : ℕ) (c : ClientState) (act : Going) (head : Head) (x : Carried) (past : List Entry) → AllMade n c act x past → c.running ≡ Some act → IsNow s n c past → Carries s n past (counts (Client n) c clock place act head x)
 counts_carry s n clock place c act head (carried.Call user call) past M run N = tame_step s n c past _ N refl (λ f e z. z)
 counts_carry s n clock place c act head (carried.Refusal code) past M run N =
     either_carries (is_spent c act) s n past _ _ (tame_step s n c past _ N refl (λ f e z. z))
-    (either_carries (is_busy_code code && nat_lt c.busy most_busy) s n past _ _ (tame_step s n c past _ N refl (λ f e z. z)) (tame_step s n c past _ N refl (λ f e z. z)))
+    (either_carries (is_busy_code code && nat_lt c.busy most_busy) s n past _ _ (tame_step s n c past _ N refl (λ f e z. z))
+    (either_carries (is_gone_code code && nat_lt c.moved most_moved) s n past _ _ (where_carries s n place c act code past (operand_in act (volume_asked (call_of c act))) N) (tame_step s n c past _ N refl (λ f e z. z))))
 counts_carry s n clock place c act head (carried.Reply (tell.File reply)) past M run N =
     either_carries (is_spent c act) s n past _ _ (tame_step s n c past _ N refl (λ f e z. z)) (takes_carry s n clock place c past act (call_of c act) reply (λ status e. M reply status refl e) run refl N)
 counts_carry s n clock place c act head (carried.Reply reply) past M run N = tame_step s n c past _ N refl (λ f e z. z)
@@ -650,10 +659,10 @@ first_gives s n clock c y act g past [] same N =
 first_gives s n clock c y act g past (x ∷ gs) same N =
     bare_step s n c past _ N (dropped_bare (Client n) (trusted_in clock y.cache) [] refl) (spared_filter (Client n) (is_trusted clock) y.cache [] (subst AreApart (sym same) N.apart) refl) (λ f e x. subst (Within (filter (λ u. not (is_trusted clock u)) y.cache)) same (within_filter (λ u. not (is_trusted clock u)) y.cache (subst AreApart (sym same) N.apart)) f e x)
 
-first_carries : (s : Script) (n clock : ℕ) (c : ClientState) (act : Act) (g : Going) (need : Need) (past : List Entry) → IsNow s n c past → Carries s n past (begins_by (Client n) (record c { busy = 0 }) clock (λ ls. lines.Begin (Client n) act ∷ ls) g need)
-first_carries s n clock c act g gives_back past N = first_gives s n clock c (record c { busy = 0 }) act g past (in_order (map gift_of (trusted_in clock c.cache))) refl N
+first_carries : (s : Script) (n clock : ℕ) (c : ClientState) (act : Act) (g : Going) (need : Need) (past : List Entry) → IsNow s n c past → Carries s n past (begins_by (Client n) (record c { busy = 0; moved = 0 }) clock (λ ls. lines.Begin (Client n) act ∷ ls) g need)
+first_carries s n clock c act g gives_back past N = first_gives s n clock c (record c { busy = 0; moved = 0 }) act g past (in_order (map gift_of (trusted_in clock c.cache))) refl N
 first_carries s n clock c act g need past N =
-    walks_carry s n clock (record c { busy = 0 }) past (λ ls. lines.Begin (Client n) act ∷ ls) (lines.Begin (Client n) act ∷ []) g c.cache (record { rule = λ tail h. (tt, h); comes = λ tail. refl; had = N.had })
+    walks_carry s n clock (record c { busy = 0; moved = 0 }) past (λ ls. lines.Begin (Client n) act ∷ ls) (lines.Begin (Client n) act ∷ []) g c.cache (record { rule = λ tail h. (tt, h); comes = λ tail. refl; had = N.had })
 
 begun_carries : (s : Script) (n clock : ℕ) (c : ClientState) (act : Act) (past : List Entry) → IsNow s n c past → Carries s n past (begin_row (Client n) c clock act)
 unfolding begin_row
@@ -689,8 +698,8 @@ left_not (Some id) f cache e apart found is =
 left_had : (s : Script) (n : ℕ) (c : ClientState) (act : Going) (past : List Entry) → IsNow s n c past → c.running ≡ Some act → Had s n (left_in (volume_changed (call_of c act)) c.cache) (timeout_line (Client n) c 3 ∷ lines_of past)
 left_had s n c act past N r f e found =
     let had : IsHad s n f e (lines_of past) = N.had f e (within_left (volume_changed (call_of c act)) c.cache N.apart f e found) in
-    let spared : Loses s (Client n) f.volume (Client n) 3 (lines_of past) → ⊥ =
-    λ x. left_not (volume_changed (call_of c act)) f c.cache e N.apart found (sym (as_changed (call_of c act)) ∙ (ap volume_changed (call_is c act) ∙ subst (ChangesIn f.volume) (N.runs ∙ r) x.1.1)) in
+    let spared : Loses s (Client n) f.volume (Client n) c.callee 3 (lines_of past) → ⊥ =
+    λ x. left_not (volume_changed (call_of c act)) f c.cache e N.apart found (sym (as_changed (call_of c act)) ∙ (ap volume_changed (call_is c act) ∙ subst (ChangesIn f.volume) (N.runs act r) x.1.1.1)) in
     ((spared, had.0), λ b y. (spared, had.1 b y))
 
 gives_up_carries : (s : Script) (n : ℕ) (c : ClientState) (act : Going) (past : List Entry) → IsNow s n c past → c.running ≡ Some act → Carries s n past (gives_up (Client n) c (call_of c act))
@@ -710,6 +719,27 @@ waits_by s n c act past false few N r = gives_up_carries s n c act past N r
 waits_carry : (s : Script) (n : ℕ) (c : ClientState) (act : Going) (past : List Entry) → IsNow s n c past → c.running ≡ Some act → Carries s n past (timeout_row (Client n) c act)
 waits_carry s n c act past N r = waits_by s n c act past (nat_lt c.tries 2) refl N r
 
+-- an act that waits for the location database brings nothing
+sought_carries : (s : Script) (n : ℕ) (c : ClientState) (clock place : ℕ) (k : Seek) (m : Message) (past : List Entry) → IsPlaced s c k → IsToldIn s m.carried → IsNow s n c past → Carries s n past (sought_by (Client n) c clock place k m.head m.carried)
+sought_carries s n c clock place k m past p w N =
+    by_quiet (Carries s n past) n c place k m.head m.carried (sought_by (Client n) c clock place k m.head m.carried) (sought_quiet s n c clock place k m.head m.carried p w)
+    (λ code x y. tame_step s n c past _ N refl (λ f e z. z))
+    (tame_step s n c past _ N refl (λ f e z. z)) (tame_step s n c past _ N refl (λ f e z. z))
+
+-- where it is timed out for the third time nothing is lost: no server was asked for a change
+missed_by : (s : Script) (n : ℕ) (c : ClientState) (k : Seek) (past : List Entry) (t : Bool) → nat_lt c.tries 2 ≡ t → c.callee ≡ Loc → IsNow s n c past → Carries s n past (cond t (seeks_on (Client n) c k) (sought_ends (Client n) c (λ ls. timeout_line (Client n) c 3 ∷ ls) dead_code))
+missed_by s n c k past true few loc N = tame_step s n c past _ N (few_tame n c few) (λ f e z. z)
+missed_by s n c k past false few loc N =
+    let rest : List Line = lines.Answer (Client n) dead_code ∷ [] in
+    record {
+      told = (tt, bare_told s (actors.Node (Client n)) past (timeout_line (Client n) c 3 ∷ []) rest refl);
+      after = had_onto s n c.cache rest (timeout_line (Client n) c 3 ∷ lines_of past) (bare_steady rest refl) (λ f e x. refl)
+          (λ f e found. (let spared : Loses s (Client n) f.volume (Client n) c.callee 3 (lines_of past) → ⊥ = λ x. x.1.1.0 loc in ((spared, (N.had f e found).0), λ b y. (spared, (N.had f e found).1 b y))));
+    }
+
+missed_carries : (s : Script) (n : ℕ) (c : ClientState) (k : Seek) (past : List Entry) → c.callee ≡ Loc → IsNow s n c past → Carries s n past (seek_timeout_row (Client n) c k)
+missed_carries s n c k past loc N = missed_by s n c k past (nat_lt c.tries 2) refl loc N
+
 -- ---- every step
 
 abbrev pub BroughtIn : Script → Cell → List Entry → Type 0
@@ -719,7 +749,7 @@ abbrev pub GivenBrought : Script → Cell → List Entry → Type 0
 GivenBrought s c past = (Based s c past × HomedIn s c past) × BroughtIn s c past
 
 now_at : (s : Script) (c : Cell) (past : List Entry) (n : ℕ) → GivenBrought s c past → IsNow s n (c.clients n) past
-now_at s c past n h = record { apart = (h.0.0.kept.1 n).0; home = (h.0.1.1 n).homed.cache; had = h.1 n; runs = h.0.0.kept.0.0.0.0.1.acts n }
+now_at s c past n h = record { apart = (h.0.0.kept.1 n).0; home = (h.0.1.1 n).homed.cache; had = h.1 n; runs = λ act r. h.0.0.kept.0.0.0.0.1.acts n ∙ ap (λ (a : Option Going). act_by a (c.clients n).seeking) r }
 
 -- the reply for which the client waits
 reply_code : (x : Carried) (r : FsReply) → x ≡ carried.Reply (tell.File r) → HasCode x
@@ -809,12 +839,14 @@ brought_moves : (s : Script) → EachMove (GivenBrought s) (BroughtStep s)
 brought_moves s = record {
   void = λ c past h. record { had = idle_had s c past (voided c).entry h refl; told = (tt, tt) };
   ticked = λ c past n h. record { had = idle_had s c past (ticked c (suc n)).entry h refl; told = (tt, tt) };
-  begun = λ c past n act h r. (let k = begun_carries s n c.clock (c.clients n) act past (now_at s c past n h) in record { had = client_done s c past n _ h (begins_acts n (c.clients n) c.clock act r) k; told = k.told });
+  begun = λ c past n act h r z. (let k = begun_carries s n c.clock (c.clients n) act past (now_at s c past n h) in record { had = client_done s c past n _ h (begins_acts n (c.clients n) c.clock act r z) k; told = k.told });
   told = λ c past n place m h at to. (let k = told_carries s n c.clock place (c.clients n) m past (any_made s c past n place m h.0.0 at to) (now_at s c past n h) in record { had = client_done s c past n _ h (given_acts (by_key (IsKnown h.0.0.kept.0.0.0.0.0.keys.callees c.clients)) any_told n (c.clients n) c.clock place m (h.0.0.kept.0.0.0.0.0.keys.replies n) (h.0.0.kept.0.0.0.0.1.seats n)) k; told = k.told });
+  sought = λ c past n place m k h at to z e. (let k' = sought_carries s n (c.clients n) c.clock place k m past (placed_in s c past n k h.0.0.kept.0.0.0.0.1 z) (told_in s c past n place m k h.0.0.kept.0.0.0.0.1 at e) (now_at s c past n h) in record { had = client_done s c past n _ h (sought_acts_in s c past n place m k h.0.0.kept.0.0.0.0.1 at z e) k'; told = k'.told });
+  missed = λ c past n k h r z. (let k' = missed_carries s n (c.clients n) k past (h.0.0.kept.0.0.0.0.1.seeks n k z).callee (now_at s c past n h) in record { had = client_done s c past n _ h (missed_acts n (c.clients n) k r z) k'; told = k'.told });
+  loc = λ c past l ls ms h st. record { had = idle_had s c past (loc_becomes c l ls ms).entry h (loc_idle ls st.lines); told = idle_told s (actors.Node Loc) past [] ls (loc_idle ls st.lines) };
   waited = λ c past n act h r. (let k = waits_carry s n (c.clients n) act past (now_at s c past n h) r in record { had = client_done s c past n _ h (waits_acts n (c.clients n) act r) k; told = k.told });
-  fallen = λ c past n h. record { had = own_had s c past n _ h (falls_acts n (c.clients n)) (λ f e x. absurd cc); told = (tt, tt) };
+  fallen = λ c past n h. record { had = own_had s c past n _ h (falls_acts n c.handed (c.clients n) (handed_same s c past (h.0.0.kept.0.0.0.0.1) n)) (λ f e x. absurd cc); told = (tt, tt) };
   risen = λ c past n h. record { had = own_had s c past n _ h (rises_acts n (c.clients n)) (h.1 n); told = (tt, tt) };
-  loc = λ c past l ls h st. record { had = idle_had s c past (loc_becomes c l ls).entry h (loc_idle ls st.lines); told = idle_told s (actors.Node Loc) past [] ls (loc_idle ls st.lines) };
   served = λ c past i place m armed h up at to. (let z = idle_works any_message i (c.hosts i).state _ _ (serves_works any_message (Server i) (c.hosts i).state c.clock place m (λ rest. tt)) in record { had = idle_had s c past (server_moves c i armed (server_row (Server i) (c.hosts i).state c.clock place (Whole m))).entry h z; told = idle_told s (actors.Node (Server i)) past [] _ z });
   cut = λ c past i place m t h up at to. record { had = idle_had s c past (server_falls c i (lines.Given place ∷ blow_line i t.stops ∷ []) (in_step m c.clock t)).entry h (blow_idle i t.stops); told = idle_told s (actors.Node (Server i)) past [] (lines.Given place ∷ blow_line i t.stops ∷ []) (blow_idle i t.stops) };
   stopped = λ c past i h up. record { had = idle_had s c past (server_falls c i (lines.Crash (Server i) ∷ []) at_rest).entry h refl; told = (tt, tt) };
@@ -831,11 +863,11 @@ brought_moves s = record {
 }
 
 pub brought_kept : (s : Script) → IsKept (GivenBrought s)
-brought_kept s c past x h = ((based_kept s c past x h.0.0, homed_kept s c past x h.0.1), (each_moved (GivenBrought s) (BroughtStep s) (brought_moves s) c past x h).had)
+brought_kept s c past x so h = ((based_kept s c past x so h.0.0, homed_kept s c past x so h.0.1), (each_moved (GivenBrought s) (BroughtStep s) (brought_moves s) c past x so h).had)
 
 pub brought_first : (s : Script) → GivenBrought s (start s) (set_up s ∷ [])
 brought_first s = ((based_first s, homed_first s), λ j f e x. absurd cc)
 
 pub run_brought : CachedAreBrought
 run_brought s h end r =
-    run_each (GivenBrought s) (λ past e. EachLine (IsBroughtGood s) e.actor past [] e.lines) (brought_kept s) (λ c past x k. (each_moved (GivenBrought s) (BroughtStep s) (brought_moves s) c past x k).told) r.inputs (start s) (set_up s ∷ []) h end (brought_first s) r.leads
+    run_each (GivenBrought s) (λ past e. EachLine (IsBroughtGood s) e.actor past [] e.lines) (brought_kept s) (λ c past x so k. (each_moved (GivenBrought s) (BroughtStep s) (brought_moves s) c past x so k).told) r.inputs s (set_up s ∷ []) h end (brought_first s) r.leads

@@ -1,15 +1,18 @@
 -- What the steps of a client do to its calls: each call is made to one callee, and what else it sends is no call.
+use Rattle.afs_law.proofs.Steps.{calls_at}
 use Rattle.afs_rows.specs.Runs.{message_at}
 use Rattle.afs_history.specs.declared.acts.Act.{Act}
 use Rattle.afs_law.proofs.Backing.{all_lines, is_unchanging}
 use Rattle.afs_law.proofs.Booting.{is_standing}
-use Rattle.afs_law.proofs.Basics.{Below, Each, ByClient, IfCall, IfReply, OfCall, OfClient, if_reply, LastSeat, if_call, at_seat, kept_last, some_of, OfNotice, of_client, both, same_node-true, of_notice}
-use Rattle.afs_rows.specs.ClientRow.{Look, Walked, admits_call, awaits, begin_row, body_told, breaks, call_of, calls_again, calls_step, client_row, counts, dead_code, drop_line, dropped, dropped_after, ends_step, entries_told, entry_told, given, given_up_in, gives_by, goes_by, hears, ignores, is_awaited, is_busy_code, is_older, is_spent, is_trusted, look_at, looked, most_busy, most_reads, put_entries, put_entry, read_lines, reborn, refuses, replies_step, runs_carried, status_look, status_told, takes, takes_bulk, takes_bytes, takes_data, takes_entries, takes_entry, takes_list, takes_plain, takes_rights, takes_set, takes_shown, takes_status, takes_stored, timeout_line, timeout_row, told_step, walked, walks_on, whole, with_statuses, takes_given, behind_batch, begins_by, gift_of, in_order, trusted_in, untrusted_in, boot_of, with_boot, boot_or_first}
-use Rattle.afs_rows.specs.Going.{ClientState, Going, Need, answers, began, next, with_read, gives_back}
+use Rattle.afs_law.proofs.Basics.{asks_lookup, not_loc, Below, Each, ByClient, IfCall, IfReply, OfCall, OfClient, if_reply, LastSeat, if_call, at_seat, kept_last, some_of, OfNotice, of_client, both, same_node-true, of_notice}
+use Rattle.afs_history.specs.declared.acts.Operand.{Operand}
+use Rattle.afs_num.specs.declared.location_calls.LocEntry.{LocEntry}
+use Rattle.afs_rows.specs.ClientRow.{knows, entry_in, has_location, is_sought, located, located_by, located_on, moved_on, no_entry_code, put_location, seek_timeout_row, sought_by, sought_ends, sought_or, asks_where, is_gone_code, most_moved, refuses_for_good, seeks_step, volume_asked, Look, Walked, admits_call, awaits, begin_row, body_told, breaks, call_of, calls_again, calls_step, client_row, counts, dead_code, drop_line, dropped, dropped_after, ends_step, entries_told, entry_told, given, given_up_in, gives_by, goes_by, hears, ignores, is_awaited, is_busy_code, is_older, is_spent, is_trusted, look_at, looked, most_busy, most_reads, put_entries, put_entry, read_lines, reborn, refuses, replies_step, runs_carried, status_look, status_told, takes, takes_bulk, takes_bytes, takes_data, takes_entries, takes_entry, takes_list, takes_plain, takes_rights, takes_set, takes_shown, takes_status, takes_stored, timeout_line, timeout_row, told_step, walked, walks_on, whole, with_statuses, takes_given, behind_batch, begins_by, gift_of, in_order, trusted_in, untrusted_in, boot_of, with_boot, boot_or_first, callee_of}
+use Rattle.afs_rows.specs.Going.{ClientState, Going, Need, Left, Seek, filled, volume_at, locates, operand_in, answers, began, next, with_read, gives_back}
 use Rattle.afs_ideal.specs.Operations.{volume_changed}
 use Rattle.afs_law.specs.Past.{given_message}
 use Rattle.afs_rows.specs.ServerRow.{replied, seat_for, reply_head, boot_told}
-use Rattle.afs_rows.specs.States.{CacheEntry, Gift, Seat, KnownBoot}
+use Rattle.afs_rows.specs.States.{CacheEntry, Gift, Location, Seat, KnownBoot}
 use Rattle.afs_rows.specs.Steps.{Step}
 use Rattle.afs_model.specs.Calls as pairs
 use Rattle.afs_model.specs.Calls.{Admitted, admitted, call_seat, call_seated, paired}
@@ -21,7 +24,7 @@ use Rattle.afs_num.specs.declared.types.Code.{Code}
 use Rattle.afs_num.specs.declared.types.Fid.{Fid}
 use Rattle.afs_num.specs.declared.types.Head.{Head}
 use Rattle.afs_num.specs.declared.types.Node.{Node}
-use Rattle.afs_num.specs.declared.types.Node.TheVariants.{Client}
+use Rattle.afs_num.specs.declared.types.Node.TheVariants.{Client, Loc, Server}
 use Rattle.afs_num.specs.declared.calls.FsCall.{FsCall}
 use Rattle.afs_num.specs.declared.calls.FsReply.{FsReply}
 use Rattle.afs_num.specs.declared.calls.AfsCallBack.{AfsCallBack}
@@ -197,8 +200,12 @@ ends_tame K L N D j c cache front code k f = record { goes = inl (refl, (refl, r
 calls_tame : (K : Head → Type 0) (L : Head → Type 0) (N : Node → ℕ → Type 0) (D : Option ℕ) (j : ℕ) (c : ClientState) (act : Going) (front : List Line → List Line) → AreReplies K L c.seats → IsFront D front → Tame K L N D j (caller_at c) (calls_step (Client j) c act front)
 calls_tame K L N D j c act front k f = record { goes = inr (inr (refl, omega arith)); sent = (record { from = refl; epoch = refl; number = refl; to = refl; boot = refl; act = act; runs = refl }, tt); answers = (tt, tt); notices = (tt, tt); kept = k; lines = (f [] (refl, λ sent. refl)).0; given = (f [] (refl, λ sent. refl)).1; boots = λ h. h }
 
+seeks_tame : (K : Head → Type 0) (L : Head → Type 0) (N : Node → ℕ → Type 0) (D : Option ℕ) (j : ℕ) (c : ClientState) (k : Seek) (cache : List CacheEntry) (front : List Line → List Line) → AreReplies K L c.seats → IsFront D front → Tame K L N D j (caller_at c) (seeks_step (Client j) c k cache front)
+seeks_tame K L N D j c k cache front r f = record { goes = inr (inr (refl, omega arith)); sent = ((refl, (refl, asks_lookup k.operand)), tt); answers = (tt, tt); notices = (tt, tt); kept = r; lines = (f [] (refl, λ sent. refl)).0; given = (f [] (refl, λ sent. refl)).1; boots = λ h. h }
+
 goes_tame : (K : Head → Type 0) (L : Head → Type 0) (N : Node → ℕ → Type 0) (D : Option ℕ) (j : ℕ) (c : ClientState) (front : List Line → List Line) (w : Walked) (need : Need) → AreReplies K L c.seats → IsFront D front → Tame K L N D j (caller_at c) (goes_by (Client j) c front w need)
 goes_tame K L N D j c front w (answers n) k f = ends_tame K L N D j c w.cache (λ ls. front (looked (Client j) w.looks ls)) _ k (λ ls h. f _ (looked_front (Client j) w.looks ls h))
+goes_tame K L N D j c front w (locates o) k f = seeks_tame K L N D j c _ w.cache (λ ls. front (looked (Client j) w.looks ls)) k (λ ls h. f _ (looked_front (Client j) w.looks ls h))
 goes_tame K L N D j c front w need k f = calls_tame K L N D j (record c { cache = w.cache }) w.act (λ ls. front (looked (Client j) w.looks ls)) k (λ ls h. f _ (looked_front (Client j) w.looks ls h))
 
 walks_tame : (K : Head → Type 0) (L : Head → Type 0) (N : Node → ℕ → Type 0) (D : Option ℕ) (j : ℕ) (c : ClientState) (clock : ℕ) (front : List Line → List Line) (act : Going) (cache : List CacheEntry) → AreReplies K L c.seats → IsFront D front → Tame K L N D j (caller_at c) (walks_on (Client j) c clock front act cache)
@@ -301,9 +308,17 @@ takes_tame K L N j c clock place act call (replies.BulkStatus statuses callbacks
 takes_tame K L N j c clock place act call replies.GiveUpCallBacks k = given_back_tame K L N j c place act call k
 takes_tame K L N j c clock place act call reply k = plain_tame K L N j c place call k
 
+gone_tame : (K : Head → Type 0) (L : Head → Type 0) (N : Node → ℕ → Type 0) (j : ℕ) (c : ClientState) (place : ℕ) (act : Going) (code : Code) (o : Option Operand) → AreReplies K L c.seats → Tame K L N (Some place) j (caller_at c) (asks_where (Client j) c place act code o)
+gone_tame K L N j c place act code None k = ends_tame K L N (Some place) j c c.cache (given place) code k (λ ls h. (h.0, λ sent. refl))
+gone_tame K L N j c place act code (Some o) k = seeks_tame K L N (Some place) j (record c { moved = c.moved + 1 }) _ c.cache (given place) k (λ ls h. (h.0, λ sent. refl))
+
+for_good_tame : (K : Head → Type 0) (L : Head → Type 0) (N : Node → ℕ → Type 0) (j : ℕ) (c : ClientState) (place : ℕ) (act : Going) (code : Code) → AreReplies K L c.seats → Tame K L N (Some place) j (caller_at c) (refuses_for_good (Client j) c place act code)
+for_good_tame K L N j c place act code k =
+    either_tame K L N (Some place) (is_gone_code code && nat_lt c.moved most_moved) j (caller_at c) _ _ (gone_tame K L N j c place act code (operand_in act (volume_asked (call_of c act))) k) (ends_tame K L N (Some place) j c c.cache (given place) code k (λ ls h. (h.0, λ sent. refl)))
+
 refuses_tame : (K : Head → Type 0) (L : Head → Type 0) (N : Node → ℕ → Type 0) (j : ℕ) (c : ClientState) (place : ℕ) (act : Going) (code : Code) → AreReplies K L c.seats → Tame K L N (Some place) j (caller_at c) (refuses (Client j) c place act code)
 refuses_tame K L N j c place act code k =
-    either_tame K L N (Some place) (is_busy_code code && nat_lt c.busy most_busy) j (caller_at c) _ _ (again_tame K L N j (record c { busy = c.busy + 1 }) place act k) (ends_tame K L N (Some place) j c c.cache (given place) code k (λ ls h. (h.0, λ sent. refl)))
+    either_tame K L N (Some place) (is_busy_code code && nat_lt c.busy most_busy) j (caller_at c) _ _ (again_tame K L N j (record c { busy = c.busy + 1 }) place act k) (for_good_tame K L N j c place act code k)
 
 kept_boot_by : (a t : Bool) (callee q : Node) (k : KnownBoot) (rest : List KnownBoot) (o : Option KnownBoot) → same_node k.server callee ≡ a → same_node k.server q ≡ t → same_node callee q ≡ false → find (λ (x : KnownBoot). same_node x.server q) rest ≡ o
     → find (λ (x : KnownBoot). same_node x.server q) (cond (not a) (k ∷ rest) rest) ≡ cond t (Some k) o
@@ -347,29 +362,34 @@ breaks_tame K L N j c place head calls.InitCallBackState k w = replies_tame K L 
 breaks_tame K L N j c place head calls.Probe k w = replies_tame K L N j c place head [] _ k (tt, (w, tt)) tt refl
 breaks_tame K L N j c place head call k w = replies_tame K L N j c place head [] _ k (tt, (w, tt)) tt refl
 
-carried_tame : (K : Head → Type 0) (L : Head → Type 0) (N : Node → ℕ → Type 0) (j : ℕ) (c : ClientState) (place : ℕ) (head : Head) (x : Carried) → AreReplies K L c.seats → OfCall (ByClient (λ h user call. K (reply_head c.epoch h))) head x → Tame K L N (Some place) j (caller_at c) (runs_carried (Client j) c place head x)
-carried_tame K L N j c place head (carried.Call user (ask.File call)) k w = breaks_tame K L N j c place head call k w
-carried_tame K L N j c place head (carried.Call user call) k w = absurd w
-carried_tame K L N j c place head x k w = ignores_tame K L N j c place k
+carried_tame : (K : Head → Type 0) (L : Head → Type 0) (N : Node → ℕ → Type 0) (j : ℕ) (c : ClientState) (place : ℕ) (head : Head) (x : Carried) → head.to ≡ Client j → AreReplies K L c.seats → OfCall (ByClient (λ h user call. K (reply_head c.epoch h))) head x → Tame K L N (Some place) j (caller_at c) (runs_carried (Client j) c place head x)
+carried_tame K L N j c place head (carried.Call user (ask.File call)) to k w = breaks_tame K L N j c place head call k w
+carried_tame K L N j c place head (carried.Call user (ask.Location call)) to k w = not_loc head (Client j) _ to refl w.0
+carried_tame K L N j c place head (carried.Call user (ask.Volume call)) to k w = absurd w
+carried_tame K L N j c place head x to k w = ignores_tame K L N j c place k
 
-admits_tame : (K : Head → Type 0) (L : Head → Type 0) (N : Node → ℕ → Type 0) (j : ℕ) (c : ClientState) (place : ℕ) (head : Head) (x : Carried) (o : Admitted Message) → AreReplies K L c.seats → IsCallOf K c.epoch c.seats head x → L (boot_told c.epoch head).head → admitted c.epoch c.seats head ≡ o → Tame K L N (Some place) j (caller_at c) (admits_call (Client j) c place head (whole head x) o)
-admits_tame K L N j c place head x pairs.runs k w told e = carried_tame K L N j c place head x k (ran_call K c.epoch c.seats head x w e)
-admits_tame K L N j c place head x (pairs.kept reply) k w told e =
+admits_tame : (K : Head → Type 0) (L : Head → Type 0) (N : Node → ℕ → Type 0) (j : ℕ) (c : ClientState) (place : ℕ) (head : Head) (x : Carried) (o : Admitted Message) → head.to ≡ Client j → AreReplies K L c.seats → IsCallOf K c.epoch c.seats head x → L (boot_told c.epoch head).head → admitted c.epoch c.seats head ≡ o → Tame K L N (Some place) j (caller_at c) (admits_call (Client j) c place head (whole head x) o)
+admits_tame K L N j c place head x pairs.runs to k w told e = carried_tame K L N j c place head x to k (ran_call K c.epoch c.seats head x w e)
+admits_tame K L N j c place head x (pairs.kept reply) to k w told e =
     let a : IsAnswer K L reply = kept_answer K L c.epoch c.seats head reply k e in
     told_tame K L N j c place (reply ∷ []) k (uncalled_any (λ h user call. IsLastOf j (caller_at c) h) reply a.0, tt) (a.1.0, tt) (a.1.1, tt)
-admits_tame K L N j c place head x pairs.in_progress k w told e = ignores_tame K L N j c place k
-admits_tame K L N j c place head x pairs.older k w told e = ignores_tame K L N j c place k
-admits_tame K L N j c place head x (pairs.wrong_boot boot) k w told e = told_tame K L N j c place _ k (tt, tt) (tt, tt) (told, tt)
+admits_tame K L N j c place head x pairs.in_progress to k w told e = ignores_tame K L N j c place k
+admits_tame K L N j c place head x pairs.older to k w told e = ignores_tame K L N j c place k
+admits_tame K L N j c place head x (pairs.wrong_boot boot) to k w told e = told_tame K L N j c place _ k (tt, tt) (tt, tt) (told, tt)
 
-hears_tame : (K : Head → Type 0) (L : Head → Type 0) (N : Node → ℕ → Type 0) (j : ℕ) (c : ClientState) (clock place : ℕ) (head : Head) (x : Carried) → AreReplies K L c.seats → IsCallOf K c.epoch c.seats head x → L (boot_told c.epoch head).head → OfNotice (N head.from head.boot) x → Tame K L N (Some place) j (caller_at c) (hears (Client j) c clock place head x)
-hears_tame K L N j c clock place head (carried.Call user call) k w told n = admits_tame K L N j c place head (carried.Call user call) (admitted c.epoch c.seats head) k w told refl
-hears_tame K L N j c clock place head x k w told n = awaits_tame K L N j c clock place head x c.running refl k n
+hears_tame : (K : Head → Type 0) (L : Head → Type 0) (N : Node → ℕ → Type 0) (j : ℕ) (c : ClientState) (clock place : ℕ) (head : Head) (x : Carried) → head.to ≡ Client j → AreReplies K L c.seats → IsCallOf K c.epoch c.seats head x → L (boot_told c.epoch head).head → OfNotice (N head.from head.boot) x → Tame K L N (Some place) j (caller_at c) (hears (Client j) c clock place head x)
+hears_tame K L N j c clock place head (carried.Call user call) to k w told n = admits_tame K L N j c place head (carried.Call user call) (admitted c.epoch c.seats head) to k w told refl
+hears_tame K L N j c clock place head x to k w told n = awaits_tame K L N j c clock place head x c.running refl k n
 
 -- ---- its steps
 
+if_tame : (K : Head → Type 0) (L : Head → Type 0) (N : Node → ℕ → Type 0) (D : Option ℕ) (t : Bool) (j : ℕ) (x : Caller) (a b : Step ClientState) (head : Head) → same_node head.to (Client j) ≡ t → (head.to ≡ Client j → Tame K L N D j x a) → Tame K L N D j x b → Tame K L N D j x (cond t a b)
+if_tame K L N D true j x a b head e h k = h (same_node-true head.to (Client j) e)
+if_tame K L N D false j x a b head e h k = k
+
 pub given_tame : (K : Head → Type 0) (L : Head → Type 0) (N : Node → ℕ → Type 0) (j : ℕ) (c : ClientState) (clock place : ℕ) (m : Message) → AreReplies K L c.seats → IsCallOf K c.epoch c.seats m.head m.carried → L (boot_told c.epoch m.head).head → OfNotice (N m.head.from m.head.boot) m.carried → Tame K L N (Some place) j (caller_at c) (client_row (Client j) c clock place (Whole m))
 unfolding client_row
-given_tame K L N j c clock place m k w told n = either_tame K L N (Some place) (same_node m.head.to (Client j)) j (caller_at c) _ _ (hears_tame K L N j c clock place m.head m.carried k w told n) (ignores_tame K L N j c place k)
+given_tame K L N j c clock place m k w told n = if_tame K L N (Some place) (same_node m.head.to (Client j)) j (caller_at c) _ _ m.head refl (λ to. hears_tame K L N j c clock place m.head m.carried to k w told n) (ignores_tame K L N j c place k)
 
 first_tame : (K : Head → Type 0) (L : Head → Type 0) (N : Node → ℕ → Type 0) (D : Option ℕ) (j : ℕ) (c : ClientState) (clock : ℕ) (front : List Line → List Line) (act : Going) (need : Need) → AreReplies K L c.seats → IsFront D front → Tame K L N D j (caller_at c) (begins_by (Client j) c clock front act need)
 first_tame K L N D j c clock front act gives_back k f = gives_tame K L N D j (record c { cache = untrusted_in clock c.cache }) (λ ls. front (dropped (Client j) (trusted_in clock c.cache) ls)) act (in_order (map gift_of (trusted_in clock c.cache))) k (λ ls h. f _ (dropped_front (Client j) (trusted_in clock c.cache) ls h))
@@ -377,15 +397,56 @@ first_tame K L N D j c clock front act need k f = walks_tame K L N D j c clock f
 
 pub begins_tame : (K : Head → Type 0) (L : Head → Type 0) (N : Node → ℕ → Type 0) (j : ℕ) (c : ClientState) (clock : ℕ) (act : Act) → AreReplies K L c.seats → Tame K L N None j (caller_at c) (begin_row (Client j) c clock act)
 unfolding begin_row
-begins_tame K L N j c clock act k = first_tame K L N None j (record c { busy = 0 }) clock (λ ls. lines.Begin (Client j) act ∷ ls) (began c.table act) (next (began c.table act)) k (λ ls h. h)
+begins_tame K L N j c clock act k = first_tame K L N None j (record c { busy = 0; moved = 0 }) clock (λ ls. lines.Begin (Client j) act ∷ ls) (began c.table act) (next (began c.table act)) k (λ ls h. h)
 
 pub waits_tame : (K : Head → Type 0) (L : Head → Type 0) (N : Node → ℕ → Type 0) (j : ℕ) (c : ClientState) (act : Going) → c.running ≡ Some act → AreReplies K L c.seats → Tame K L N None j (caller_at c) (timeout_row (Client j) c act)
 waits_tame K L N j c act r k = either_tame K L N None (nat_lt c.tries 2) j (caller_at c) _ _
     (record { goes = inl (refl, (refl, refl)); sent = (record { from = refl; epoch = refl; number = refl; to = refl; boot = refl; act = act; runs = r }, tt); answers = (tt, tt); notices = (tt, tt); kept = k; lines = refl; given = λ sent. refl; boots = λ h. h })
     (ends_tame K L N None j c _ (λ ls. timeout_line (Client j) c 3 ∷ dropped (Client j) (given_up_in (volume_changed (call_of c act)) c.cache) ls) dead_code k (λ ls h. dropped_front (Client j) (given_up_in (volume_changed (call_of c act)) c.cache) ls h))
 
-pub falls_tame : (K : Head → Type 0) (L : Head → Type 0) (N : Node → ℕ → Type 0) (j : ℕ) (c : ClientState) → ((q : Node) → N q 1) → Tame K L N None j (caller_at c) (record { state = reborn c; lines = lines.Crash (Client j) ∷ []; sent = [] })
-falls_tame K L N j c first = record { goes = inr (inl (omega arith)); sent = tt; answers = tt; notices = tt; kept = λ n seat m e. absurd cc; lines = refl; given = λ sent. refl; boots = λ h. first }
+pub falls_tame : (K : Head → Type 0) (L : Head → Type 0) (N : Node → ℕ → Type 0) (j : ℕ) (handed : List Location) (c : ClientState) → ((q : Node) → N q 1) → Tame K L N None j (caller_at c) (record { state = reborn handed c; lines = lines.Crash (Client j) ∷ []; sent = [] })
+falls_tame K L N j handed c first = record { goes = inr (inl (omega arith)); sent = tt; answers = tt; notices = tt; kept = λ n seat m e. absurd cc; lines = refl; given = λ sent. refl; boots = λ h. first }
 
 pub rises_tame : (K : Head → Type 0) (L : Head → Type 0) (N : Node → ℕ → Type 0) (j : ℕ) (c : ClientState) → AreReplies K L c.seats → Tame K L N None j (caller_at c) (record { state = c; lines = lines.Restart (Client j) c.epoch ∷ []; sent = [] })
 rises_tame K L N j c k = record { goes = inl (refl, (refl, refl)); sent = tt; answers = tt; notices = tt; kept = k; lines = refl; given = λ sent. refl; boots = λ h. h }
+
+-- ---- an act that waits for the location database
+
+sought_ends_tame : (K : Head → Type 0) (L : Head → Type 0) (N : Node → ℕ → Type 0) (D : Option ℕ) (j : ℕ) (c : ClientState) (front : List Line → List Line) (code : Code) → AreReplies K L c.seats → IsFront D front → Tame K L N D j (caller_at c) (sought_ends (Client j) c front code)
+sought_ends_tame K L N D j c front code k f = record { goes = inl (refl, (refl, refl)); sent = tt; answers = tt; notices = tt; kept = k; lines = (f (lines.Answer (Client j) code ∷ []) (refl, λ sent. refl)).0; given = (f (lines.Answer (Client j) code ∷ []) (refl, λ sent. refl)).1; boots = λ h. h }
+
+located_tame : (K : Head → Type 0) (L : Head → Type 0) (N : Node → ℕ → Type 0) (j : ℕ) (c : ClientState) (clock place : ℕ) (act : Going) (o : Option ℕ) → AreReplies K L c.seats → Tame K L N (Some place) j (caller_at c) (located_on (Client j) c clock place act o)
+located_tame K L N j c clock place act None k = sought_ends_tame K L N (Some place) j c (given place) no_entry_code k (λ ls h. (h.0, λ sent. refl))
+located_tame K L N j c clock place act (Some id) k = walks_tame K L N (Some place) j c clock (given place) (filled c.table act) c.cache k (λ ls h. (h.0, λ sent. refl))
+
+moved_tame : (K : Head → Type 0) (L : Head → Type 0) (N : Node → ℕ → Type 0) (j : ℕ) (c : ClientState) (place : ℕ) (act : Going) (left : Left) (o : Option ℕ) → AreReplies K L c.seats → Tame K L N (Some place) j (caller_at c) (moved_on (Client j) c place act left o)
+moved_tame K L N j c place act left None r = sought_ends_tame K L N (Some place) j c (given place) no_entry_code r (λ ls h. (h.0, λ sent. refl))
+moved_tame K L N j c place act left (Some id) r =
+    either_tame K L N (Some place) (same_node (callee_of c act) left.server) j (caller_at c) _ _ (sought_ends_tame K L N (Some place) j c (given place) left.code r (λ ls h. (h.0, λ sent. refl))) (calls_tame K L N (Some place) j c act (given place) r (λ ls h. (h.0, λ sent. refl)))
+
+left_tame : (K : Head → Type 0) (L : Head → Type 0) (N : Node → ℕ → Type 0) (j : ℕ) (c : ClientState) (clock place : ℕ) (k : Seek) (l : Location) (o : Option Left) → AreReplies K L c.seats → Tame K L N (Some place) j (caller_at c) (located (Client j) c clock place k l o)
+left_tame K L N j c clock place k l None r = located_tame K L N j (knows l c) clock place k.act (volume_at (knows l c).table k.operand) r
+left_tame K L N j c clock place k l (Some left) r =
+    either_tame K L N (Some place) (has_location l c.table) j (caller_at c) _ _ (sought_ends_tame K L N (Some place) j c (given place) left.code r (λ ls h. (h.0, λ sent. refl))) (moved_tame K L N j (knows l c) place k.act left (volume_at (knows l c).table k.operand) r)
+
+entry_sought_tame : (K : Head → Type 0) (L : Head → Type 0) (N : Node → ℕ → Type 0) (j : ℕ) (c : ClientState) (clock place : ℕ) (k : Seek) (o : Option LocEntry) → AreReplies K L c.seats → Tame K L N (Some place) j (caller_at c) (located_by (Client j) c clock place k o)
+entry_sought_tame K L N j c clock place k None r = ignores_tame K L N j c place r
+entry_sought_tame K L N j c clock place k (Some e) r = left_tame K L N j c clock place k e k.left r
+
+pub sought_tame : (K : Head → Type 0) (L : Head → Type 0) (N : Node → ℕ → Type 0) (j : ℕ) (c : ClientState) (clock place : ℕ) (k : Seek) (head : Head) (x : Carried) → ((b : ℕ) → N Loc b) → AreReplies K L c.seats → Tame K L N (Some place) j (caller_at c) (sought_by (Client j) c clock place k head x)
+sought_tame K L N j c clock place k head (carried.Call user call) n r = ignores_tame K L N j c place r
+sought_tame K L N j c clock place k head (carried.Refusal code) n r = sought_ends_tame K L N (Some place) j c (given place) code r (λ ls h. (h.0, λ sent. refl))
+sought_tame K L N j c clock place k head (carried.Reply (tell.File reply)) n r = ignores_tame K L N j c place r
+sought_tame K L N j c clock place k head (carried.Reply (tell.Volume reply)) n r = ignores_tame K L N j c place r
+sought_tame K L N j c clock place k head (carried.Reply (tell.Location reply)) n r = entry_sought_tame K L N j c clock place k (entry_in reply) r
+sought_tame K L N j c clock place k head carried.Notice n r = record { goes = inl (refl, (refl, refl)); sent = ((refl, (refl, asks_lookup k.operand)), tt); answers = (tt, tt); notices = (tt, tt); kept = r; lines = refl; given = λ sent. refl; boots = λ h q. told_boot N Loc head.boot c.boots (same_node Loc q) q refl (n head.boot) (h q) }
+
+pub missed_tame : (K : Head → Type 0) (L : Head → Type 0) (N : Node → ℕ → Type 0) (j : ℕ) (c : ClientState) (k : Seek) → AreReplies K L c.seats → Tame K L N None j (caller_at c) (seek_timeout_row (Client j) c k)
+missed_tame K L N j c k r = either_tame K L N None (nat_lt c.tries 2) j (caller_at c) _ _
+    (record { goes = inl (refl, (refl, refl)); sent = ((refl, (refl, asks_lookup k.operand)), tt); answers = (tt, tt); notices = (tt, tt); kept = r; lines = refl; given = λ sent. refl; boots = λ h. h })
+    (sought_ends_tame K L N None j c (λ ls. timeout_line (Client j) c 3 ∷ ls) dead_code r (λ ls h. h))
+
+-- what it is given, whatever it waits for
+pub guest_tame : (K : Head → Type 0) (L : Head → Type 0) (N : Node → ℕ → Type 0) (j : ℕ) (c : ClientState) (clock place : ℕ) (m : Message) (o : Option Seek) → ((b : ℕ) → N Loc b) → AreReplies K L c.seats → Tame K L N (Some place) j (caller_at c) (client_row (Client j) c clock place (Whole m)) → Tame K L N (Some place) j (caller_at c) (sought_or (Client j) c clock place m o)
+guest_tame K L N j c clock place m None n r t = t
+guest_tame K L N j c clock place m (Some k) n r t = either_tame K L N (Some place) (is_sought (Client j) c k m.head m.carried) j (caller_at c) _ _ (sought_tame K L N j c clock place k m.head m.carried n r) t

@@ -4,7 +4,7 @@ use Rattle.afs_history.specs.declared.scripts.Script.{Script}
 use Rattle.afs_law.proofs.Acting.{last_key}
 use Rattle.afs_law.proofs.Addressed.{IsServer, callee_server}
 use Rattle.afs_law.proofs.Basics.{ByClient, Each, IfCall, IfReply, OfCall, OfClient, OfReply, by_client, each_at, some_of}
-use Rattle.afs_law.proofs.KeysOnce.{IsKnown}
+use Rattle.afs_law.proofs.KeysOnce.{IsKnown, by_key}
 use Rattle.afs_law.specs.Laws.{RepliesAreCaused}
 use Rattle.afs_law.proofs.Words.{IsOne}
 use Rattle.afs_law.proofs.Firm.{IsFirm}
@@ -85,27 +85,20 @@ code_in j to X (carried.Reply reply) is e h = by_client j to X e h
 code_in j to X (carried.Call user call) is e h = absurd is
 code_in j to X carried.Notice is e h = absurd is
 
--- the reply to a key is of the callee of that
+-- a server's reply to a key is of the callee of that
 abbrev pub IsOfCallee : (Key → Node) → (ℕ → ClientState) → Message → Type 0
-IsOfCallee callees clients r = IsKnown callees clients r.head.from (answered_key r.head)
+IsOfCallee callees clients r = by_key (IsKnown callees clients) r.head
 
-pub of_callee : (callees : Key → Node) (clients : ℕ → ClientState) (j : ℕ) (m : Message) → IfReply (IsOfCallee callees clients) m → HasCode m.carried → m.head.to ≡ Client j → m.head.from ≡ callees (answered_key m.head)
-of_callee callees clients j m h code to = (code_in j m.head.to (IsOfCallee callees clients m) m.carried code to h).called
-
-of_server : (s : Script) (c : Cell) (past : List Entry) (j place : ℕ) (m : Message) (act : Going) → Truthful s c past → message_at c.sent place ≡ Some m → HasCode m.carried → m.head.to ≡ Client j → (c.clients j).running ≡ Some act → m.head.epoch ≡ (c.clients j).epoch → m.head.number ≡ (c.clients j).last → IsServer m.head.from
-of_server s c past j place m act h at code to runs epoch number =
-    let a : KnownAsked s c past = h.0.0.0 in
-    let callee : m.head.from ≡ (c.clients j).callee = of_callee a.0.keys.callees c.clients j m (each_at (IfReply (IsOfCallee a.0.keys.callees c.clients)) c.sent place m at a.0.keys.answers) code to ∙ (ap a.0.keys.callees (key_is j m.head (c.clients j).epoch (c.clients j).last to epoch number) ∙ a.0.keys.own j) in
-    subst IsServer (sym callee) (callee_server j c.clients act h.0.1.1.0.0 h.0.1.1.0.1 runs)
+pub of_callee : (callees : Key → Node) (clients : ℕ → ClientState) (j : ℕ) (m : Message) → IfReply (IsOfCallee callees clients) m → HasCode m.carried → m.head.to ≡ Client j → (i : ℕ) → m.head.from ≡ Server i → m.head.from ≡ callees (answered_key m.head)
+of_callee callees clients j m h code to i from = (code_in j m.head.to (IsOfCallee callees clients m) m.carried code to h i from).called
 
 -- ---- the law
 
 pub truthful_at : (s : Script) (h : List Entry) (end : Cell) → RunsTo h s end → Truthful s end (past_of (set_up s ∷ []) h)
-truthful_at s h end r = run_keeps (Truthful s) (truthful_kept s) r.inputs (start s) (set_up s ∷ []) h end (truthful_first s) r.leads
+truthful_at s h end r = run_keeps (Truthful s) (truthful_kept s) r.inputs s (set_up s ∷ []) h end (truthful_first s) r.leads
 
 pub run_caused : RepliesAreCaused
-run_caused s h end r j place m act at code to runs epoch number =
+run_caused s h end r i j place m act at code from to runs epoch number =
     let past : List Entry = past_of (set_up s ∷ []) h in
     let t : Truthful s end past = truthful_at s h end r in
-    let from : IsServer m.head.from = of_server s end past j place m act t at code to runs epoch number in
-    caused_in s end past from.0 j place m act t at code from.1 to runs epoch number
+    caused_in s end past i j place m act t at code from to runs epoch number

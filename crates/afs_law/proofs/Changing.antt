@@ -1,10 +1,11 @@
 -- Each change of a run is what the ideal cell makes of the call that ran, however many servers a cell has.
+use Rattle.afs_law.proofs.Listing.{IsSoundLoc}
 use Rattle.afs_history.specs.declared.lines.Line.{Line}
 use Rattle.afs_history.specs.declared.lines.Line.TheVariants as lines
 use Rattle.afs_history.specs.declared.scripts.Script.{Script}
 use Rattle.afs_ideal.specs.Operations.{volume_called}
 use Rattle.afs_ideal.specs.Tables.{Table}
-use Rattle.afs_law.proofs.Acting.{begins_acts, given_acts, is_of, waits_acts}
+use Rattle.afs_law.proofs.Acting.{begins_acts, given_acts, is_of, waits_acts, missed_acts}
 use Rattle.afs_law.proofs.Backing.{all_lines}
 use Rattle.afs_law.proofs.Basics.{Above, IfCall, both, each_at, runs_admitted}
 use Rattle.afs_law.proofs.Choosing.{Saves, Works, disk_works, is_from, risen_from, risen_lines, serves_works, starts_works, times_works, wakes_works}
@@ -14,8 +15,8 @@ use Rattle.afs_law.proofs.Words.{IsOne, Origin}
 use Rattle.afs_law.proofs.Ideals.{AreBlank, CutIs, Held, IsCalled, IsSent, Saved, blank_by, blank_key, blow_blank, cut_by, found_volume, from_blank, held_kept, is_blank, no_more, of_blank, of_this, own_from, saved_at, volumes_first, loc_blank}
 use Rattle.afs_law.proofs.KeysOnce.{HasRun, IsKnown, any_told, by_key, latest_by, new_key, not_run}
 use Rattle.afs_law.proofs.SettingUp.{any_home}
-use Rattle.afs_law.proofs.Moving.{Behind, EachMove, IsKept, each_moved}
-use Rattle.afs_law.proofs.Origins.{asked_first}
+use Rattle.afs_law.proofs.Moving.{Behind, EachMove, IsKept, each_moved, first_sound, sound_moved}
+use Rattle.afs_law.proofs.Origins.{asked_first, sought_acts_in}
 use Rattle.afs_law.proofs.Saving.{first_on}
 use Rattle.afs_law.specs.Breaks.{HasStopped}
 use Rattle.afs_law.specs.Ideal.{change_key, set_up, user_of}
@@ -248,12 +249,14 @@ pub ideal_moves : (s : Script) → EachMove (HeldCuts s) (IdealStep s)
 ideal_moves s = record {
   void = λ c past h. (tt, tt);
   ticked = λ c past n h. (tt, tt);
-  begun = λ c past n act h r. acts_ideal s c past n _ _ (begins_acts n (c.clients n) c.clock act r).of;
+  begun = λ c past n act h r z. acts_ideal s c past n _ _ (begins_acts n (c.clients n) c.clock act r z).of;
   told = λ c past n place m h at to. acts_ideal s c past n _ _ (given_acts (by_key (IsKnown h.0.0.0.keys.callees c.clients)) any_told n (c.clients n) c.clock place m (h.0.0.0.keys.replies n) (h.0.0.1.seats n)).of;
+  sought = λ c past n place m k h at to z e. acts_ideal s c past n _ _ (sought_acts_in s c past n place m k h.0.0.1 at z e).of;
+  missed = λ c past n k h r z. acts_ideal s c past n _ _ (missed_acts n (c.clients n) k r z).of;
   waited = λ c past n act h r. acts_ideal s c past n _ _ (waits_acts n (c.clients n) act r).of;
   fallen = λ c past n h. (tt, tt);
   risen = λ c past n h. (tt, tt);
-  loc = λ c past l ls h st. all_blank s (actors.Node Loc) past [] ls (loc_blank ls st.lines);
+  loc = λ c past l ls ms h st. all_blank s (actors.Node Loc) past [] ls (loc_blank ls st.lines);
   served = λ c past i place m armed h up at to. works_ideal s c past i _ _ h.0 (serves_works (IsPlaced c past i) (Server i) (c.hosts i).state c.clock place m (λ rest. ((place, at), inl (record { place = place; front' = refl; at = at; up = up }))));
   cut = λ c past i place m t h up at to. all_blank s (actors.Node (Server i)) past [] (lines.Given place ∷ blow_line i t.stops ∷ []) (blow_blank i place t.stops);
   stopped = λ c past i h up. (tt, tt);
@@ -272,19 +275,22 @@ ideal_moves s = record {
 }
 
 pub cuts_kept : (s : Script) → IsKept (HeldCuts s)
-cuts_kept s c past x h = (held_kept s c past x h.0, each_moved KnownCuts (Behind CutsIn) cuts_moves c past x (h.0.0.0, h.1))
+cuts_kept s c past x so h = (held_kept s c past x so h.0, each_moved KnownCuts (Behind CutsIn) cuts_moves c past x so (h.0.0.0, h.1))
 
 pub cuts_first : (s : Script) → HeldCuts s (start s) (set_up s ∷ [])
 cuts_first s = ((asked_first s, volumes_first s), λ i m clock hit e. absurd cc)
 
 -- each entry of a run is what each step gives
-pub run_each : (P : Cell → List Entry → Type 0) (G : List Entry → Entry → Type 0) → IsKept P → ((c : Cell) (past : List Entry) (x : Input) → P c past → G past (moved c x).entry) → (xs : List Input) (c : Cell) (past es : List Entry) (end : Cell) → P c past → Leads c xs es end → EachEntry G past es
-run_each P G w g [] c past [] end h r = tt
-run_each P G w g [] c past (e ∷ es) end h r = absurd r
-run_each P G w g (x ∷ xs) c past [] end h r = absurd r
-run_each P G w g (x ∷ xs) c past (e ∷ es) end h r =
-    subst (λ (y : Entry). EachEntry G past (y ∷ es)) (sym r.0) (g c past x h, run_each P G w g xs (moved c x).cell ((moved c x).entry ∷ past) es end (w c past x h) r.1)
+pub run_each_from : (P : Cell → List Entry → Type 0) (G : List Entry → Entry → Type 0) → IsKept P → ((c : Cell) (past : List Entry) (x : Input) → IsSoundLoc c.loc.state → P c past → G past (moved c x).entry) → (xs : List Input) (c : Cell) (past es : List Entry) (end : Cell) → IsSoundLoc c.loc.state → P c past → Leads c xs es end → EachEntry G past es
+run_each_from P G w g [] c past [] end so h r = tt
+run_each_from P G w g [] c past (e ∷ es) end so h r = absurd r
+run_each_from P G w g (x ∷ xs) c past [] end so h r = absurd r
+run_each_from P G w g (x ∷ xs) c past (e ∷ es) end so h r =
+    subst (λ (y : Entry). EachEntry G past (y ∷ es)) (sym r.0) (g c past x so h, run_each_from P G w g xs (moved c x).cell ((moved c x).entry ∷ past) es end (sound_moved c past x so) (w c past x so h) r.1)
+
+pub run_each : (P : Cell → List Entry → Type 0) (G : List Entry → Entry → Type 0) → IsKept P → ((c : Cell) (past : List Entry) (x : Input) → IsSoundLoc c.loc.state → P c past → G past (moved c x).entry) → (xs : List Input) (s : Script) (past es : List Entry) (end : Cell) → P (start s) past → Leads (start s) xs es end → EachEntry G past es
+run_each P G w g xs s past es end h r = run_each_from P G w g xs (start s) past es end (first_sound s) h r
 
 pub run_ideal : ChangesAreIdeal
 run_ideal s h end r =
-    run_each (HeldCuts s) (λ past e. EachLine (IsIdeal s) e.actor past [] e.lines) (cuts_kept s) (λ c past x k. each_moved (HeldCuts s) (IdealStep s) (ideal_moves s) c past x k) r.inputs (start s) (set_up s ∷ []) h end (cuts_first s) r.leads
+    run_each (HeldCuts s) (λ past e. EachLine (IsIdeal s) e.actor past [] e.lines) (cuts_kept s) (λ c past x so k. each_moved (HeldCuts s) (IdealStep s) (ideal_moves s) c past x so k) r.inputs s (set_up s ∷ []) h end (cuts_first s) r.leads

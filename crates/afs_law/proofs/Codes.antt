@@ -1,10 +1,11 @@
 -- Each answer of a run has its cause, however many servers a cell has: where it is a reply, that is what the ideal cell made of the call.
+use Rattle.afs_law.proofs.InTurn.{KnownBy, callee_is}
 use Rattle.afs_history.specs.declared.lines.Line.{Line}
 use Rattle.afs_history.specs.declared.lines.Line.TheVariants as lines
 use Rattle.afs_history.specs.declared.scripts.Script.{Script}
 use Rattle.afs_ideal.specs.Operations.{Result, changes}
 use Rattle.afs_law.proofs.Addressed.{IsHome, IsServer}
-use Rattle.afs_law.proofs.Sent.{called_one, each_front, given_each}
+use Rattle.afs_law.proofs.Sent.{called_one, each_front, given_each, older_each}
 use Rattle.afs_law.proofs.Basics.{Each, IfCall, IfReply, some_of}
 use Rattle.afs_law.proofs.Caused.{IsOfCallee, of_callee, ran_one}
 use Rattle.afs_law.proofs.Changing.{run_each}
@@ -16,11 +17,12 @@ use Rattle.afs_law.proofs.Origins.{KnownAsked}
 use Rattle.afs_law.proofs.Placing.{run_placed}
 use Rattle.afs_law.proofs.Telling.{IsTold, Tells, key_more}
 use Rattle.afs_law.proofs.Truthful.{Truthful, truthful_first, truthful_kept}
-use Rattle.afs_rows.specs.Going.{asked}
-use Rattle.afs_law.specs.ClientParts.{AnswersAreGood, IsDue, IsDueCode, IsGivenAtOnce, IsReplied}
+use Rattle.afs_law.specs.ClientParts.{AnswersAreGood, IsDue, IsDueCode, IsGivenAtOnce, IsReplied, WasReplied, IsLeft, IsUntold}
+use Rattle.afs_rows.specs.Going.{asked, locates, next}
+use Rattle.afs_history.specs.declared.acts.Operand.{Operand}
 use Rattle.afs_law.specs.Cells.{IsOfCell}
-use Rattle.afs_law.specs.Ideal.{change_in, set_up, user_of}
-use Rattle.afs_law.specs.Legal.{Cause, GoodCode, HasChange, HasNothing, IsCaused, IsInPlace, IsOfClient, IsResult, IsTold as IsToldOf, answer_at, as_asked}
+use Rattle.afs_law.specs.Ideal.{change_in, set_up, user_of, call_under, callee_under}
+use Rattle.afs_law.specs.Legal.{Cause, GoodCode, HasChange, HasNothing, IsCaused, IsInPlace, IsOfClient, IsResult, IsTold as IsToldOf, answer_at, as_asked, WasRefused, IsGone, IsUnheardOf, MayAsk}
 use Rattle.afs_law.specs.Parts.{EachEntry, EachLine}
 use Rattle.afs_law.specs.Past.{CalledSince, IsReply, Sends, answered_key, called_key, code_told, given_message, lines_of, sent_of}
 use Rattle.afs_law.specs.ServerParts.{IsCodeGood}
@@ -40,7 +42,7 @@ use Rattle.afs_num.specs.declared.types.Node.TheVariants.{Admin, Client, Loc, Se
 use Rattle.afs_rows.specs.Going.{ClientState, Going}
 use Rattle.afs_rows.specs.Runs.{Cell, Entry, start}
 use Rattle.afs_rows.specs.ServerRow.{key_of}
-use Rattle.std.proofs.Common.{◌≡◌, ℕ, ℤ, inl, inr, List, [], ◌∷◌, ◌++◌, Option, Some, sym, ap, subst, ◌∙◌}
+use Rattle.std.proofs.Common.{◌⊎◌, ◌≡◌, ℕ, ℤ, inl, inr, List, [], ◌∷◌, ◌++◌, Option, Some, sym, ap, subst, ◌∙◌}
 
 -- ---- a reply to a client's call is of a server
 
@@ -66,8 +68,8 @@ since_call T k user call (e ∷ past) (inl x) h = sent_call T k user call e.sent
 since_call T k user call (e ∷ past) (inr x) h = since_call T k user call past x.1 (each_front T (sent_of past) e.sent h).0
 
 -- the callee of a key under which a client sent a call
-callee_server : (s : Script) (callees : Key → Node) (clients : ℕ → ClientState) (j : ℕ) (k : Key) (user : List ℕ) (call : FsCall) (past : List Entry) → k.node ≡ Client j → CalledSince k user call past → Each (IfCall (λ h u f. IsKnown callees clients h.to (key_of h))) (sent_of past) → Each (IfCall (IsHome s)) (sent_of past) → IsServer (callees k)
-callee_server s callees clients j k user call past node called known homes =
+pub called_server : (s : Script) (callees : Key → Node) (clients : ℕ → ClientState) (j : ℕ) (k : Key) (user : List ℕ) (call : FsCall) (past : List Entry) → k.node ≡ Client j → CalledSince k user call past → Each (IfCall (λ h u f. IsKnown callees clients h.to (key_of h))) (sent_of past) → Each (IfCall (IsHome s)) (sent_of past) → IsServer (callees k)
+called_server s callees clients j k user call past node called known homes =
     let K : Head → List ℕ → FsCall → Type 0 = λ h u f. IsKnown callees clients h.to (key_of h) in
     let x : HasSent (λ m. IfCall K m × IfCall (IsHome s) m) k user call = since_call (λ m. IfCall K m × IfCall (IsHome s) m) k user call past called (each_both (IfCall K) (IfCall (IsHome s)) (sent_of past) known homes) in
     let head : Head = x.message.head in
@@ -90,17 +92,19 @@ result_front server code r k ran own o (inl h) = inl (h.0, told_front k r own o 
 result_front server code r k ran own o (inr h) = inr h
 
 -- of a reply with this code to a call that the act asks
-pub cause_by : (s : Script) (c : Cell) (past : List Entry) (own : List Line) (j : ℕ) (act : Going) (m : Message) (code : ℤ) (asks : FsCall) → Truthful s c past → given_message own (sent_of past) ≡ Some m → IsReply m → code_told m.carried ≡ Some code → m.head.to ≡ Client j → CalledSince (answered_key m.head) (user_of s (Client j)) asks past → as_asked asks ≡ asked act
+pub cause_by : (s : Script) (c : Cell) (past : List Entry) (own : List Line) (j : ℕ) (act : Going) (m : Message) (code : ℤ) (asks : FsCall) → Truthful s c past → given_message own (sent_of past) ≡ Some m → IsReply m → code_told m.carried ≡ Some code → m.head.to ≡ Client j → callee_under (answered_key m.head) (sent_of past) ≡ Some m.head.from → CalledSince (answered_key m.head) (user_of s (Client j)) asks past → as_asked asks ≡ asked act
     → (cause : Cause m code (asked act) past own) × (cause.user ≡ user_of s (Client j))
-cause_by s c past own j act m code asks h by is to_code to called asked_for =
+cause_by s c past own j act m code asks h by is to_code to under called asked_for =
     let a : KnownAsked s c past = h.0.0.0 in
     let k : Key = answered_key m.head in
     let told : sent_of past ≡ c.sent = a.0.hears.told in
     let each : (T : Message → Type 0) → Each T c.sent → Each T (sent_of past) = λ T all. subst (Each T) (sym told) all in
-    let R : Message → Type 0 = IfReply (IsOfCallee a.0.keys.callees c.clients) in
+    let known : Each (IfCall (KnownBy a.0.keys.callees c.clients)) (sent_of past) = each (IfCall (KnownBy a.0.keys.callees c.clients)) a.0.keys.calls in
+    let asked_under : call_under k (sent_of past) ≡ Some (user_of s (Client j), asks) = ap (call_under k) told ∙ called_one j k (user_of s (Client j)) asks c.sent past to called (each (IfCall (IsOne c.sent)) a.1.ones) in
+    let is_from : m.head.from ≡ a.0.keys.callees k = some_of m.head.from (a.0.keys.callees k) (sym under ∙ callee_is a.0.keys.callees c.clients j k (user_of s (Client j), asks) (sent_of past) to asked_under known) in
     let from : IsServer m.head.from =
-    subst IsServer (sym (of_callee a.0.keys.callees c.clients j m (given_each R own (sent_of past) m by (each R a.0.keys.answers)) is.1 to))
-    (callee_server s a.0.keys.callees c.clients j k (user_of s (Client j)) asks past to called (each _ a.0.keys.calls) (each (IfCall (IsHome s)) h.0.1.1.1)) in
+    subst IsServer (sym is_from)
+    (called_server s a.0.keys.callees c.clients j k (user_of s (Client j)) asks past to called (each _ a.0.keys.calls) (each (IfCall (IsHome s)) h.0.1.1.1)) in
     let t : Tells m past = given_each (IsTold past) own (sent_of past) m by (each (IsTold past) h.1.sends) from.0 j from.1 to is.1 in
     let one : Some (t.user, t.call) ≡ Some (user_of s (Client j), asks) =
     sym (ran_one past j m t.ran t.user t.call t.carries to c.sent a.1.ones told) ∙ called_one j k (user_of s (Client j)) asks c.sent past to called (each (IfCall (IsOne c.sent)) a.1.ones) in
@@ -127,10 +131,7 @@ caused_by s c past own j act code h q =
     let k : Key = answered_key m.head in
     let told : sent_of past ≡ c.sent = a.0.hears.told in
     let each : (T : Message → Type 0) → Each T c.sent → Each T (sent_of past) = λ T all. subst (Each T) (sym told) all in
-    let R : Message → Type 0 = IfReply (IsOfCallee a.0.keys.callees c.clients) in
-    let from : IsServer m.head.from =
-    subst IsServer (sym (of_callee a.0.keys.callees c.clients j m (given_each R own (sent_of past) m q.by (each R a.0.keys.answers)) q.is_reply.1 q.to))
-    (callee_server s a.0.keys.callees c.clients j k (user_of s (Client j)) q.call past q.to q.called (each _ a.0.keys.calls) (each (IfCall (IsHome s)) h.0.1.1.1)) in
+    let from : IsServer m.head.from = q.from in
     let t : Tells m past = given_each (IsTold past) own (sent_of past) m q.by (each (IsTold past) h.1.sends) from.0 j from.1 q.to q.is_reply.1 in
     let one : Some (t.user, t.call) ≡ Some (user_of s (Client j), q.call) =
     sym (ran_one past j m t.ran t.user t.call t.carries q.to c.sent a.1.ones told) ∙ called_one j k (user_of s (Client j)) q.call c.sent past q.to q.called (each (IfCall (IsOne c.sent)) a.1.ones) in
@@ -158,6 +159,55 @@ caused_by s c past own j act code h q =
       ends = q.ends (subst (λ (f : FsCall). IsKind f m.carried) call t.kind);
     }
 
+-- the refusal of a server, in an entry before
+refused_by : (s : Script) (c : Cell) (past : List Entry) (own : List Line) (j : ℕ) (act : Going) (code : ℤ) → Truthful s c past → WasReplied s (Client j) act code past → WasRefused s (Client j) act code past own
+refused_by s c past own j act code h q =
+    let a : KnownAsked s c past = h.0.0.0 in
+    let m : Message = q.reply in
+    let k : Key = answered_key m.head in
+    let told : sent_of past ≡ c.sent = a.0.hears.told in
+    let each : (T : Message → Type 0) → Each T c.sent → Each T (sent_of q.older) = λ T all. older_each T q.newer q.at q.older (subst (λ (p : List Entry). Each T (sent_of p)) q.split (subst (Each T) (sym told) all)) in
+    let t : Tells m past = given_each (IsTold past) q.at.lines (sent_of q.older) m q.by (each (IsTold past) h.1.sends) q.from.0 j q.from.1 q.to q.is_reply.1 in
+    let one : Some (t.user, t.call) ≡ Some (user_of s (Client j), q.call) =
+    sym (ran_one past j m t.ran t.user t.call t.carries q.to c.sent a.1.ones told) ∙ called_one j k (user_of s (Client j)) q.call c.sent q.older q.to q.called (each (IfCall (IsOne c.sent)) a.1.ones) in
+    let same : (t.user, t.call) ≡ (user_of s (Client j), q.call) = some_of (t.user, t.call) (user_of s (Client j), q.call) one in
+    let call : t.call ≡ q.call = ap (λ (p : List ℕ × FsCall). p.1) same in
+    let codes : t.code ≡ code = some_of t.code code (sym t.told ∙ q.told) in
+    record {
+      gone = q.gone;
+      newer = q.newer;
+      at = q.at;
+      older = q.older;
+      split = q.split;
+      within = q.within;
+      actor = q.actor;
+      reply = m;
+      by = q.by;
+      to = q.to;
+      cause = record {
+        is_reply = q.is_reply;
+        told = q.told;
+        ran = t.ran;
+        user = t.user;
+        call = t.call;
+        carries = t.carries;
+        asks = ap as_asked call ∙ q.asks;
+        result = result_front m.head.from code (answer_at t.user t.call t.ran.older) k t.ran.at.lines own (lines_of past) (subst (λ (x : ℤ). IsResult m.head.from x (answer_at t.user t.call t.ran.older) k t.ran.at.lines (lines_of past)) codes t.result);
+      };
+      own_user = ap (λ (p : List ℕ × FsCall). p.0) same;
+      called = subst (λ (p : List ℕ × FsCall). CalledSince k p.0 p.1 q.older) (sym same) q.called;
+    }
+
+gone_by : (s : Script) (c : Cell) (past : List Entry) (own : List Line) (j : ℕ) (act : Going) (code : ℤ) → Truthful s c past → IsLeft s (Client j) act code past own → IsGone s (Client j) act code past own
+gone_by s c past own j act code h q = record { left = q.left; is = q.is; refused = refused_by s c past own j act q.left h q.replied; operand = q.operand; heard = q.heard }
+
+pub may_ask : (s : Script) (c : Cell) (past : List Entry) (own : List Line) (j : ℕ) (act : Going) (o : Operand) → Truthful s c past → (next act ≡ locates o) ⊎ ((left : ℤ) × WasReplied s (Client j) act left past) → MayAsk s (Client j) act o past own
+may_ask s c past own j act o h (inl needs) = inl needs
+may_ask s c past own j act o h (inr q) = inr (q.0, refused_by s c past own j act q.0 h q.1)
+
+unheard_by : (s : Script) (c : Cell) (past : List Entry) (own : List Line) (j : ℕ) (act : Going) (code : ℤ) → Truthful s c past → IsUntold s (Client j) act code past own → IsUnheardOf s (Client j) act code past own
+unheard_by s c past own j act code h q = record { is = q.is; epoch = q.epoch; number = q.number; third = q.third; before = q.before; operand = q.operand; called = q.called; why = may_ask s c past own j act q.operand h q.why }
+
 -- ---- each line
 
 nothing_given : (s : Script) (c : Node) (act : Going) (code : ℤ) (own : List Line) → IsOfCell s → IsGivenAtOnce s c act code own → HasNothing c act code own
@@ -171,7 +221,13 @@ good_code s c past own j code cell h g d = record {
     | inl q ↦ inl (caused_by s c past own j d.act code.0 h q)
     | inr x ↦ inr (elim x [
       | inl done ↦ inl done
-      | inr y ↦ inr (elim y [ inl dead ↦ inl dead | inr none ↦ inr (nothing_given s (Client j) d.act code.0 own cell none) ])
+      | inr y ↦ inr (elim y [
+        | inl dead ↦ inl dead
+        | inr z ↦ inr (elim z [
+          | inl none ↦ inl (nothing_given s (Client j) d.act code.0 own cell none)
+          | inr u ↦ inr (elim u [ inl none ↦ inl none | inr v ↦ inr (elim v [ inl dead' ↦ inl (unheard_by s c past own j d.act code.0 h dead') | inr gone ↦ inr (gone_by s c past own j d.act code.0 h gone) ]) ])
+        ])
+      ])
     ])
   ];
   gives = g.0;
@@ -209,4 +265,4 @@ codes_from s past (e ∷ es) cell place back due h = (good_lines s h.0.0 past []
 
 pub run_codes : AnswersAreGood
 run_codes s h end cell r =
-    codes_from s (set_up s ∷ []) h cell (run_placed s h end r) (run_returned s h end r) (run_due s h end r) (run_each (Truthful s) (TrueBefore s) (truthful_kept s) (λ c past x k. (c, k)) r.inputs (start s) (set_up s ∷ []) h end (truthful_first s) r.leads)
+    codes_from s (set_up s ∷ []) h cell (run_placed s h end r) (run_returned s h end r) (run_due s h end r) (run_each (Truthful s) (TrueBefore s) (truthful_kept s) (λ c past x so k. (c, k)) r.inputs s (set_up s ∷ []) h end (truthful_first s) r.leads)

@@ -1,16 +1,16 @@
 -- How often the call for which a client waits was timed out: no timeout of it is told with a count above that, however many servers a cell
 -- has.
 use Rattle.afs_history.specs.declared.scripts.Script.{Script}
-use Rattle.afs_law.proofs.Acting.{Acts, begins_acts, falls_acts, given_acts, rises_acts, waits_acts, who_at}
+use Rattle.afs_law.proofs.Acting.{Acts, begins_acts, falls_acts, given_acts, rises_acts, waits_acts, who_at, missed_acts}
 use Rattle.afs_law.proofs.Backing.{all_lines}
 use Rattle.afs_law.proofs.Basics.{UpTo, at_put, each_at}
 use Rattle.afs_law.proofs.Choosing.{disk_works, one_from, risen_from, risen_lines, serves_works, starts_works, times_works, wakes_works}
 use Rattle.afs_law.proofs.Firm.{IsFirm}
-use Rattle.afs_law.proofs.Following.{Follows, begins_follow, falls_follow, given_follow, none_runs, rises_follow, waits_follow}
+use Rattle.afs_law.proofs.Following.{Follows, begins_follow, falls_follow, given_follow, none_runs, rises_follow, waits_follow, sought_follow, missed_follow}
 use Rattle.afs_law.proofs.KeysOnce.{IsKnown, any_told, by_key}
 use Rattle.afs_law.proofs.Moving.{Behind, EachMove, IsKept, each_moved}
-use Rattle.afs_law.proofs.Origins.{any_cut, any_message, blow_idle, idle_leaves, idle_works, is_idle, of_client, other_leaves, loc_idle}
-use Rattle.afs_law.proofs.Timing.{GivenTimed, IsUntimed, Timed, begun_times, not_next, timed_first, timed_kept, told_times}
+use Rattle.afs_law.proofs.Origins.{any_cut, any_message, blow_idle, idle_leaves, idle_works, is_idle, of_client, other_leaves, loc_idle, handed_same, sought_acts_in, told_in, placed_in, AskedIn}
+use Rattle.afs_law.proofs.Timing.{waiting, GivenTimed, IsUntimed, Timed, begun_times, not_next, timed_first, timed_kept, told_times, sought_times}
 use Rattle.afs_law.specs.Breaks.{HasTimeout}
 use Rattle.afs_law.specs.Ideal.{set_up}
 use Rattle.afs_law.specs.Past.{lines_of, onto}
@@ -20,20 +20,20 @@ use Rattle.afs_num.specs.declared.types.Node.TheVariants.{Client, Server}
 use Rattle.afs_history.specs.declared.lines.Line.{Line}
 use Rattle.afs_history.specs.declared.lines.Line.TheVariants as lines
 use Rattle.afs_rows.specs.Callbacks.{put}
-use Rattle.afs_rows.specs.ClientRow.{begin_row, call_of, client_row, gives_up, timeout_row, tries_again}
-use Rattle.afs_rows.specs.Going.{ClientState, Going}
+use Rattle.afs_rows.specs.ClientRow.{begin_row, call_of, client_row, gives_up, timeout_row, tries_again, act_by, sought_ends, seeks_on, seek_timeout_row, act_of, timeout_line, dead_code, sought_by}
+use Rattle.afs_rows.specs.Going.{ClientState, Going, Seek}
 use Rattle.afs_law.proofs.Steps.{blow_line, server_falls, server_moves, server_rises, server_set, server_stays, loc_becomes}
 use Rattle.afs_rows.specs.Runs.{Cell, Entry, at_rest, begun_by_disk, in_boot, in_step, start, ticked, voided}
 use Rattle.afs_rows.specs.ServerSteps.{back_timeout_row, server_row, wake_row}
 use Rattle.afs_rows.specs.Steps.{Step}
-use Rattle.std.proofs.Common.{suc, ◌≡◌, ◌≤◌, ◌+◌, ℕ, ◌⊎◌, inl, inr, Bool, true, false, cond, List, [], ◌∷◌, Some, None, refl, sym, subst, ◌∙◌, nat_lt, arith}
+use Rattle.std.proofs.Common.{suc, ◌≡◌, ◌≤◌, ◌+◌, ℕ, ◌⊎◌, inl, inr, Bool, true, false, cond, List, [], ◌∷◌, Some, None, refl, sym, ap, subst, ◌∙◌, nat_lt, arith, Option}
 use Rattle.std.proofs.Math.Nat.{le_of_eq}
 
 -- ---- a step of a client
 
 -- a timeout that it tells is counted, or its act is over then
 abbrev CountsOn : ℕ → ClientState → Step ClientState → Type 0
-CountsOn n c st = (q : Node) (e k i : ℕ) (o : List Line) → HasTimeout (Client n) q e k i (onto o st.lines) → HasTimeout (Client n) q e k i o ⊎ ((i ≤ st.state.tries) ⊎ (st.state.running ≡ None))
+CountsOn n c st = (q : Node) (e k i : ℕ) (o : List Line) → HasTimeout (Client n) q e k i (onto o st.lines) → HasTimeout (Client n) q e k i o ⊎ ((i ≤ st.state.tries) ⊎ (act_of st.state ≡ None))
 
 none_counts : (n : ℕ) (c : ClientState) (st : Step ClientState) → IsUntimed n st → CountsOn n c st
 none_counts n c st w q e k i o h = inl (w q e k i o h)
@@ -46,10 +46,19 @@ waits_counts n c act false q e k i o h = inr (inr refl)
 row_counts : (n : ℕ) (c : ClientState) (act : Going) → CountsOn n c (timeout_row (Client n) c act)
 row_counts n c act = waits_counts n c act (nat_lt c.tries 2)
 
+-- so is one of what it asked the location database
+missed_counts : (n : ℕ) (c : ClientState) (k : Seek) (t : Bool) → c.running ≡ None → CountsOn n c (cond t (seeks_on (Client n) c k) (sought_ends (Client n) c (λ ls. timeout_line (Client n) c 3 ∷ ls) dead_code))
+missed_counts n c k true none q e m i o (inl x) = inr (inl (le_of_eq (sym x.1.1.1.1)))
+missed_counts n c k true none q e m i o (inr x) = inl x
+missed_counts n c k false none q e m i o h = inr (inr (ap (λ (a : Option Going). act_by a None) none))
+
+missed_row_counts : (n : ℕ) (c : ClientState) (k : Seek) → c.running ≡ None → CountsOn n c (seek_timeout_row (Client n) c k)
+missed_row_counts n c k none = missed_counts n c k (nat_lt c.tries 2) none
+
 -- ---- what holds after every entry
 
 abbrev pub Counted : ℕ → ClientState → List Entry → Type 0
-Counted j x past = (act : Going) → x.running ≡ Some act → (q : Node) (i : ℕ) → HasTimeout (Client j) q x.epoch x.last i (lines_of past) → i ≤ x.tries
+Counted j x past = (act : Going) → act_of x ≡ Some act → (q : Node) (i : ℕ) → HasTimeout (Client j) q x.epoch x.last i (lines_of past) → i ≤ x.tries
 
 abbrev pub CountedIn : Cell → List Entry → Type 0
 CountedIn c past = (j : ℕ) → Counted j (c.clients j) past
@@ -62,18 +71,15 @@ one_more i a b le e = omega (arith, le, e)
 
 step_counted : (n : ℕ) (c : ClientState) (st : Step ClientState) (past : List Entry) → Timed n c past → Counted n c past → Acts n (who_at c) c.gifts st → Follows n c st → CountsOn n c st → Counted n st.state (of_client n st ∷ past)
 step_counted n c st past t h a f w act run q i x = elim (w q st.state.epoch st.state.last i (lines_of past) x) [
-  | inr y ↦ elim y [ inl le ↦ le | inr none ↦ absurd (none_runs st.state.running act none run) ]
-  | inl old ↦ elim a.goes [
-    | inl r ↦ elim r.act [
-      | inl none ↦ absurd (none_runs st.state.running act none run)
-      | inr same ↦
-          let was : i ≤ c.tries = h act (sym same.0 ∙ run) q i (subst (λ (e : ℕ). HasTimeout (Client n) q e c.last i (lines_of past)) r.epoch (subst (λ (k : ℕ). HasTimeout (Client n) q st.state.epoch k i (lines_of past)) r.last old)) in
-          elim (f.stays act run r.last).tries [ inl e ↦ subst (λ (k : ℕ). i ≤ k) (sym e) was | inr e ↦ one_more i c.tries st.state.tries was e.0 ]
-    ]
-    | inr y ↦ elim y [
-      | inl z ↦ absurd (not_next c.epoch c.last (subst (λ (k : ℕ). UpTo c.epoch k c.epoch c.last) z.last (subst (λ (e : ℕ). UpTo e st.state.last c.epoch c.last) z.epoch (t.behind q st.state.epoch st.state.last i old))))
-      | inr z ↦ absurd (none_runs st.state.running act z.act run)
-    ]
+  | inr y ↦ elim y [ inl le ↦ le | inr none ↦ absurd (none_runs (act_of st.state) act none run) ]
+  | inl old ↦ elim (waiting n c st act a run) [
+    | inl on ↦
+        let was : i ≤ c.tries = h on.old on.was q i (subst (λ (e : ℕ). HasTimeout (Client n) q e c.last i (lines_of past)) on.epoch (subst (λ (k : ℕ). HasTimeout (Client n) q st.state.epoch k i (lines_of past)) on.last old)) in
+        elim on.how [
+          | inl runs ↦ elim (f.stays act runs on.last).tries [ inl e ↦ subst (λ (k : ℕ). i ≤ k) (sym e) was | inr e ↦ one_more i c.tries st.state.tries was e.0 ]
+          | inr seeks ↦ elim seeks.1.tries [ inl e ↦ subst (λ (k : ℕ). i ≤ k) (sym e) was | inr e ↦ one_more i c.tries st.state.tries was e.0 ]
+        ]
+    | inr z ↦ absurd (not_next c.epoch c.last (subst (λ (k : ℕ). UpTo c.epoch k c.epoch c.last) z.1 (subst (λ (e : ℕ). UpTo e st.state.last c.epoch c.last) z.0 (t.behind q st.state.epoch st.state.last i old))))
   ]
 ]
 
@@ -92,13 +98,16 @@ counted_moves : (s : Script) → EachMove (CountedFacts s) (Behind CountedIn)
 counted_moves s = record {
   void = λ c past h. idle_counted s c past (voided c).entry h.1 refl;
   ticked = λ c past n h. idle_counted s c past (ticked c (suc n)).entry h.1 refl;
-  begun = λ c past n act h r. (let a = begins_acts n (c.clients n) c.clock act r in client_counted s c past n _ h a (begins_follow n (c.clients n) c.clock act (h.0.0.0.0.1 n).0 r) (none_counts n (c.clients n) (begin_row (Client n) (c.clients n) c.clock act) (begun_times s c past n act h.0.0 a)));
+  begun = λ c past n act h r z0. (let a = begins_acts n (c.clients n) c.clock act r z0 in client_counted s c past n _ h a (begins_follow n (c.clients n) c.clock act (h.0.0.0.0.1 n).0 r) (none_counts n (c.clients n) (begin_row (Client n) (c.clients n) c.clock act) (begun_times s c past n act h.0.0 a)));
   told = λ c past n place m h at to. (let a = given_acts (by_key (IsKnown h.0.0.0.0.0.0.0.0.keys.callees c.clients)) any_told n (c.clients n) c.clock place m (h.0.0.0.0.0.0.0.0.keys.replies n) (h.0.0.0.0.0.0.0.1.seats n) in
       client_counted s c past n _ h a (given_follow n (c.clients n) c.clock place m (h.0.0.0.0.1 n).0 (each_at (λ m. IsFirm m.head m.carried) c.sent place m at h.0.0.0.0.0.1)) (none_counts n (c.clients n) (client_row (Client n) (c.clients n) c.clock place (Whole m)) (told_times s c past n place m h.0.0 at to a)));
+  sought = λ c past n place m k h at to z e. (let A : AskedIn s c past = h.0.0.0.0.0.0.0.1 in
+      client_counted s c past n _ h (sought_acts_in s c past n place m k A at z e) (sought_follow s n (c.clients n) c.clock place k m.head m.carried (placed_in s c past n k A z) (told_in s c past n place m k A at e) (h.0.0.0.0.1 n).0) (none_counts n (c.clients n) (sought_by (Client n) (c.clients n) c.clock place k m.head m.carried) (sought_times s c past n place m k A at z e)));
+  missed = λ c past n k h r z. client_counted s c past n _ h (missed_acts n (c.clients n) k r z) (missed_follow n (c.clients n) k r (h.0.0.0.0.1 n).0) (missed_row_counts n (c.clients n) k r);
+  loc = λ c past l ls ms h st. idle_counted s c past (loc_becomes c l ls ms).entry h.1 (loc_idle ls st.lines);
   waited = λ c past n act h r. client_counted s c past n _ h (waits_acts n (c.clients n) act r) (waits_follow n (c.clients n) act (h.0.0.0.0.1 n).0) (row_counts n (c.clients n) act);
-  fallen = λ c past n h. client_counted s c past n _ h (falls_acts n (c.clients n)) (falls_follow n (c.clients n)) (λ q e k i o x. inl x);
+  fallen = λ c past n h. client_counted s c past n _ h (falls_acts n c.handed (c.clients n) (handed_same s c past (h.0.0.0.0.0.0.0.1) n)) (falls_follow n c.handed (c.clients n)) (λ q e k i o x. inl x);
   risen = λ c past n h. client_counted s c past n _ h (rises_acts n (c.clients n)) (rises_follow n (c.clients n) (h.0.0.0.0.1 n).0) (λ q e k i o x. inl x);
-  loc = λ c past l ls h st. idle_counted s c past (loc_becomes c l ls).entry h.1 (loc_idle ls st.lines);
   served = λ c past i place m armed h up at to. idle_counted s c past (server_moves c i armed (server_row (Server i) (c.hosts i).state c.clock place (Whole m))).entry h.1 (idle_works any_message i (c.hosts i).state _ _ (serves_works any_message (Server i) (c.hosts i).state c.clock place m (λ rest. tt)));
   cut = λ c past i place m t h up at to. idle_counted s c past (server_falls c i (lines.Given place ∷ blow_line i t.stops ∷ []) (in_step m c.clock t)).entry h.1 (blow_idle i t.stops);
   stopped = λ c past i h up. idle_counted s c past (server_falls c i (lines.Crash (Server i) ∷ []) at_rest).entry h.1 refl;
@@ -114,7 +123,7 @@ counted_moves s = record {
 }
 
 pub counted_kept : (s : Script) → IsKept (CountedFacts s)
-counted_kept s c past x h = (timed_kept s c past x h.0, each_moved (CountedFacts s) (Behind CountedIn) (counted_moves s) c past x h)
+counted_kept s c past x so h = (timed_kept s c past x so h.0, each_moved (CountedFacts s) (Behind CountedIn) (counted_moves s) c past x so h)
 
 pub counted_first : (s : Script) → CountedFacts s (start s) (set_up s ∷ [])
 counted_first s = (timed_first s, λ j act r. absurd cc)

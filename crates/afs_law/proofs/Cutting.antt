@@ -1,5 +1,6 @@
 -- A step of a server that was interrupted, however many servers a cell has: the entry in which the server stopped, and what that would
 -- have run; since then it did nothing but begin restarts in which its disk failed at once.
+use Rattle.afs_law.proofs.Listing.{}
 use Rattle.afs_history.specs.declared.lines.Line.{Line}
 use Rattle.afs_history.specs.declared.lines.Line.TheVariants as lines
 use Rattle.afs_law.proofs.Basics.{Above, above_up, at_put, runs_admitted}
@@ -76,6 +77,9 @@ host_cuts hosts i h past e actor C own j m clock hit =
 no_client : (n i : ℕ) → actors.Node (Client n) ≡ actors.Node (Server i) → ⊥
 no_client n i e = absurd cc
 
+no_loc : (i : ℕ) → actors.Node Loc ≡ actors.Node (Server i) → ⊥
+no_loc i e = absurd cc
+
 nobody : (i : ℕ) → actors.Nobody ≡ actors.Node (Server i) → ⊥
 nobody i e = absurd cc
 
@@ -113,19 +117,18 @@ cut_here c past i place m t e K up at actor ls = record {
 abbrev pub KnownCuts : Cell → List Entry → Type 0
 KnownCuts c past = Known c past × CutsIn c past
 
-no_loc : (i : ℕ) → actors.Node Loc ≡ actors.Node (Server i) → ⊥
-no_loc i e = absurd cc
-
 pub cuts_moves : EachMove KnownCuts (Behind CutsIn)
 cuts_moves = record {
   void = λ c past h. other_cuts c.hosts past _ nobody h.1;
   ticked = λ c past n h. other_cuts c.hosts past _ no_clock h.1;
-  begun = λ c past n act h r. other_cuts c.hosts past _ (no_client n) h.1;
+  begun = λ c past n act h r z. other_cuts c.hosts past _ (no_client n) h.1;
   told = λ c past n place m h at to. other_cuts c.hosts past _ (no_client n) h.1;
+  sought = λ c past n place m k h at to z e. other_cuts c.hosts past _ (no_client n) h.1;
+  missed = λ c past n k h r z. other_cuts c.hosts past _ (no_client n) h.1;
   waited = λ c past n act h r. other_cuts c.hosts past _ (no_client n) h.1;
   fallen = λ c past n h. other_cuts c.hosts past _ (no_client n) h.1;
   risen = λ c past n h. other_cuts c.hosts past _ (no_client n) h.1;
-  loc = λ c past l ls h st. other_cuts c.hosts past _ no_loc h.1;
+  loc = λ c past l ls ms h st. other_cuts c.hosts past _ no_loc h.1;
   served = λ c past i place m armed h up at to. host_cuts c.hosts i _ past _ refl h.1 (λ k clock hit e. absurd cc);
   cut = λ c past i place m t h up at to. host_cuts c.hosts i _ past _ refl h.1 (λ k clock hit e. subst (λ (y : Message). CutOf i (c.hosts i).state y ((server_falls c i (lines.Given place ∷ blow_line i t.stops ∷ []) (in_step m c.clock t)).entry ∷ past)) (same_cut m k c.clock clock t hit e) (cut_here c past i place m t.stops (server_falls c i (lines.Given place ∷ blow_line i t.stops ∷ []) (in_step m c.clock t)).entry h.0 up at refl refl));
   stopped = λ c past i h up. host_cuts c.hosts i _ past _ refl h.1 (λ k clock hit e. absurd cc);

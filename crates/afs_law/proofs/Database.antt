@@ -140,7 +140,7 @@ keyed_by true b n x p ps rest is h ih = (is, h.1)
 keyed_by false true n x p ps rest is h ih = (is, h)
 keyed_by false false n x p ps rest is h ih = (h.0, ih)
 
-keyed_set : (x : Listed) (t : Table Listed) → AreKeyed t → AreKeyed (set x.entry.read_write x t)
+pub keyed_set : (x : Listed) (t : Table Listed) → AreKeyed t → AreKeyed (set x.entry.read_write x t)
 keyed_set x [] h = (refl, tt)
 keyed_set x (p ∷ ps) h = keyed_by (nat_eq p.0 x.entry.read_write) (nat_lt x.entry.read_write p.0) x.entry.read_write x p ps (set x.entry.read_write x ps) refl h (keyed_set x ps h.1)
 
@@ -157,7 +157,7 @@ drawn_by next true b n x p ps rest is h ih = (is, h.1)
 drawn_by next false true n x p ps rest is h ih = (is, h)
 drawn_by next false false n x p ps rest is h ih = (h.0, ih)
 
-drawn_set : (next n : ℕ) (x : Listed) (t : Table Listed) → IsDrawn next x.lock → AreDrawn next t → AreDrawn next (set n x t)
+pub drawn_set : (next n : ℕ) (x : Listed) (t : Table Listed) → IsDrawn next x.lock → AreDrawn next t → AreDrawn next (set n x t)
 drawn_set next n x [] is h = (is, tt)
 drawn_set next n x (p ∷ ps) is h = drawn_by next (nat_eq p.0 n) (nat_lt n p.0) n x p ps (set n x ps) is h (drawn_set next n x ps is h.1)
 

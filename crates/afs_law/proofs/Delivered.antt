@@ -1,4 +1,6 @@
 -- What an entry of a run is given was sent before, to its node, however many servers a cell has.
+use Rattle.afs_law.proofs.Calling.{sought_tame}
+use Rattle.afs_law.proofs.KeysOnce.{IsKnown, any_told, by_key}
 use Rattle.afs_law.proofs.LocLines.{is_of_loc}
 use Rattle.afs_breaks.specs.declared.types.OwedBreak.{OwedBreak}
 use Rattle.afs_history.specs.declared.acts.Act.{Act}
@@ -10,7 +12,7 @@ use Rattle.afs_law.proofs.Backing.{all_lines}
 use Rattle.afs_law.proofs.Basics.{both}
 use Rattle.afs_law.proofs.Changing.{run_each}
 use Rattle.afs_law.proofs.Choosing.{risen_lines}
-use Rattle.afs_law.proofs.Hearing.{client_given, served_given}
+use Rattle.afs_law.proofs.Hearing.{client_given, served_given, replies_to}
 use Rattle.afs_law.proofs.Knowing.{Known, known_first, known_kept}
 use Rattle.afs_law.proofs.Moving.{EachMove, each_moved}
 use Rattle.afs_law.proofs.Owed.{disk_lines}
@@ -25,12 +27,13 @@ use Rattle.afs_num.specs.declared.messages.Received.TheVariants.{Whole}
 use Rattle.afs_num.specs.declared.types.Node.{Node}
 use Rattle.afs_num.specs.declared.types.Node.TheVariants.{Client, Server}
 use Rattle.afs_rows.specs.Callbacks.{expired, owe_line, quit_line, quits, retries, risen_turn, still_owed}
-use Rattle.afs_rows.specs.ClientRow.{Look, Walked, begin_row, begins_by, call_of, client_row, dead_code, dropped, gift_of, given_up_in, gives_by, gives_up, goes_by, in_order, looked, most_reads, timeout_row, tries_again, trusted_in, untrusted_in, walked}
-use Rattle.afs_rows.specs.Going.{ClientState, Going, Need, answers, began, gives_back, next}
+use Rattle.afs_rows.specs.ClientRow.{Look, Walked, begin_row, begins_by, call_of, client_row, dead_code, dropped, gift_of, given_up_in, gives_by, gives_up, goes_by, in_order, looked, most_reads, timeout_row, tries_again, trusted_in, untrusted_in, walked, seek_timeout_row, timeout_line, seeks_on, sought_by, sought_ends}
+use Rattle.afs_rows.specs.Going.{ClientState, Going, Need, answers, began, gives_back, next, Seek}
 use Rattle.afs_law.proofs.Steps.{blow_line, server_falls, server_moves, server_rises, server_set, server_stays, loc_becomes}
 use Rattle.afs_rows.specs.Runs.{Cell, Entry, Fall, Moved, RunsTo, at_rest, begun_by_disk, client_falls, client_moves, client_rises, in_boot, message_at, start, ticked, voided}
 use Rattle.afs_rows.specs.ServerSteps.{back_timeout_row, server_row, start_row, wake_row}
 use Rattle.afs_rows.specs.States.{BackCall, Backs, CacheEntry, Gift, ServerState}
+use Rattle.std.specs.Prelude.{⊤}
 use Rattle.std.proofs.Common.{suc, ◌≡◌, ℕ, ◌+◌, Bool, true, false, cond, List, [], ◌∷◌, map, Option, Some, None, refl, sym, ap, subst, ◌∙◌, nat_lt}
 
 -- ---- an entry that is given nothing
@@ -63,7 +66,7 @@ first_ungiven me x clock act a need = let w : Walked = walked (most_reads a) clo
 
 pub begun_ungiven : (me : Node) (x : ClientState) (clock : ℕ) (act : Act) → Ungiven (begin_row me x clock act).lines
 unfolding begin_row
-begun_ungiven me x clock act = first_ungiven me (record x { busy = 0 }) clock act (began x.table act) (next (began x.table act))
+begun_ungiven me x clock act = first_ungiven me (record x { busy = 0; moved = 0 }) clock act (began x.table act) (next (began x.table act))
 
 tries_ungiven : (me : Node) (x : ClientState) (act : Going) (t : Bool) → Ungiven (cond t (tries_again me x act) (gives_up me x (call_of x act))).lines
 tries_ungiven me x act true = refl
@@ -123,21 +126,34 @@ DeliveredStep c past m = IsDelivered m.entry.actor past m.entry.lines
 ungiven_step : (past : List Entry) (m : Moved) → Ungiven m.entry.lines → IsDelivered m.entry.actor past m.entry.lines
 ungiven_step past m none = ungiven_delivered m.entry.actor past m.entry.lines none
 
-loc_ungiven : (ls : List Line) → all_lines is_of_loc ls ≡ true → Ungiven ls
-loc_ungiven [] h = refl
-loc_ungiven (lines.Given place ∷ ls) h = absurd cc
-loc_ungiven (l ∷ ls) h = loc_ungiven ls (both (is_of_loc l) (all_lines is_of_loc ls) h).1
+missed_by : (me : Node) (x : ClientState) (k : Seek) (t : Bool) → Ungiven (cond t (seeks_on me x k) (sought_ends me x (λ ls. timeout_line me x 3 ∷ ls) dead_code)).lines
+missed_by me x k true = refl
+missed_by me x k false = refl
+
+pub missed_ungiven : (me : Node) (x : ClientState) (k : Seek) → Ungiven (seek_timeout_row me x k).lines
+missed_ungiven me x k = missed_by me x k (nat_lt x.tries 2)
+
+abbrev any_node : Node → ℕ → Type 0
+any_node q boot = ⊤
+
+-- the database's answer
+pub sought_given : (c : Cell) (past : List Entry) (n place : ℕ) (m : Message) (k : Seek) → Known c past → message_at c.sent place ≡ Some m → given_message (sought_by (Client n) (c.clients n) c.clock place k m.head m.carried).lines (sent_of past) ≡ Some m
+sought_given c past n place m k K at =
+    (sought_tame any_told any_told any_node n (c.clients n) c.clock place k m.head m.carried (λ b. tt) (replies_to (by_key (IsKnown K.keys.callees c.clients)) any_told any_told any_told (λ h x. tt) (λ h x. x) (c.clients n).seats (K.keys.replies n))).given (sent_of past)
+    ∙ (ap (λ (ms : List Message). message_at ms place) K.hears.told ∙ at)
 
 pub delivered_moves : EachMove Known DeliveredStep
 delivered_moves = record {
   void = λ c past h. ungiven_step past (voided c) refl;
   ticked = λ c past n h. ungiven_step past (ticked c (suc n)) refl;
-  begun = λ c past n act h r. ungiven_step past (client_moves c n (begin_row (Client n) (c.clients n) c.clock act)) (begun_ungiven (Client n) (c.clients n) c.clock act);
+  begun = λ c past n act h r z0. ungiven_step past (client_moves c n (begin_row (Client n) (c.clients n) c.clock act)) (begun_ungiven (Client n) (c.clients n) c.clock act);
   told = λ c past n place m h at to. given_delivered (Client n) past (client_row (Client n) (c.clients n) c.clock place (Whole m)).lines m ((client_given c past n place m h.hears to at).given (sent_of past) ∙ (ap (λ (ms : List Message). message_at ms place) h.hears.told ∙ at)) to;
+  sought = λ c past n place m k h at to z e. given_delivered (Client n) past (sought_by (Client n) (c.clients n) c.clock place k m.head m.carried).lines m (sought_given c past n place m k h at) to;
+  missed = λ c past n k h r z. ungiven_step past (client_moves c n (seek_timeout_row (Client n) (c.clients n) k)) (missed_ungiven (Client n) (c.clients n) k);
+  loc = λ c past l ls ms h st. st.delivered past h.hears.told;
   waited = λ c past n act h r. ungiven_step past (client_moves c n (timeout_row (Client n) (c.clients n) act)) (waited_ungiven (Client n) (c.clients n) act);
   fallen = λ c past n h. ungiven_step past (client_falls c n) refl;
   risen = λ c past n h. ungiven_step past (client_rises c n) refl;
-  loc = λ c past l ls h st. ungiven_step past (loc_becomes c l ls) (loc_ungiven ls st.lines);
   served = λ c past i place m armed h up at to. given_delivered (Server i) past (server_row (Server i) (c.hosts i).state c.clock place (Whole m)).lines m (served_given i (c.hosts i).state c.clock place m (sent_of past) ∙ (ap (λ (ms : List Message). message_at ms place) h.hears.told ∙ at)) to;
   cut = λ c past i place m t h up at to. given_delivered (Server i) past (lines.Given place ∷ blow_line i t.stops ∷ []) m (ap (λ (ms : List Message). message_at ms place) h.hears.told ∙ at) to;
   stopped = λ c past i h up. ungiven_step past (server_falls c i (lines.Crash (Server i) ∷ []) at_rest) refl;
@@ -153,4 +169,4 @@ delivered_moves = record {
 
 pub run_delivered : (s : Script) (h : List Entry) (end : Cell) → RunsTo h s end → EachEntry (λ past e. IsDelivered e.actor past e.lines) (set_up s ∷ []) h
 run_delivered s h end r =
-    run_each Known (λ past e. IsDelivered e.actor past e.lines) known_kept (λ c past x k. each_moved Known DeliveredStep delivered_moves c past x k) r.inputs (start s) (set_up s ∷ []) h end (known_first s) r.leads
+    run_each Known (λ past e. IsDelivered e.actor past e.lines) known_kept (λ c past x so k. each_moved Known DeliveredStep delivered_moves c past x so k) r.inputs s (set_up s ∷ []) h end (known_first s) r.leads

@@ -1,4 +1,6 @@
 -- Each entry of a run is of a node of its script, and each reply that it sends was run, however many servers a cell has.
+use Rattle.afs_law.proofs.LocLife.{run_loc_lived, IsLocLived}
+use Rattle.afs_law.proofs.Listing.{IsSoundLoc}
 use Rattle.afs_history.specs.declared.scripts.Script.{Script}
 use Rattle.afs_law.proofs.Answering.{run_takes}
 use Rattle.afs_law.proofs.Changing.{run_each}
@@ -35,12 +37,14 @@ none_laid : EachMove Known LaysNone
 none_laid = record {
   void = λ c past h. refl;
   ticked = λ c past n h. refl;
-  begun = λ c past n act h r. refl;
+  begun = λ c past n act h r z. refl;
   told = λ c past n place m h at to. refl;
+  sought = λ c past n place m k h at to z e. refl;
+  missed = λ c past n k h r z. refl;
+  loc = λ c past l ls ms h st. refl;
   waited = λ c past n act h r. refl;
   fallen = λ c past n h. refl;
   risen = λ c past n h. refl;
-  loc = λ c past l ls h st. refl;
   served = λ c past i place m armed h up at to. refl;
   cut = λ c past i place m t h up at to. refl;
   stopped = λ c past i h up. refl;
@@ -64,24 +68,24 @@ each_ran past (m ∷ ms) h = (
 )
 
 -- it is as its node, up or down
-lived_by : (who : Actor) (past : List Entry) (ls : List Line) (sent : List Message) → IsClientLived who past ls sent → IsServerLived who past ls sent → IsLivedBy who past ls sent
-lived_by (actors.Node (Client j)) past ls sent c h = c
-lived_by (actors.Node (Server i)) past ls sent c h = h
-lived_by (actors.Node (Admin i)) past ls sent c h = tt
-lived_by (actors.Node Loc) past ls sent c h = tt
-lived_by actors.Clock past ls sent c h = tt
-lived_by actors.Nobody past ls sent c h = tt
+lived_by : (who : Actor) (past : List Entry) (ls : List Line) (sent : List Message) → IsClientLived who past ls sent → IsServerLived who past ls sent → IsLocLived who past ls sent → IsLivedBy who past ls sent
+lived_by (actors.Node (Client j)) past ls sent c h l = c
+lived_by (actors.Node (Server i)) past ls sent c h l = h
+lived_by (actors.Node (Admin i)) past ls sent c h l = tt
+lived_by (actors.Node Loc) past ls sent c h l = l
+lived_by actors.Clock past ls sent c h l = tt
+lived_by actors.Nobody past ls sent c h l = tt
 
 each_present : (past : List Entry) (ms : List Message) → EachSent IsNowTrue past ms → EachSent RunsFirstOfAct past ms → ArePresent past ms
 each_present past [] h r = tt
 each_present past (m ∷ ms) h r = ((h.0, r.0), each_present past ms h.1 r.1)
 
-join : (s : Script) (past es : List Entry) → AreEntries s past es → EachEntry (λ past e. e.volumes ≡ []) past es → EachEntry (λ past e. IsClientLived e.actor past e.lines e.sent) past es → EachEntry (λ past e. IsServerLived e.actor past e.lines e.sent) past es → EachEntry (λ past e. IsDelivered e.actor past e.lines) past es → EachEntry (λ past e. HandlesBreaks e.actor past e.lines) past es → EachEntry (λ past e. TakesReply s e.actor past e.lines) past es
+join : (s : Script) (past es : List Entry) → AreEntries s past es → EachEntry (λ past e. e.volumes ≡ []) past es → EachEntry (λ past e. IsClientLived e.actor past e.lines e.sent) past es → EachEntry (λ past e. IsServerLived e.actor past e.lines e.sent) past es → EachEntry (λ past e. IsLocLived e.actor past e.lines e.sent) past es → EachEntry (λ past e. IsDelivered e.actor past e.lines) past es → EachEntry (λ past e. HandlesBreaks e.actor past e.lines) past es → EachEntry (λ past e. TakesReply s e.actor past e.lines e.sent) past es
     → EachEntry (λ past e. EachSent IsNowTrue (e ∷ past) e.sent) past es → EachEntry (λ past e. EachSent RunsFirstOfAct (e ∷ past) e.sent) past es → EachEntry (λ past e. EachSent IsTruthful (e ∷ past) e.sent) past es → EachEntry (λ past e. IsEntryOf s past e × WereRun (e ∷ past) e.sent) past es
-join s past [] a b l h d k z v w t = tt
-join s past (e ∷ es) a b l h d k z v w t = ((((b.0, a.0.0), (a.0.1, (lived_by e.actor past e.lines e.sent l.0 h.0, (d.0, ((k.0, z.0), each_present (e ∷ past) e.sent v.0 w.0))))), each_ran (e ∷ past) e.sent t.0), join s (e ∷ past) es a.1 b.1 l.1 h.1 d.1 k.1 z.1 v.1 w.1 t.1)
+join s past [] a b l h q d k z v w t = tt
+join s past (e ∷ es) a b l h q d k z v w t = ((((b.0, a.0.0), (a.0.1, (lived_by e.actor past e.lines e.sent l.0 h.0 q.0, (d.0, ((k.0, z.0), each_present (e ∷ past) e.sent v.0 w.0))))), each_ran (e ∷ past) e.sent t.0), join s (e ∷ past) es a.1 b.1 l.1 h.1 q.1 d.1 k.1 z.1 v.1 w.1 t.1)
 
 pub run_entered : EntriesAreSound
 run_entered s h end r =
-    join s (set_up s ∷ []) h (run_entries s h end r) (run_each Known (λ past e. e.volumes ≡ []) known_kept (λ c past x k. each_moved Known LaysNone none_laid c past x k) r.inputs (start s) (set_up s ∷ []) h end (known_first s) r.leads) (run_lived s h end r) (run_hosted s h end r) (run_delivered s h end r) (run_handled s h end r) (run_takes s h end r) (run_successes s h end r) (run_firsts s h end r)
+    join s (set_up s ∷ []) h (run_entries s h end r) (run_each Known (λ past e. e.volumes ≡ []) known_kept (λ c past x so k. each_moved Known LaysNone none_laid c past x so k) r.inputs s (set_up s ∷ []) h end (known_first s) r.leads) (run_lived s h end r) (run_hosted s h end r) (run_loc_lived s h end r) (run_delivered s h end r) (run_handled s h end r) (run_takes s h end r) (run_successes s h end r) (run_firsts s h end r)
     (run_true s h end r)

@@ -1,4 +1,5 @@
 -- What a reply to a reading call of a client brings: what the object was where the call ran, and the promise that was made there.
+use Rattle.afs_law.proofs.Housed.{server_at}
 use Rattle.afs_history.specs.declared.lines.Line.{Line}
 use Rattle.afs_history.specs.declared.scripts.Script.{Script}
 use Rattle.afs_ideal.specs.AccessLists.{acl_text}
@@ -36,7 +37,7 @@ use Rattle.afs_num.specs.declared.types.Fid.{Fid}
 use Rattle.afs_num.specs.declared.types.Node.{Node}
 use Rattle.afs_num.specs.declared.types.Node.TheVariants.{Client, Server}
 use Rattle.afs_records.specs.Durable.{Stored}
-use Rattle.afs_rows.specs.ClientRow.{body_told, server_at, status_told}
+use Rattle.afs_rows.specs.ClientRow.{body_told, status_told}
 use Rattle.afs_rows.specs.Runs.{Entry, locations}
 use Rattle.afs_rows.specs.ServerRow.{Reading, Sight, promise_until, promised_in, sight_status}
 use Rattle.afs_shape.specs.Rows.{no_callback}

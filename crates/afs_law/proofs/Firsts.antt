@@ -28,7 +28,7 @@ use Rattle.afs_law.proofs.Naming.{first_fine}
 -- ---- tables by ascending numbers
 
 -- a number below all others stands first
-set_first : {A : Type 0} (n m : ℕ) (x : A) (t : Table A) → n < m → AscendsFrom m t → set n x t ≡ (n, x) ∷ t
+pub set_first : {A : Type 0} (n m : ℕ) (x : A) (t : Table A) → n < m → AscendsFrom m t → set n x t ≡ (n, x) ∷ t
 set_first {A} n m x [] lt up = refl
 set_first {A} n m x (p ∷ ps) lt up =
     let le : m ≤ p.0 = up.0 in
@@ -37,11 +37,15 @@ set_first {A} n m x (p ∷ ps) lt up =
     rw (other, below) refl
 
 -- and one above all others last
-AllBelow : {A : Type 0} → ℕ → Table A → Type 0
+pub AllBelow : {A : Type 0} → ℕ → Table A → Type 0
 AllBelow {A} n [] = ⊤
 AllBelow {A} n (p ∷ ps) = (p.0 < n) × AllBelow n ps
 
-set_last : {A : Type 0} (n : ℕ) (x : A) (t : Table A) → AllBelow n t → set n x t ≡ t ++ (n, x) ∷ []
+pub below_nil : (A : Type 0) (n : ℕ) → AllBelow {A = A} n []
+unfolding AllBelow
+below_nil A n = tt
+
+pub set_last : {A : Type 0} (n : ℕ) (x : A) (t : Table A) → AllBelow n t → set n x t ≡ t ++ (n, x) ∷ []
 unfolding AllBelow
 set_last {A} n x [] b = refl
 set_last {A} n x (p ∷ ps) b =
@@ -50,21 +54,21 @@ set_last {A} n x (p ∷ ps) b =
     let above : nat_lt n p.0 ≡ false = grind (arith, nat_tests, lt) in
     rw (other, above) (ap (λ (t : Table A). p ∷ t) (set_last n x ps b.1))
 
-below_more : {A : Type 0} (n m : ℕ) (x : A) (t : Table A) → n < m → AllBelow n t → AllBelow m (t ++ (n, x) ∷ [])
+pub below_more : {A : Type 0} (n m : ℕ) (x : A) (t : Table A) → n < m → AllBelow n t → AllBelow m (t ++ (n, x) ∷ [])
 unfolding AllBelow
 below_more {A} n m x [] lt b = (lt, tt)
 below_more {A} n m x (p ∷ ps) lt b = (omega (arith, b.0, lt), below_more n m x ps lt b.1)
 
-below_up : {A : Type 0} (n m : ℕ) (t : Table A) → n ≤ m → AllBelow n t → AllBelow m t
+pub below_up : {A : Type 0} (n m : ℕ) (t : Table A) → n ≤ m → AllBelow n t → AllBelow m t
 unfolding AllBelow
 below_up {A} n m [] le b = tt
 below_up {A} n m (p ∷ ps) le b = (omega (arith, b.0, le), below_up n m ps le b.1)
 
-nil_behind : {A : Type 0} (t : List A) → t ++ [] ≡ t
+pub nil_behind : {A : Type 0} (t : List A) → t ++ [] ≡ t
 nil_behind {A} [] = refl
 nil_behind {A} (x ∷ xs) = ap (λ (ys : List A). x ∷ ys) (nil_behind xs)
 
-none_is : {A : Type 0} (x : A) → None ≡ Some x → ⊥
+pub none_is : {A : Type 0} (x : A) → None ≡ Some x → ⊥
 none_is {A} x e = cc
 
 -- ---- what lines lay
@@ -196,7 +200,7 @@ first_up : (n : ℕ) (vs : List VolumeLine) → AscendBy n vs → AscendsFrom n 
 first_up n [] up = tt
 first_up n (v ∷ vs) up = there_up (is_some (get v.id (first_volumes vs))) n v.id (first_volume v) (first_volumes vs) up.0 (first_up (v.id + 1) vs up.1)
 
-not_later : (v : VolumeLine) (vs : List VolumeLine) → AscendBy (v.id + 1) vs → counts_later v.id vs ≡ false
+pub not_later : (v : VolumeLine) (vs : List VolumeLine) → AscendBy (v.id + 1) vs → counts_later v.id vs ≡ false
 not_later v vs up = ap is_some (get_below (v.id + 1) v.id (first_volumes vs) (omega arith) (first_up (v.id + 1) vs up))
 
 placed_up : (t b : Bool) (n id : ℕ) (x : Volume) (vs : Table Volume) → n ≤ id → AscendsFrom (id + 1) vs → AscendsFrom n (placed_at t b id x vs)

@@ -1,12 +1,17 @@
 -- What follows a step of a client, however many servers its cell has: what it gives back then it dropped in the very act; and where its
 -- act asks further, its last call changed nothing.
+use Rattle.afs_law.specs.LocLaws.{IsToldIn}
 use Rattle.afs_history.specs.declared.acts.Act.{Act}
 use Rattle.afs_history.specs.declared.lines.Line.{Line}
 use Rattle.afs_history.specs.declared.lines.Line.TheVariants as lines
 use Rattle.afs_ideal.specs.Operations.{is_number, volume_changed}
 use Rattle.afs_law.proofs.Basics.{both, same_node-refl, same_node-true, some_of}
 use Rattle.afs_law.proofs.Words.{IsOpen, fids_of_gifts, is_passing}
+use Rattle.afs_history.specs.declared.acts.Operand.{Operand}
+use Rattle.afs_history.specs.declared.scripts.Script.{Script}
+use Rattle.afs_law.proofs.Acting.{IsPlaced, by_quiet, sought_quiet}
 use Rattle.afs_law.proofs.Firm.{IsFirm}
+use Rattle.afs_rows.specs.ClientRow.{asks_where, dead_code, is_gone_code, most_moved, seek_timeout_row, sought_by, sought_ends, timeout_line, volume_asked}
 use Rattle.afs_law.proofs.Giving.{ordered_dropped}
 use Rattle.afs_law.proofs.Passing.{all_dropped_onto, dropped_rest}
 use Rattle.afs_law.specs.Breaks.{HasTimeout, IsNamedIn}
@@ -40,8 +45,8 @@ use Rattle.afs_num.specs.declared.types.Head.{Head}
 use Rattle.afs_num.specs.declared.types.Node.{Node}
 use Rattle.afs_num.specs.declared.types.Node.TheVariants.{Client, Server}
 use Rattle.afs_rows.specs.ClientRow.{Walked, admits_call, awaits, batch, begin_row, begins_by, behind_batch, body_told, breaks, call_by, call_of, calls_again, client_row, counts, drop_line, dropped, entries_told, entry_told, find_cached, gift_of, gifts_to, given, gives_by, goes_by, hears, in_order, is_awaited, is_below, is_busy_code, is_named, is_older, is_reading, is_spent, is_spoiled_by_all, is_trusted, is_waiting, look_at, looked, most_busy, most_reads, names_act, names_call, put_entries, put_entry, read_lines, reborn, refuses, replies_step, runs_carried, status_look, status_told, takes, takes_bulk, takes_data, takes_entries, takes_entry, takes_given, takes_list, takes_set, takes_shown, takes_status, timeout_row, told_step, trusted_in, untrusted_in, walked, walks_on, whole, with_statuses}
-use Rattle.afs_rows.specs.Going.{ClientState, Going, Need, answers, began, gives_back, next, with_read}
-use Rattle.afs_rows.specs.States.{CacheEntry, Gift}
+use Rattle.afs_rows.specs.Going.{ClientState, Going, Need, Seek, locates, operand_in, answers, began, gives_back, next, with_read}
+use Rattle.afs_rows.specs.States.{CacheEntry, Gift, Location}
 use Rattle.afs_rows.specs.Steps.{Step}
 use Rattle.std.proofs.Common.{zero, suc, drop, flat_map, ◌++◌, ◌+◌, ◌≡◌, ℕ, ◌⊎◌, inl, inr, Bool, true, false, cond, List, [], ◌∷◌, map, length, Option, Some, None, refl, sym, subst, filter, not, ap, ◌∙◌, arith}
 use Rattle.std.specs.List.{list_any}
@@ -157,6 +162,7 @@ asks_open act need e h b r = subst IsOpen (sym e ∙ ap next (some_of act b r)) 
 
 goes_follows : (j : ℕ) (c y : ClientState) (front : List Line → List Line) (w : Walked) (need : Need) → next w.act ≡ need → IsReading c → y.gifts ≡ [] → y.last ≡ c.last → Follows j c (goes_by (Client j) y front w need)
 goes_follows j c y front w (answers n) is v e l = ends_follows j c (goes_by (Client j) y front w (answers n)) refl refl
+goes_follows j c y front w (locates o) is v e l = ends_follows j c (goes_by (Client j) y front w (locates o)) refl refl
 goes_follows j c y front w need is v e l = bare_follows j c (goes_by (Client j) y front w need) (λ o. asks_open w.act need is tt) v e (ap (λ (n : ℕ). n + 1) l) refl
 
 walks_follows : (j : ℕ) (c y : ClientState) (clock : ℕ) (front : List Line → List Line) (act : Going) (cache : List CacheEntry) → IsReading c → y.gifts ≡ [] → y.last ≡ c.last → Follows j c (walks_on (Client j) y clock front act cache)
@@ -253,8 +259,12 @@ busy_follows : (t u : Bool) (j : ℕ) (c : ClientState) (a b : Step ClientState)
 busy_follows true u j c a b e k = absurd cc
 busy_follows false u j c a b e k = k
 
+where_follows : (j : ℕ) (c : ClientState) (place : ℕ) (act : Going) (code : Code) (o : Option Operand) → Follows j c (asks_where (Client j) c place act code o)
+where_follows j c place act code None = ends_follows j c _ refl refl
+where_follows j c place act code (Some o) = ends_follows j c _ refl refl
+
 refuses_follows : (j : ℕ) (c : ClientState) (place : ℕ) (act : Going) (code : Code) → is_passing code.0 ≡ false → Follows j c (refuses (Client j) c place act code)
-refuses_follows j c place act code firm = busy_follows (is_busy_code code) (nat_lt c.busy most_busy) j c _ _ (firm_busy (is_number code.0 0) (is_busy_code code) firm) (ends_follows j c _ refl refl)
+refuses_follows j c place act code firm = busy_follows (is_busy_code code) (nat_lt c.busy most_busy) j c _ _ (firm_busy (is_number code.0 0) (is_busy_code code) firm) (either_follows (is_gone_code code && nat_lt c.moved most_moved) j c _ _ (where_follows j c place act code (operand_in act (volume_asked (call_of c act)))) (ends_follows j c _ refl refl))
 
 pub none_read : (o : Option ℕ) → is_reading o ≡ true → o ≡ None
 none_read None e = refl
@@ -445,13 +455,30 @@ first_follows j c y clock act going need sp idle l g by = walks_follows j c y cl
 
 pub begins_follow : (j : ℕ) (c : ClientState) (clock : ℕ) (act : Act) → IsSpared c → c.running ≡ None → Follows j c (begin_row (Client j) c clock act)
 unfolding begin_row
-begins_follow j c clock act sp idle = first_follows j c (record c { busy = 0 }) clock act (began c.table act) (next (began c.table act)) sp idle refl refl refl
+begins_follow j c clock act sp idle = first_follows j c (record c { busy = 0; moved = 0 }) clock act (began c.table act) (next (began c.table act)) sp idle refl refl refl
 
 pub waits_follow : (j : ℕ) (c : ClientState) (act : Going) → IsSpared c → Follows j c (timeout_row (Client j) c act)
 waits_follow j c act sp = either_follows (nat_lt c.tries 2) j c _ _ (rests_follows j c _ (record { running = refl; callee = refl; epoch = refl; last = refl; tries = inr (refl, λ o. inl (refl, (refl, (refl, (refl, refl))))); silent = refl; unspoiled = λ z. z; undropped = λ z act r f n o x. x }) (record { none = sp.none; some = sp.some }) refl (refl, λ f. refl)) (ends_follows j c _ refl refl)
 
-pub falls_follow : (j : ℕ) (c : ClientState) → Follows j c (record { state = reborn c; lines = lines.Crash (Client j) ∷ []; sent = [] })
-falls_follow j c = ends_follows j c _ refl refl
+pub falls_follow : (j : ℕ) (handed : List Location) (c : ClientState) → Follows j c (record { state = reborn handed c; lines = lines.Crash (Client j) ∷ []; sent = [] })
+falls_follow j handed c = ends_follows j c _ refl refl
 
 pub rises_follow : (j : ℕ) (c : ClientState) → IsSpared c → Follows j c (record { state = c; lines = lines.Restart (Client j) c.epoch ∷ []; sent = [] })
 rises_follow j c sp = rests_follows j c _ (on_same j c _ refl refl refl refl refl refl (λ z. z) (λ z act r f n o x. x)) sp refl (refl, λ f. refl)
+
+-- ---- an act that waits for the location database
+
+pub sought_ends_follow : (j : ℕ) (c : ClientState) (front : List Line → List Line) (code : Code) → c.running ≡ None → IsSpared c → Follows j c (sought_ends (Client j) c front code)
+sought_ends_follow j c front code none sp = ends_follows j c _ none (sp.none none)
+
+pub sought_follow : (S : Script) (j : ℕ) (c : ClientState) (clock place : ℕ) (k : Seek) (head : Head) (x : Carried) → IsPlaced S c k → IsToldIn S x → IsSpared c → Follows j c (sought_by (Client j) c clock place k head x)
+sought_follow S j c clock place k head x p w sp =
+    by_quiet (Follows j c) j c place k head x (sought_by (Client j) c clock place k head x) (sought_quiet S j c clock place k head x p w)
+    (λ code e h. sought_ends_follow j c (given place) code p.idle sp)
+    (told_follows j c place [] sp)
+    (rests_follows j c _ (on_same j c _ refl refl refl refl refl refl (λ z. z) (λ z act r f n o x. x)) (record { none = sp.none; some = sp.some }) refl (refl, λ f. refl))
+
+pub missed_follow : (j : ℕ) (c : ClientState) (k : Seek) → c.running ≡ None → IsSpared c → Follows j c (seek_timeout_row (Client j) c k)
+missed_follow j c k none sp = either_follows (nat_lt c.tries 2) j c _ _
+    (rests_follows j c _ (record { running = refl; callee = refl; epoch = refl; last = refl; tries = inr (refl, λ o. inl (refl, (refl, (refl, (refl, refl))))); silent = refl; unspoiled = λ z. z; undropped = λ z act r f n o x. x }) (record { none = sp.none; some = sp.some }) refl (refl, λ f. refl))
+    (sought_ends_follow j c (λ ls. timeout_line (Client j) c 3 ∷ ls) dead_code none sp)

@@ -1,19 +1,21 @@
 -- What clients give back they dropped in the very act, and a call is one by its header, however many servers a cell has.
+use Rattle.afs_law.proofs.Listing.{loc_own}
 use Rattle.afs_history.specs.declared.lines.Line.TheVariants as lines
 use Rattle.afs_history.specs.declared.scripts.Script.{Script}
-use Rattle.afs_law.proofs.Acting.{Acts, IsTheCall, begins_acts, falls_acts, given_acts, rises_acts, waits_acts, who_at}
+use Rattle.afs_law.proofs.Acting.{Acts, IsTheCall, begins_acts, falls_acts, given_acts, rises_acts, waits_acts, who_at, missed_acts}
 use Rattle.afs_law.proofs.Backing.{all_lines}
 use Rattle.afs_law.proofs.Basics.{ByClient, Each, IfCall, OfCall, at_put, by_client, each_at, each_map, each_more}
 use Rattle.afs_law.proofs.Changing.{run_each}
 use Rattle.afs_law.proofs.Choosing.{disk_works, one_from, risen_from, risen_lines, serves_works, starts_works, times_works, wakes_works}
 use Rattle.afs_law.proofs.Words.{fids_of_gifts}
 use Rattle.afs_law.proofs.Firm.{IsFirm, IsSentBy}
-use Rattle.afs_law.proofs.Following.{Follows, IsSpared, begins_follow, falls_follow, given_follow, rises_follow, waits_follow}
+use Rattle.afs_law.proofs.Following.{Follows, IsSpared, begins_follow, falls_follow, given_follow, rises_follow, waits_follow, sought_follow, missed_follow}
 use Rattle.afs_law.proofs.KeysOnce.{IsKnown, any_told, by_key}
 use Rattle.afs_law.proofs.Moving.{Behind, EachMove, IsKept, each_moved}
-use Rattle.afs_law.proofs.Origins.{Leaves, any_cut, any_message, blow_idle, idle_leaves, idle_works, is_idle, of_client, other_leaves, the_calls, loc_idle}
+use Rattle.afs_law.proofs.Origins.{Leaves, any_cut, any_message, blow_idle, idle_leaves, idle_works, is_idle, of_client, other_leaves, the_calls, loc_idle, sought_acts_in, placed_in, told_in, handed_same}
 use Rattle.afs_law.proofs.Passing.{all_dropped_onto, own_gift}
-use Rattle.afs_law.proofs.Sending.{Posted, posted_first, posted_kept, rises_posts, served_posts, times_posts, wakes_posts}
+use Rattle.afs_law.proofs.Posting.{rises_posts, served_posts, times_posts, wakes_posts}
+use Rattle.afs_law.proofs.Sending.{Posted, posted_first, posted_kept}
 use Rattle.afs_law.specs.ClientParts.{GiftsAreDropped, IsFair}
 use Rattle.afs_law.specs.Ideal.{set_up}
 use Rattle.afs_law.specs.Legal.{AreDropped, GoodGift}
@@ -28,11 +30,12 @@ use Rattle.afs_num.specs.declared.messages.Message.{Message}
 use Rattle.afs_num.specs.declared.messages.Received.TheVariants.{Whole}
 use Rattle.afs_num.specs.declared.types.Head.{Head}
 use Rattle.afs_num.specs.declared.types.Node.{Node}
-use Rattle.afs_num.specs.declared.types.Node.TheVariants.{Client, Server}
+use Rattle.afs_num.specs.declared.types.Node.TheVariants.{Client, Server, Loc}
 use Rattle.afs_rows.specs.Callbacks.{put}
 use Rattle.afs_rows.specs.Going.{ClientState}
 use Rattle.afs_law.proofs.Steps.{blow_line, server_falls, server_moves, server_rises, server_set, server_stays, loc_becomes}
 use Rattle.afs_rows.specs.Runs.{Cell, Entry, Moved, at_rest, begun_by_disk, in_boot, in_step, start, ticked, voided}
+use Rattle.afs_law.proofs.Steps.{loc_becomes}
 use Rattle.afs_rows.specs.ServerSteps.{back_timeout_row, server_row, wake_row}
 use Rattle.afs_rows.specs.Steps.{Step}
 use Rattle.std.proofs.Common.{suc, ◌≡◌, ℕ, true, List, [], ◌∷◌, ◌++◌, refl, sym, subst}
@@ -52,12 +55,14 @@ firm_moves : (s : Script) → EachMove (PostedFirm s) (Behind FirmIn)
 firm_moves s = record {
   void = λ c past h. h.1;
   ticked = λ c past n h. h.1;
-  begun = λ c past n act h r. firm_more (Client n) c.sent _ h.1 (begins_acts n (c.clients n) c.clock act r).from;
+  begun = λ c past n act h r z. firm_more (Client n) c.sent _ h.1 (begins_acts n (c.clients n) c.clock act r z).from;
   told = λ c past n place m h at to. firm_more (Client n) c.sent _ h.1 (given_acts (by_key (IsKnown h.0.0.0.keys.callees c.clients)) any_told n (c.clients n) c.clock place m (h.0.0.0.keys.replies n) (h.0.0.1.seats n)).from;
+  sought = λ c past n place m k h at to z e. firm_more (Client n) c.sent _ h.1 (sought_acts_in s c past n place m k h.0.0.1 at z e).from;
+  missed = λ c past n k h r z. firm_more (Client n) c.sent _ h.1 (missed_acts n (c.clients n) k r z).from;
   waited = λ c past n act h r. firm_more (Client n) c.sent _ h.1 (waits_acts n (c.clients n) act r).from;
   fallen = λ c past n h. firm_more (Client n) c.sent [] h.1 tt;
   risen = λ c past n h. firm_more (Client n) c.sent [] h.1 tt;
-  loc = λ c past l ls h st. h.1;
+  loc = λ c past l ls ms h st. firm_more Loc c.sent _ h.1 (loc_own c l ls ms st);
   served = λ c past i place m armed h up at to. firm_more (Server i) c.sent _ h.1 (served_posts (Server i) (c.hosts i).state c.clock place m (h.0.1.0 i).seats (h.0.1.1 i)).0;
   cut = λ c past i place m t h up at to. h.1;
   stopped = λ c past i h up. h.1;
@@ -97,12 +102,14 @@ gift_moves : (s : Script) → EachMove (Given s) (Behind GiftsIn)
 gift_moves s = record {
   void = λ c past h. idle_gifts s c.clients past (voided c).entry h.1 refl;
   ticked = λ c past n h. idle_gifts s c.clients past (ticked c (suc n)).entry h.1 refl;
-  begun = λ c past n act h r. client_gifts s c past n _ h.1 (begins_acts n (c.clients n) c.clock act r) (begins_follow n (c.clients n) c.clock act (h.1 n).0 r);
+  begun = λ c past n act h r z. client_gifts s c past n _ h.1 (begins_acts n (c.clients n) c.clock act r z) (begins_follow n (c.clients n) c.clock act (h.1 n).0 r);
   told = λ c past n place m h at to. client_gifts s c past n _ h.1 (given_acts (by_key (IsKnown h.0.0.0.0.keys.callees c.clients)) any_told n (c.clients n) c.clock place m (h.0.0.0.0.keys.replies n) (h.0.0.0.1.seats n)) (given_follow n (c.clients n) c.clock place m (h.1 n).0 (each_at (λ m. IsFirm m.head m.carried) c.sent place m at h.0.1));
+  sought = λ c past n place m k h at to z e. client_gifts s c past n _ h.1 (sought_acts_in s c past n place m k h.0.0.0.1 at z e) (sought_follow s n (c.clients n) c.clock place k m.head m.carried (placed_in s c past n k h.0.0.0.1 z) (told_in s c past n place m k h.0.0.0.1 at e) (h.1 n).0);
+  missed = λ c past n k h r z. client_gifts s c past n _ h.1 (missed_acts n (c.clients n) k r z) (missed_follow n (c.clients n) k r (h.1 n).0);
   waited = λ c past n act h r. client_gifts s c past n _ h.1 (waits_acts n (c.clients n) act r) (waits_follow n (c.clients n) act (h.1 n).0);
-  fallen = λ c past n h. client_gifts s c past n _ h.1 (falls_acts n (c.clients n)) (falls_follow n (c.clients n));
+  fallen = λ c past n h. client_gifts s c past n _ h.1 (falls_acts n c.handed (c.clients n) (handed_same s c past (h.0.0.0.1) n)) (falls_follow n c.handed (c.clients n));
   risen = λ c past n h. client_gifts s c past n _ h.1 (rises_acts n (c.clients n)) (rises_follow n (c.clients n) (h.1 n).0);
-  loc = λ c past l ls h st. idle_gifts s c.clients past (loc_becomes c l ls).entry h.1 (loc_idle ls st.lines);
+  loc = λ c past l ls ms h st. idle_gifts s c.clients past (loc_becomes c l ls ms).entry h.1 (loc_idle ls st.lines);
   served = λ c past i place m armed h up at to. idle_gifts s c.clients past (server_moves c i armed (server_row (Server i) (c.hosts i).state c.clock place (Whole m))).entry h.1 (idle_works any_message i (c.hosts i).state _ _ (serves_works any_message (Server i) (c.hosts i).state c.clock place m (λ rest. tt)));
   cut = λ c past i place m t h up at to. idle_gifts s c.clients past (server_falls c i (lines.Given place ∷ blow_line i t.stops ∷ []) (in_step m c.clock t)).entry h.1 (blow_idle i t.stops);
   stopped = λ c past i h up. idle_gifts s c.clients past (server_falls c i (lines.Crash (Server i) ∷ []) at_rest).entry h.1 refl;
@@ -118,7 +125,7 @@ gift_moves s = record {
 }
 
 pub given_kept : (s : Script) → IsKept (Given s)
-given_kept s c past x h = ((posted_kept s c past x h.0.0, each_moved (PostedFirm s) (Behind FirmIn) (firm_moves s) c past x h.0), each_moved (Given s) (Behind GiftsIn) (gift_moves s) c past x h)
+given_kept s c past x so h = ((posted_kept s c past x so h.0.0, each_moved (PostedFirm s) (Behind FirmIn) (firm_moves s) c past x so h.0), each_moved (Given s) (Behind GiftsIn) (gift_moves s) c past x so h)
 
 pub given_first : (s : Script) → Given s (start s) (set_up s ∷ [])
 given_first s = ((posted_first s, tt), λ j. (record { none = λ r. refl; some = λ a r k. refl }, tt))
@@ -133,7 +140,7 @@ client_gift n y head (carried.Call user (ask.File call)) ls from d w =
     let c : IsTheCall n y head user call = by_client n head.from (IsTheCall n y head user call) from w in
     subst (λ (f : FsCall). GoodGift head (carried.Call user (ask.File f)) ls) (sym c.asks) (own_gift c.act y.gifts head user ls (subst (λ (q : Node). AreDropped q (fids_of_gifts y.gifts) ls) (sym from) d))
 client_gift n y head (carried.Call user (ask.Volume call)) ls from d w = absurd w
-client_gift n y head (carried.Call user (ask.Location call)) ls from d w = absurd w
+client_gift n y head (carried.Call user (ask.Location call)) ls from d w = tt
 client_gift n y head (carried.Refusal code) ls from d w = tt
 client_gift n y head (carried.Reply reply) ls from d w = tt
 client_gift n y head carried.Notice ls from d w = tt
@@ -145,6 +152,10 @@ client_fair n y past (m ∷ ms) d by calls = ((by.0.half, client_gift n y m.head
 acts_fair : (s : Script) (c : Cell) (past : List Entry) (n : ℕ) (st : Step ClientState) → Given s c past → Acts n (who_at (c.clients n)) (c.clients n).gifts st → Follows n (c.clients n) st → EachSent IsFair (of_client n st ∷ past) st.sent
 acts_fair s c past n st h a f = client_fair n st.state (of_client n st ∷ past) st.sent (f.dropped (lines_of past) (h.1 n).1) a.from (the_calls n (c.clients n) st a.goes)
 
+loc_fair : (past : List Entry) (ms : List Message) → Each (IsSentBy Loc) ms → EachSent IsFair past ms
+loc_fair past [] by = tt
+loc_fair past (m ∷ ms) by = ((by.0.half, by.0.gift refl (lines_of past)), loc_fair past ms by.1)
+
 server_fair : (i : ℕ) (past : List Entry) (ms : List Message) → Each (IsSentBy (Server i)) ms → EachSent IsFair past ms
 server_fair i past [] by = tt
 server_fair i past (m ∷ ms) by = ((by.0.half, by.0.gift refl (lines_of past)), server_fair i past ms by.1)
@@ -153,12 +164,14 @@ fair_moves : (s : Script) → EachMove (Given s) (FairStep s)
 fair_moves s = record {
   void = λ c past h. tt;
   ticked = λ c past n h. tt;
-  begun = λ c past n act h r. acts_fair s c past n _ h (begins_acts n (c.clients n) c.clock act r) (begins_follow n (c.clients n) c.clock act (h.1 n).0 r);
+  begun = λ c past n act h r z. acts_fair s c past n _ h (begins_acts n (c.clients n) c.clock act r z) (begins_follow n (c.clients n) c.clock act (h.1 n).0 r);
   told = λ c past n place m h at to. acts_fair s c past n _ h (given_acts (by_key (IsKnown h.0.0.0.0.keys.callees c.clients)) any_told n (c.clients n) c.clock place m (h.0.0.0.0.keys.replies n) (h.0.0.0.1.seats n)) (given_follow n (c.clients n) c.clock place m (h.1 n).0 (each_at (λ m. IsFirm m.head m.carried) c.sent place m at h.0.1));
+  sought = λ c past n place m k h at to z e. acts_fair s c past n _ h (sought_acts_in s c past n place m k h.0.0.0.1 at z e) (sought_follow s n (c.clients n) c.clock place k m.head m.carried (placed_in s c past n k h.0.0.0.1 z) (told_in s c past n place m k h.0.0.0.1 at e) (h.1 n).0);
+  missed = λ c past n k h r z. acts_fair s c past n _ h (missed_acts n (c.clients n) k r z) (missed_follow n (c.clients n) k r (h.1 n).0);
   waited = λ c past n act h r. acts_fair s c past n _ h (waits_acts n (c.clients n) act r) (waits_follow n (c.clients n) act (h.1 n).0);
   fallen = λ c past n h. tt;
   risen = λ c past n h. tt;
-  loc = λ c past l ls h st. tt;
+  loc = λ c past l ls ms h st. loc_fair ((loc_becomes c l ls ms).entry ∷ past) ms (loc_own c l ls ms st);
   served = λ c past i place m armed h up at to. server_fair i ((server_moves c i armed (server_row (Server i) (c.hosts i).state c.clock place (Whole m))).entry ∷ past) _ (served_posts (Server i) (c.hosts i).state c.clock place m (h.0.0.1.0 i).seats (h.0.0.1.1 i)).0;
   cut = λ c past i place m t h up at to. tt;
   stopped = λ c past i h up. tt;
@@ -173,4 +186,4 @@ fair_moves s = record {
 }
 
 pub run_gifts : GiftsAreDropped
-run_gifts s h end r = run_each (Given s) (λ past e. EachSent IsFair (e ∷ past) e.sent) (given_kept s) (λ c past x k. each_moved (Given s) (FairStep s) (fair_moves s) c past x k) r.inputs (start s) (set_up s ∷ []) h end (given_first s) r.leads
+run_gifts s h end r = run_each (Given s) (λ past e. EachSent IsFair (e ∷ past) e.sent) (given_kept s) (λ c past x so k. each_moved (Given s) (FairStep s) (fair_moves s) c past x so k) r.inputs s (set_up s ∷ []) h end (given_first s) r.leads

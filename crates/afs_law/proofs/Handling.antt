@@ -1,15 +1,17 @@
 -- A client of a run that runs a call which breaks promises drops in that step what these are on, however many servers a cell has.
+use Rattle.afs_history.specs.declared.acts.Operand.{Operand}
+use Rattle.afs_law.proofs.Origins.{sought_answer, AskedIn, sought_acts_in, quietly}
 use Rattle.afs_history.specs.declared.acts.Act.{Act}
 use Rattle.afs_history.specs.declared.lines.Line.{Line}
 use Rattle.afs_history.specs.declared.lines.Line.TheVariants as lines
 use Rattle.afs_history.specs.declared.scripts.Script.{Script}
-use Rattle.afs_law.proofs.Acting.{Acts, begins_acts, given_acts, waits_acts, who_at}
+use Rattle.afs_law.proofs.Acting.{Acts, begins_acts, given_acts, waits_acts, who_at, missed_acts}
 use Rattle.afs_law.proofs.Basics.{UpTo, at_put, at_seat, below-false, below-true, same_node-refl, same_node-true, some_of}
 use Rattle.afs_law.proofs.Changing.{run_each}
-use Rattle.afs_law.proofs.Delivered.{begun_ungiven, waited_ungiven}
+use Rattle.afs_law.proofs.Delivered.{begun_ungiven, waited_ungiven, sought_given, missed_ungiven}
 use Rattle.afs_law.proofs.Hearing.{client_given}
 use Rattle.afs_law.proofs.KeysOnce.{IsKnown, any_told, by_key}
-use Rattle.afs_law.proofs.Lives.{Alive, begun_alive, client_apart, not_node, same_epoch, told_alive, waited_alive}
+use Rattle.afs_law.proofs.Lives.{Alive, begun_alive, client_apart, not_node, same_epoch, told_alive, waited_alive, missed_alive}
 use Rattle.afs_law.proofs.Moving.{EachMove, IsKept, each_moved}
 use Rattle.afs_law.proofs.Placing.{Placed, PlacedStep, placed_first, placed_kept, placed_moves}
 use Rattle.afs_law.proofs.SettingUp.{AreVersions, all_versions}
@@ -47,8 +49,8 @@ use Rattle.afs_num.specs.declared.types.Node.TheVariants.{Admin, Client, Loc, Se
 use Rattle.afs_rows.specs.Callbacks.{put}
 use Rattle.afs_num.specs.declared.histories.ReadBody.TheVariants as seen
 use Rattle.afs_num.specs.declared.histories.ReadSource.TheVariants.{Fetched}
-use Rattle.afs_rows.specs.ClientRow.{dropped, given, is_older, status_told, look_at, looked, put_entries, put_entry, read_lines, status_look, with_statuses, Walked, admits_call, awaits, begin_row, begins_by, behind_batch, breaks, call_of, calls_again, client_row, counts, done, drop_line, gift_of, gives_by, gives_up, goes_by, hears, ignores, in_order, is_awaited, is_below, is_busy_code, is_spent, is_trusted, most_busy, most_reads, refused_with, refuses, runs_carried, takes, takes_bulk, takes_bytes, takes_data, takes_entries, takes_entry, takes_given, takes_list, takes_plain, takes_rights, takes_set, takes_shown, takes_status, takes_stored, timeout_row, tries_again, trusted_in, untrusted_in, walked, walks_on, whole, entry_told, entries_told, body_told, find_cached, reborn}
-use Rattle.afs_rows.specs.Going.{ClientState, Going, Need, answers, began, gives_back, next, with_read}
+use Rattle.afs_rows.specs.ClientRow.{dropped, given, is_older, status_told, look_at, looked, put_entries, put_entry, read_lines, status_look, with_statuses, Walked, admits_call, awaits, begin_row, begins_by, behind_batch, breaks, call_of, calls_again, client_row, counts, done, drop_line, gift_of, gives_by, gives_up, goes_by, hears, ignores, in_order, is_awaited, is_below, is_busy_code, is_spent, is_trusted, most_busy, most_reads, refused_with, refuses, runs_carried, takes, takes_bulk, takes_bytes, takes_data, takes_entries, takes_entry, takes_given, takes_list, takes_plain, takes_rights, takes_set, takes_shown, takes_status, takes_stored, timeout_row, tries_again, trusted_in, untrusted_in, walked, walks_on, whole, entry_told, entries_told, body_told, find_cached, reborn, sought_by, is_answer, seek_timeout_row, sought_ends, is_sought, seeks_on, dead_code, timeout_line, is_gone_code, asks_where, volume_asked, most_moved}
+use Rattle.afs_rows.specs.Going.{ClientState, Going, Need, answers, began, gives_back, next, with_read, Seek, operand_in}
 use Rattle.afs_law.proofs.Steps.{blow_line, server_falls, server_moves, server_rises, server_set, server_stays, loc_becomes}
 use Rattle.afs_rows.specs.Runs.{Armed, Cell, Entry, Fall, Moved, RunsTo, at_rest, begun_by_disk, client_falls, client_moves, client_rises, in_boot, in_step, message_at, start, ticked, voided}
 use Rattle.afs_rows.specs.ServerRow.{not_served, replied, seat_for}
@@ -129,8 +131,12 @@ takes_seats me c clock place act call (replies.StoreStatus status sync) = set_se
 takes_seats me c clock place act call replies.GiveUpCallBacks = given_seats me c place act call
 takes_seats me c clock place act call reply = refl
 
+where_seats : (me : Node) (c : ClientState) (place : ℕ) (act : Going) (code : Code) (o : Option Operand) → (asks_where me c place act code o).state.seats ≡ c.seats
+where_seats me c place act code None = refl
+where_seats me c place act code (Some o) = refl
+
 refuses_seats : (me : Node) (c : ClientState) (place : ℕ) (act : Going) (code : Code) → (refuses me c place act code).state.seats ≡ c.seats
-refuses_seats me c place act code = either_seats (is_busy_code code && nat_lt c.busy most_busy) _ _ c.seats refl refl
+refuses_seats me c place act code = either_seats (is_busy_code code && nat_lt c.busy most_busy) _ _ c.seats refl (either_seats (is_gone_code code && nat_lt c.moved most_moved) _ _ c.seats (where_seats me c place act code (operand_in act (volume_asked (call_of c act)))) refl)
 
 counts_seats : (me : Node) (c : ClientState) (clock place : ℕ) (act : Going) (head : Head) (x : Carried) → (counts me c clock place act head x).state.seats ≡ c.seats
 counts_seats me c clock place act head (carried.Call user call) = refl
@@ -187,7 +193,7 @@ first_seats me c clock front act need = walks_seats me c clock front act c.cache
 
 begun_seats : (me : Node) (c : ClientState) (clock : ℕ) (act : Act) → (begin_row me c clock act).state.seats ≡ c.seats
 unfolding begin_row
-begun_seats me c clock act = first_seats me (record c { busy = 0 }) clock (λ ls. lines.Begin me act ∷ ls) (began c.table act) (next (began c.table act))
+begun_seats me c clock act = first_seats me (record c { busy = 0; moved = 0 }) clock (λ ls. lines.Begin me act ∷ ls) (began c.table act) (next (began c.table act))
 
 waited_seats : (me : Node) (c : ClientState) (act : Going) → (timeout_row me c act).state.seats ≡ c.seats
 waited_seats me c act = either_seats (nat_lt c.tries 2) (tries_again me c act) (gives_up me c (call_of c act)) c.seats refl refl
@@ -409,10 +415,36 @@ told_handles s c past n place m h at to =
       });
     }
 
+-- the database's answer is no call
+no_call : (me : Node) (head : Head) (x : Carried) (ls : List Line) → is_answer x ≡ true → DropsBroken me head x ls
+no_call me head (carried.Call user call) ls h = absurd cc
+no_call me head (carried.Refusal code) ls h = tt
+no_call me head (carried.Reply reply) ls h = tt
+no_call me head carried.Notice ls h = tt
+
+sought_handles : (s : Script) (c : Cell) (past : List Entry) (n place : ℕ) (m : Message) (k : Seek) → Served s c past → message_at c.sent place ≡ Some m → m.head.to ≡ Client n → (c.clients n).seeking ≡ Some k → is_sought (Client n) (c.clients n) k m.head m.carried ≡ true → Handles c past (client_moves c n (sought_by (Client n) (c.clients n) c.clock place k m.head m.carried))
+sought_handles s c past n place m k h at to z e =
+    let x : ClientState = c.clients n in
+    let st : Step ClientState = sought_by (Client n) x c.clock place k m.head m.carried in
+    let A : AskedIn s c past = h.0.0.1 in
+    let p : EachLine (IsInPlace s) (actors.Node (Client n)) past [] st.lines = (placed_moves s).sought c past n place m k h.0 at to z e in
+    let alive : Alive st.lines = quietly s c past n place m k (λ y. Alive y.lines) A at z e (λ code. refl) refl refl in
+    let same : st.state.epoch ≡ x.epoch = same_epoch n x st (sought_acts_in s c past n place m k A at z e) alive in
+    record {
+      good = λ l r. subst (λ (o : Option Message). DropsGiven (Client n) o st.lines) (sym (sought_given c past n place m k h.0.0.0 at)) (no_call (Client n) m.head m.carried st.lines (sought_answer (Client n) x k m e));
+      serving = own_serving s c past n st.state st.lines st.sent h p (record {
+        boots = up_boots s past n x st (h.1 n).boots p alive same;
+        seats = same_seats n x st.state (record { actor = actors.Node (Client n); lines = st.lines; sent = st.sent; volumes = [] }) past (h.1 n).seats same (quietly s c past n place m k (λ y. y.state.seats ≡ x.seats) A at z e (λ code. refl) refl refl);
+      });
+    }
+
+missed_seats : (me : Node) (c : ClientState) (k : Seek) → (seek_timeout_row me c k).state.seats ≡ c.seats
+missed_seats me c k = either_seats (nat_lt c.tries 2) (seeks_on me c k) (sought_ends me c (λ ls. timeout_line me c 3 ∷ ls) dead_code) c.seats refl refl
+
 falls_handles : (s : Script) (c : Cell) (past : List Entry) (n : ℕ) → Served s c past → Handles c past (client_falls c n)
 falls_handles s c past n h = record {
   good = λ k r. tt;
-  serving = own_serving s c past n (reborn (c.clients n)) (lines.Crash (Client n) ∷ []) [] h ((placed_moves s).fallen c past n h.0) (record {
+  serving = own_serving s c past n (reborn c.handed (c.clients n)) (lines.Crash (Client n) ∷ []) [] h ((placed_moves s).fallen c past n h.0) (record {
     boots = λ b is. (let none : None ≡ Some b = ap (λ (t : Bool). cond t None (server_boot (Client n) (lines_of past))) (sym (same_node-refl (Client n))) ∙ is in absurd cc);
     seats = λ q seat at t. absurd cc;
   });
@@ -435,14 +467,17 @@ handled_moves : (s : Script) → EachMove (Served s) Handles
 handled_moves s = (let q : EachMove (Placed s) (PlacedStep s) = placed_moves s in record {
   void = λ c past h. besides_handles s c past (voided c) h (q.void c past h.0) (λ j e. absurd cc) refl;
   ticked = λ c past n h. besides_handles s c past (ticked c (suc n)) h (q.ticked c past n h.0) (λ j e. absurd cc) refl;
-  begun = λ c past n act h r. quiet_handles s c past n (begin_row (Client n) (c.clients n) c.clock act) h (q.begun c past n act h.0 r) (begun_alive (Client n) (c.clients n) c.clock act) (begins_acts n (c.clients n) c.clock act r) (begun_seats (Client n) (c.clients n) c.clock act)
+  begun = λ c past n act h r z0. quiet_handles s c past n (begin_row (Client n) (c.clients n) c.clock act) h (q.begun c past n act h.0 r z0) (begun_alive (Client n) (c.clients n) c.clock act) (begins_acts n (c.clients n) c.clock act r z0) (begun_seats (Client n) (c.clients n) c.clock act)
       (none_given (begin_row (Client n) (c.clients n) c.clock act).lines (sent_of past) (begun_ungiven (Client n) (c.clients n) c.clock act));
   told = λ c past n place m h at to. told_handles s c past n place m h at to;
+  sought = λ c past n place m k h at to z e. sought_handles s c past n place m k h at to z e;
+  missed = λ c past n k h r z. quiet_handles s c past n (seek_timeout_row (Client n) (c.clients n) k) h (q.missed c past n k h.0 r z) (missed_alive (Client n) (c.clients n) k) (missed_acts n (c.clients n) k r z) (missed_seats (Client n) (c.clients n) k)
+      (none_given (seek_timeout_row (Client n) (c.clients n) k).lines (sent_of past) (missed_ungiven (Client n) (c.clients n) k));
+  loc = λ c past l ls ms h st. besides_handles s c past (loc_becomes c l ls ms) h (q.loc c past l ls ms h.0 st) (λ j e. absurd cc) refl;
   waited = λ c past n act h r. quiet_handles s c past n (timeout_row (Client n) (c.clients n) act) h (q.waited c past n act h.0 r) (waited_alive (Client n) (c.clients n) act) (waits_acts n (c.clients n) act r) (waited_seats (Client n) (c.clients n) act)
       (none_given (timeout_row (Client n) (c.clients n) act).lines (sent_of past) (waited_ungiven (Client n) (c.clients n) act));
   fallen = λ c past n h. falls_handles s c past n h;
   risen = λ c past n h. rises_handles s c past n h;
-  loc = λ c past l ls h st. besides_handles s c past (loc_becomes c l ls) h (q.loc c past l ls h.0 st) (λ j e. absurd cc) refl;
   served = λ c past i place m armed h up at to. besides_handles s c past (server_moves c i armed (server_row (Server i) (c.hosts i).state c.clock place (Whole m))) h (q.served c past i place m armed h.0 up at to) (λ j e. absurd cc) refl;
   cut = λ c past i place m t h up at to. besides_handles s c past (server_falls c i (lines.Given place ∷ blow_line i t.stops ∷ []) (in_step m c.clock t)) h (q.cut c past i place m t h.0 up at to) (λ j e. absurd cc) refl;
   stopped = λ c past i h up. besides_handles s c past (server_falls c i (lines.Crash (Server i) ∷ []) at_rest) h (q.stopped c past i h.0 up) (λ j e. absurd cc) refl;
@@ -457,7 +492,7 @@ handled_moves s = (let q : EachMove (Placed s) (PlacedStep s) = placed_moves s i
 })
 
 served_kept : (s : Script) → IsKept (Served s)
-served_kept s c past x h = (placed_kept s c past x h.0, (each_moved (Served s) Handles (handled_moves s) c past x h).serving)
+served_kept s c past x so h = (placed_kept s c past x so h.0, (each_moved (Served s) Handles (handled_moves s) c past x so h).serving)
 
 -- the set-up tells versions alone
 first_boot : (j : ℕ) (ls o : List Line) → AreVersions ls → server_boot (Client j) (onto o ls) ≡ server_boot (Client j) o
@@ -476,4 +511,4 @@ served_first s = (
 
 pub run_handled : (s : Script) (h : List Entry) (end : Cell) → RunsTo h s end → EachEntry (λ past e. HandlesBreaks e.actor past e.lines) (set_up s ∷ []) h
 run_handled s h end r =
-    run_each (Served s) (λ past e. HandlesBreaks e.actor past e.lines) (served_kept s) (λ c past x k. (each_moved (Served s) Handles (handled_moves s) c past x k).good) r.inputs (start s) (set_up s ∷ []) h end (served_first s) r.leads
+    run_each (Served s) (λ past e. HandlesBreaks e.actor past e.lines) (served_kept s) (λ c past x so k. (each_moved (Served s) Handles (handled_moves s) c past x so k).good) r.inputs s (set_up s ∷ []) h end (served_first s) r.leads

@@ -1,7 +1,9 @@
 -- A reply that carries the boot in which its server is, is to no call above its caller's seat there, be the server up or down, however many
 -- servers a cell has.
+use Rattle.afs_law.proofs.Origins.{sought_acts_in}
+use Rattle.afs_law.proofs.Listing.{loc_own, no_server_loc}
 use Rattle.afs_history.specs.declared.scripts.Script.{Script}
-use Rattle.afs_law.proofs.Acting.{begins_acts, given_acts, waits_acts}
+use Rattle.afs_law.proofs.Acting.{begins_acts, given_acts, waits_acts, missed_acts}
 use Rattle.afs_law.proofs.Basics.{Above, Each, IfReply, OfClient, OfReply, above_up, at_put, at_seat, below_up_to, each_map, each_more}
 use Rattle.afs_law.proofs.Firm.{IsSentBy}
 use Rattle.afs_law.proofs.Gifts.{Given, given_first, given_kept}
@@ -11,7 +13,7 @@ use Rattle.afs_law.proofs.KeysOnce.{IsKnown, any_told, by_key}
 use Rattle.afs_law.proofs.Knowing.{cut_due}
 use Rattle.afs_law.proofs.Moving.{EachMove, IsKept, each_moved}
 use Rattle.afs_law.proofs.Rising.{ran_boot}
-use Rattle.afs_law.proofs.Sending.{rises_posts, served_posts, times_posts, wakes_posts}
+use Rattle.afs_law.proofs.Posting.{rises_posts, served_posts, times_posts, wakes_posts}
 use Rattle.afs_law.proofs.Words.{MayRun}
 use Rattle.afs_law.specs.Ideal.{set_up}
 use Rattle.afs_law.specs.Past.{IsCallUnder, IsUnheard, Ran, answered_key, given_message, sent_of}
@@ -26,6 +28,7 @@ use Rattle.afs_num.specs.declared.types.Node.{Node}
 use Rattle.afs_num.specs.declared.types.Node.TheVariants.{Admin, Client, Loc, Server}
 use Rattle.afs_law.proofs.Steps.{server_falls, server_moves, server_set, server_stays, loc_becomes}
 use Rattle.afs_rows.specs.Runs.{Blow, Armed, Cell, Entry, Fall, Moved, at_rest, begun_by_disk, client_moves, in_boot, in_step, moved, start, ticked, unarmed, voided, ServerHost}
+use Rattle.afs_law.proofs.Steps.{loc_becomes}
 use Rattle.afs_rows.specs.Callbacks.{put}
 use Rattle.afs_history.specs.declared.lines.Line.{Line}
 use Rattle.afs_rows.specs.Going.{ClientState}
@@ -214,12 +217,14 @@ heard_moves : (s : Script) → EachMove (GivenHeard s) (Then s)
 heard_moves s = record {
   void = λ c past h. still_heard s c (voided c).cell past (voided c).entry [] h refl (none_sent c) tt;
   ticked = λ c past n h. still_heard s c (ticked c (suc n)).cell past (ticked c (suc n)).entry [] h refl (none_sent c) tt;
-  begun = λ c past n act h r. client_heard s c past n _ h (begins_acts n (c.clients n) c.clock act r).from;
+  begun = λ c past n act h r z. client_heard s c past n _ h (begins_acts n (c.clients n) c.clock act r z).from;
   told = λ c past n place m h at to. client_heard s c past n _ h (given_acts (by_key (IsKnown h.0.0.0.0.0.keys.callees c.clients)) any_told n (c.clients n) c.clock place m (h.0.0.0.0.0.keys.replies n) (h.0.0.0.0.1.seats n)).from;
+  sought = λ c past n place m k h at to z e. client_heard s c past n _ h (sought_acts_in s c past n place m k h.0.0.0.0.1 at z e).from;
+  missed = λ c past n k h r z. client_heard s c past n _ h (missed_acts n (c.clients n) k r z).from;
   waited = λ c past n act h r. client_heard s c past n _ h (waits_acts n (c.clients n) act r).from;
   fallen = λ c past n h. client_heard s c past n _ h tt;
   risen = λ c past n h. client_heard s c past n _ h tt;
-  loc = λ c past l ls h st. still_heard s c (loc_becomes c l ls).cell past (loc_becomes c l ls).entry [] h refl (none_sent c) tt;
+  loc = λ c past l ls ms h st. still_heard s c (loc_becomes c l ls ms).cell past (loc_becomes c l ls ms).entry ms h refl refl (each_map (IsSentBy Loc) (AreUp c.hosts) (λ m x i from. absurd (no_server_loc m.head i x.from from)) ms (loc_own c l ls ms st));
   served = λ c past i place m armed h up at to. serves_heard s c past i armed _ h (served_posts (Server i) (c.hosts i).state c.clock place m (h.0.0.0.1.0 i).seats (h.0.0.0.1.1 i)).0;
   cut = λ c past i place m t h up at to. falls_heard s c past i _ (in_step m c.clock t) h;
   stopped = λ c past i h up. falls_heard s c past i _ at_rest h;
@@ -234,9 +239,9 @@ heard_moves s = record {
 }
 
 pub heard_kept : (s : Script) → IsKept (GivenHeard s)
-heard_kept s c past x h =
-    let k : Given s (moved c x).cell ((moved c x).entry ∷ past) = given_kept s c past x h.0 in
-    (k, each_moved (GivenHeard s) (Then s) (heard_moves s) c past x h (hears_of s (moved c x).cell ((moved c x).entry ∷ past) k))
+heard_kept s c past x so h =
+    let k : Given s (moved c x).cell ((moved c x).entry ∷ past) = given_kept s c past x so h.0 in
+    (k, each_moved (GivenHeard s) (Then s) (heard_moves s) c past x so h (hears_of s (moved c x).cell ((moved c x).entry ∷ past) k))
 
 pub heard_first : (s : Script) → GivenHeard s (start s) (set_up s ∷ [])
 heard_first s = (given_first s, tt)

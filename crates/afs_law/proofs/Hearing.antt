@@ -1,7 +1,7 @@
 -- What servers hear and answer, however many a cell has: what a server would run it never heard in that boot, and each of its
 -- replies to a client is that of the entry which ran the call.
-use Rattle.afs_law.proofs.Moving.{loc_armed_to, loc_restarted_to, loc_stopped_to, LocMoves}
-use Rattle.afs_law.proofs.LocLines.{all_of_loc, is_of_loc, told_gives, stop_step, fail_step}
+use Rattle.afs_law.proofs.Moving.{loc_armed_to, loc_restarted_to, loc_stopped_to, IsKept}
+use Rattle.afs_law.proofs.LocLines.{all_of_loc, is_of_loc, told_gives}
 use Rattle.std.proofs.Math.Nat.{le_refl}
 use Rattle.afs_law.proofs.Booting.{standing_both, Boots, HasFront, blow_stops, disk_front, down_boots, notes_standing, rise_boots, serves_standing, started_lines, step_boots, still_boots, stop_boots, times_standing, wakes_standing, is_standing, is_server}
 use Rattle.afs_law.proofs.Passing.{to_come}
@@ -9,8 +9,14 @@ use Rattle.afs_history.specs.declared.acts.Act.{Act}
 use Rattle.afs_history.specs.declared.lines.Line.{Line}
 use Rattle.afs_history.specs.declared.lines.Line.TheVariants as lines
 use Rattle.afs_law.proofs.Backing.{all_lines, is_unchanging}
-use Rattle.afs_law.proofs.Basics.{Above, ByClient, Each, IfCall, IfReply, OfCall, OfClient, OfNotice, OfReply, above_up, at_put, at_seat, below_not, below_up_to, by_client, each_at, each_map, each_more, if_call, if_reply, not_above, of_notice, own_seat, runs_admitted, same_node-refl, up_to_same, same_node-true}
-use Rattle.afs_law.proofs.Calling.{mild_standing, AreReplies, IsAnswer, IsCallOf, IsLastOf, Tame, answer_over, begins_tame, caller_at, falls_tame, given_tame, placed, rises_tame, uncalled_any, waits_tame}
+use Rattle.afs_law.proofs.Basics.{Above, ByClient, Each, IfCall, IfReply, OfCall, OfClient, OfNotice, OfReply, above_up, at_put, at_seat, below_not, below_up_to, by_client, each_at, each_map, each_more, if_call, if_reply, not_above, of_notice, own_seat, runs_admitted, same_node-refl, up_to_same, same_node-true, not_loc}
+use Rattle.afs_law.proofs.Calling.{mild_standing, AreReplies, IsAnswer, IsCallOf, IsLastOf, Tame, answer_over, begins_tame, caller_at, falls_tame, given_tame, placed, rises_tame, uncalled_any, waits_tame, guest_tame, missed_tame}
+use Rattle.afs_law.proofs.Booting.{is_server}
+use Rattle.afs_law.proofs.Listing.{IsLocStep, IsOfLoc, IsSoundLoc, cut_loc, line_loc, loc_notice, loc_reply, no_server_loc, served_loc, started_loc, stays_loc, fail_line, stop_line}
+use Rattle.afs_law.proofs.Moving.{loc_armed_to, loc_received_to, loc_restarted_to, loc_stopped_to, run_keeps}
+use Rattle.afs_rows.specs.ClientRow.{act_of, sought_or}
+use Rattle.afs_rows.specs.LocRow.{loc_device_calls}
+use Rattle.afs_rows.specs.LocSteps.{LocHost}
 use Rattle.afs_law.proofs.Words.{up_boot, MayRun}
 use Rattle.afs_law.proofs.Hosting.{Begins, HasHead, HostStep, IsCutBy, IsDue, IsSound, Memory, decides_due, disk_begins, does_given, memory_of, served_head, serves_step, starts_step, times_step, wakes_step}
 use Rattle.afs_law.proofs.SettingUp.{AreVersions, all_versions, first_passed, given_first}
@@ -34,11 +40,11 @@ use Rattle.afs_num.specs.declared.types.Node.{Node}
 use Rattle.afs_num.specs.declared.types.Node.TheVariants.{Admin, Client, Loc, Server}
 use Rattle.afs_rows.specs.Callbacks.{risen_turn, expired, put, replies_of, turned_in}
 use Rattle.afs_rows.specs.ClientRow.{boot_of, client_row}
-use Rattle.afs_rows.specs.Going.{ClientState, Going}
+use Rattle.afs_rows.specs.Going.{ClientState, Going, Seek}
 use Rattle.afs_law.proofs.Steps.{blow_line, calls_at, server_falls, server_moves, falls_is, sets_is, stays_is, loc_becomes}
 use Rattle.afs_rows.specs.Hosts.{sets}
 use Rattle.afs_rows.specs.ServerHosts.{can_start}
-use Rattle.afs_rows.specs.Runs.{is_away, Armed, Blow, Cell, Entry, Fall, Input, Leads, Luck, Moved, Outcome, RunsTo, at_rest, back_timed, begins, begun_by, begun_by_disk, client_moves, client_starts, client_stops, comes_up, fails_early, fails_midway, given_at, given_to, gives, has_host, in_boot, in_step, is_full, message_at, moved, nothing, server_armed, server_ends, server_given, server_restarted, server_served, server_stopped, server_timed, server_waits, server_wakes, sets_fail, sets_stop, settled, start, starts_again, stops, struck, ticks, unarmed, voided, waited_by, waits, wakes, ServerHost}
+use Rattle.afs_rows.specs.Runs.{is_away, Armed, Blow, Cell, Entry, Fall, Input, Leads, Luck, Moved, Outcome, RunsTo, at_rest, back_timed, begins, begun_by, begun_by_disk, client_moves, client_starts, client_stops, comes_up, fails_early, fails_midway, given_at, given_to, gives, has_host, in_boot, in_step, is_full, message_at, moved, nothing, server_armed, server_ends, server_given, server_restarted, server_served, server_stopped, server_timed, server_waits, server_wakes, sets_fail, sets_stop, settled, start, starts_again, stops, struck, ticks, unarmed, voided, waited_by, waits, wakes, ServerHost, sought_for}
 use Rattle.afs_rows.specs.ServerRow.{Decision, admits, begun_after, decides, does, drops, hears, is_client, not_served, refuses, repeats, reply_head, saves, seat_for, serves_call, shows, tells_boot, whole}
 use Rattle.afs_rows.specs.ServerSteps.{back_timeout_row, server_row, start_row, wake_row}
 use Rattle.afs_rows.specs.States.{BackCall, Seat, ServerState}
@@ -296,11 +302,12 @@ called_taken : (t : Bool) (me : Node) (x : ServerState) (clock place : ℕ) (hea
 called_taken true me x clock place head user call e own a = admits_taken me x clock place head user call (admitted x.lasting.boot x.seats head) own refl a
 called_taken false me x clock place head user call e own a = absurd cc
 
-hears_taken : (P : Head → List ℕ → FsCall → Type 0) (me : Node) (x : ServerState) (clock place : ℕ) (head : Head) (c : Carried) → IsCall c → OfCall (ByClient P) head c → head.to ≡ me → head.boot ≡ x.lasting.boot
+hears_taken : (P : Head → List ℕ → FsCall → Type 0) (me : Node) (x : ServerState) (clock place : ℕ) (head : Head) (c : Carried) → IsCall c → OfCall (ByClient P) head c → same_node me Loc ≡ false → head.to ≡ me → head.boot ≡ x.lasting.boot
     → Above (call_seat head.from (does me x clock place (hears me x clock head c) []).state.seats) head.epoch head.number → ⊥
-hears_taken P me x clock place head (carried.Call user (ask.File call)) is w to own a = called_taken (same_node head.to me) me x clock place head user call (subst (λ (q : Node). same_node head.to q ≡ true) to (same_node-refl head.to)) own a
-hears_taken P me x clock place head (carried.Call user call) is w to own a = absurd w
-hears_taken P me x clock place head c is w to own a = absurd is
+hears_taken P me x clock place head (carried.Call user (ask.File call)) is w ne to own a = called_taken (same_node head.to me) me x clock place head user call (subst (λ (q : Node). same_node head.to q ≡ true) to (same_node-refl head.to)) own a
+hears_taken P me x clock place head (carried.Call user (ask.Volume call)) is w ne to own a = absurd w
+hears_taken P me x clock place head (carried.Call user (ask.Location call)) is w ne to own a = not_loc head me ⊥ to ne w.0
+hears_taken P me x clock place head c is w ne to own a = absurd is
 
 -- of a server that was given a message
 pub served_given : (i : ℕ) (x : ServerState) (clock place : ℕ) (m : Message) (sent : List Message) → given_message (server_row (Server i) x clock place (Whole m)).lines sent ≡ message_at sent place
@@ -318,7 +325,7 @@ served_grows K L i x clock place m due = does_grows K L (Server i) x clock place
 served_taken : (P : Head → List ℕ → FsCall → Type 0) (i : ℕ) (x : ServerState) (clock place : ℕ) (m : Message) → IsCall m.carried → IfCall P m → m.head.to ≡ Server i → m.head.boot ≡ x.lasting.boot
     → Above (call_seat m.head.from (server_row (Server i) x clock place (Whole m)).state.seats) m.head.epoch m.head.number → ⊥
 unfolding server_row
-served_taken P i x clock place m is w to own a = hears_taken P (Server i) x clock place m.head m.carried is w to own a
+served_taken P i x clock place m is w to own a = hears_taken P (Server i) x clock place m.head m.carried is w refl to own a
 
 -- of the others
 pub timed_state : (i : ℕ) (x : ServerState) (clock : ℕ) (n : Node) (b : BackCall) → ((back_timeout_row (Server i) x clock n b).state.seats ≡ x.seats) × ((back_timeout_row (Server i) x clock n b).state.lasting.boot ≡ x.lasting.boot)
@@ -358,15 +365,17 @@ of_client_at Loc X Y w h = tt
 
 pub call_is : (P Q : Head → Type 0) (boot : ℕ) (seats : List Seat) (head : Head) (x : Carried) → (IsCall x → (j : ℕ) → head.from ≡ Client j → Q head → admitted boot seats head ≡ pairs.runs → P (reply_head boot head)) → OfCall (ByClient (λ h user call. Q h)) head x → IsCallOf P boot seats head x
 call_is P Q boot seats head (carried.Call user (ask.File call)) w h = of_client_at head.from (Q head) (admitted boot seats head ≡ pairs.runs → P (reply_head boot head)) (w tt) h
-call_is P Q boot seats head (carried.Call user call) w h = absurd h
+call_is P Q boot seats head (carried.Call user (ask.Volume call)) w h = absurd h
+call_is P Q boot seats head (carried.Call user (ask.Location call)) w h = h
 call_is P Q boot seats head (carried.Refusal code) w h = tt
 call_is P Q boot seats head (carried.Reply reply) w h = tt
 call_is P Q boot seats head carried.Notice w h = tt
 
-fact_of : (Q : Head → Type 0) (j : ℕ) (head : Head) (x : Carried) → IsCall x → head.from ≡ Client j → OfCall (ByClient (λ h user call. Q h)) head x → Q head
-fact_of Q j head (carried.Call user (ask.File call)) is from w = by_client j head.from (Q head) from w
-fact_of Q j head (carried.Call user call) is from w = absurd w
-fact_of Q j head x is from w = absurd is
+fact_of : (Q : Head → Type 0) (j i : ℕ) (head : Head) (x : Carried) → IsCall x → head.to ≡ Server i → head.from ≡ Client j → OfCall (ByClient (λ h user call. Q h)) head x → Q head
+fact_of Q j i head (carried.Call user (ask.File call)) is to from w = by_client j head.from (Q head) from w
+fact_of Q j i head (carried.Call user (ask.Volume call)) is to from w = absurd w
+fact_of Q j i head (carried.Call user (ask.Location call)) is to from w = not_loc head (Server i) (Q head) to refl w.0
+fact_of Q j i head x is to from w = absurd is
 
 call_here : (c : Cell) (past : List Entry) (i : ℕ) (e : Entry) (m : Message) → HearsIn c past → StandsIn c (lines_of past) → e.actor ≡ actors.Node (Server i) → given_message e.lines (sent_of past) ≡ Some m → m.head.to ≡ Server i → (c.hosts i).down ≡ None → IfCall (λ h user call. IsHad c.hosts h.to h.boot) m
     → IsCallOf (IsRan (e ∷ past)) (c.hosts i).state.lasting.boot (c.hosts i).state.seats m.head m.carried
@@ -382,7 +391,7 @@ call_here c past i e m H S actor given to up w =
 -- it is to no boot to come
 not_next : (c : Cell) (i : ℕ) (m : Message) (j : ℕ) (k : Key) (b : ℕ) → m.head.to ≡ Server i → IfCall (λ h user call. IsHad c.hosts h.to h.boot) m → k.node ≡ Client j → (c.hosts i).state.lasting.boot < b → IsCallUnder (Server i) k b (Some m) → ⊥
 not_next c i m j k b to w is l x =
-    let had : m.head.boot ≤ (c.hosts i).state.lasting.boot = fact_of (λ h. IsHad c.hosts h.to h.boot) j m.head m.carried x.0.0 (ap (λ (y : Key). y.node) x.1.0 ∙ is) w i to in
+    let had : m.head.boot ≤ (c.hosts i).state.lasting.boot = fact_of (λ h. IsHad c.hosts h.to h.boot) j i m.head m.carried x.0.0 to (ap (λ (y : Key). y.node) x.1.0 ∙ is) w i to in
     let own : m.head.boot ≡ b = x.1.1 in
     let later : (c.hosts i).state.lasting.boot < b = l in
     absurd (omega arith)
@@ -412,7 +421,7 @@ serves_hears c past i place armed m H S up to at =
     let same : s.state.lasting.boot ≡ x.lasting.boot = served_boot i x c.clock place m in
     let grows : x.lasting.boot ≤ s.state.lasting.boot = omega arith in
     let sound : IsSound (IsRan (e ∷ past)) (IsNoted (put i h c.hosts)) (memory_of x) = sound_on c past e i h H grows in
-    let due : IsDue (IsRan (e ∷ past)) (IsNoted (put i h c.hosts)) (Server i) x (decides (Server i) x c.clock (Whole m)) = decides_due (IsRan (e ∷ past)) (IsNoted (put i h c.hosts)) (Server i) x c.clock m sound.seats (call_here c past i e m H S refl given to up w) (λ z. own_had c.hosts i h x.lasting.boot grows m.head.to z) in
+    let due : IsDue (IsRan (e ∷ past)) (IsNoted (put i h c.hosts)) (Server i) x (decides (Server i) x c.clock (Whole m)) = decides_due (IsRan (e ∷ past)) (IsNoted (put i h c.hosts)) (Server i) x c.clock m refl sound.seats (call_here c past i e m H S refl given to up w) (λ z. own_had c.hosts i h x.lasting.boot grows m.head.to z) in
     server_hears c past i (Some place) armed s H grows (serves_step (IsRan (e ∷ past)) (IsNoted (put i h c.hosts)) i x c.clock place m sound (held_on c past e i h H grows) due) (subst (GivenTo (Server i)) (sym told) to)
     (λ j k b is may. (
       λ u. not_again c i place m j k b to w is may (subst (λ (o : Option Message). IsCallUnder (Server i) k b o) given u),
@@ -545,7 +554,7 @@ restarted_hears c past i after out (Some fall) H down cut =
     let x : ServerState = (c.hosts i).state in
     let f : Begun ServerState = begun_by_disk (Server i) x after fall in
     ends_hears c past i f fall (settled (can_start f.state) out) H cut (ap (λ (d : Option Fall). up_boot d x.lasting.boot) down) (disk_front (Server i) x after fall) (disk_boot (Server i) x after fall)
-    (λ e h more. disk_begins (IsRan (e ∷ past)) (IsNoted (put i h c.hosts)) (Server i) x after fall (sound_on c past e i h H more) (held_on c past e i h H more) (cut_by (IsRan past) (IsRan (e ∷ past)) (ran_over e past) x.lasting.boot x.seats fall cut)
+    (λ e h more. disk_begins (IsRan (e ∷ past)) (IsNoted (put i h c.hosts)) (Server i) x after fall refl (sound_on c past e i h H more) (held_on c past e i h H more) (cut_by (IsRan past) (IsRan (e ∷ past)) (ran_over e past) x.lasting.boot x.seats fall cut)
     (λ y to. own_had c.hosts i h x.lasting.boot more y.to to))
 
 -- its disk is set
@@ -623,37 +632,27 @@ kept_on c past e n H = replies_to (IsRan past) (IsRan (e ∷ past)) (IsNoted c.h
 -- ---- every input
 
 -- what a client does with a message that it is given
-pub client_given : (c : Cell) (past : List Entry) (n p : ℕ) (m : Message) → HearsIn c past → m.head.to ≡ Client n → message_at c.sent p ≡ Some m
-    → Tame (IsRan (of_client_step n (client_row (Client n) (c.clients n) c.clock p (Whole m)) ∷ past)) (IsNoted c.hosts) (IsHad c.hosts) (Some p) n (caller_at (c.clients n)) (client_row (Client n) (c.clients n) c.clock p (Whole m))
-client_given c past n p m H to at =
-    let e : Entry = of_client_step n (client_row (Client n) (c.clients n) c.clock p (Whole m)) in
+row_given : (c : Cell) (past : List Entry) (n p : ℕ) (m : Message) (e : Entry) → HearsIn c past → m.head.to ≡ Client n → message_at c.sent p ≡ Some m
+    → Tame (IsRan (e ∷ past)) (IsNoted c.hosts) (IsHad c.hosts) (Some p) n (caller_at (c.clients n)) (client_row (Client n) (c.clients n) c.clock p (Whole m))
+row_given c past n p m e H to at =
     given_tame (IsRan (e ∷ past)) (IsNoted c.hosts) (IsHad c.hosts) n (c.clients n) c.clock p m (kept_on c past e n H)
     (call_is (IsRan (e ∷ past)) (λ h. IsHad c.hosts h.to h.boot) (c.clients n).epoch (c.clients n).seats m.head m.carried (λ is j from q runs i z. absurd (no_server n i (sym to ∙ z))) (each_at (IfCall (λ y user call. IsHad c.hosts y.to y.boot)) c.sent p m at H.calls))
     (λ i z. absurd (no_server n i (sym to ∙ z))) (each_at (λ y. OfNotice (IsNoted c.hosts y.head) y.carried) c.sent p m at H.notices)
 
-to_hears : (c : Cell) (past : List Entry) (p : ℕ) (luck : Luck) (m : Message) (to : Node) → HearsIn c past → StandsIn c (lines_of past) → m.head.to ≡ to → message_at c.sent p ≡ Some m → After past (given_to c p luck m to)
-to_hears c past p luck m (Server i) H S to at = either_hears past (has_host c i) _ _ (received_hears c past i p luck m (c.hosts i).down H S refl to at) (void_hears c past H)
-to_hears c past p luck m (Client n) H S to at =
-    either_hears past (is_away c n) _ _ (void_hears c past H)
-    (client_hears c past n (Some p) (client_row (Client n) (c.clients n) c.clock p (Whole m)) H (client_given c past n p m H to at) (subst (GivenTo (Client n)) (sym (ap (λ (ms : List Message). message_at ms p) H.told ∙ at)) to))
-to_hears c past p luck m Loc H S to at = void_hears c past H
-to_hears c past p luck m (Admin n) H S to at = void_hears c past H
+pub client_given : (c : Cell) (past : List Entry) (n p : ℕ) (m : Message) → HearsIn c past → m.head.to ≡ Client n → message_at c.sent p ≡ Some m
+    → Tame (IsRan (of_client_step n (client_row (Client n) (c.clients n) c.clock p (Whole m)) ∷ past)) (IsNoted c.hosts) (IsHad c.hosts) (Some p) n (caller_at (c.clients n)) (client_row (Client n) (c.clients n) c.clock p (Whole m))
+client_given c past n p m H to at = row_given c past n p m (of_client_step n (client_row (Client n) (c.clients n) c.clock p (Whole m))) H to at
 
-at_hears : (c : Cell) (past : List Entry) (p : ℕ) (luck : Luck) (m : Option Message) → message_at c.sent p ≡ m → HearsIn c past → StandsIn c (lines_of past) → After past (given_at c p luck m)
-at_hears c past p luck None e H S = void_hears c past H
-at_hears c past p luck (Some m) e H S = to_hears c past p luck m m.head.to H S refl e
+guest_given : (c : Cell) (past : List Entry) (n p : ℕ) (m : Message) → HearsIn c past → m.head.to ≡ Client n → message_at c.sent p ≡ Some m
+    → Tame (IsRan (of_client_step n (sought_or (Client n) (c.clients n) c.clock p m (c.clients n).seeking) ∷ past)) (IsNoted c.hosts) (IsHad c.hosts) (Some p) n (caller_at (c.clients n)) (sought_or (Client n) (c.clients n) c.clock p m (c.clients n).seeking)
+guest_given c past n p m H to at =
+    let e : Entry = of_client_step n (sought_or (Client n) (c.clients n) c.clock p m (c.clients n).seeking) in
+    guest_tame (IsRan (e ∷ past)) (IsNoted c.hosts) (IsHad c.hosts) n (c.clients n) c.clock p m (c.clients n).seeking (λ b i z. absurd (let no : Loc ≡ Server i = z in let no' : ⊥ = cc in no')) (kept_on c past e n H) (row_given c past n p m e H to at)
 
-begun_hears : (c : Cell) (past : List Entry) (n : ℕ) (act : Act) (g : Option Going) → HearsIn c past → After past (begun_by c n act g)
-begun_hears c past n act None H = client_hears c past n None _ H (begins_tame _ (IsNoted c.hosts) (IsHad c.hosts) n (c.clients n) c.clock act (kept_on c past _ n H)) tt
-begun_hears c past n act (Some g) H = void_hears c past H
+-- ---- a step of the location database
 
-waited_hears : (c : Cell) (past : List Entry) (n : ℕ) (g : Option Going) → (c.clients n).running ≡ g → HearsIn c past → After past (waited_by c n g)
-waited_hears c past n None e H = void_hears c past H
-waited_hears c past n (Some act) e H = client_hears c past n None _ H (waits_tame _ (IsNoted c.hosts) (IsHad c.hosts) n (c.clients n) act e (kept_on c past _ n H)) tt
-
--- a client that begins again knows no boot number, and takes each server's to be the first
-pub first_had : (c : Cell) (past : List Entry) → HearsIn c past → (q : Node) → IsHad c.hosts q 1
-first_had c past H q i e = H.first i
+of_loc_entry : List Line → List Message → Entry
+of_loc_entry ls ms = record { actor = actors.Node Loc; lines = ls; sent = ms; volumes = [] }
 
 loc_stands : (l : Line) → is_of_loc l ≡ true → is_standing l ≡ true
 loc_stands (lines.Crash n) h = ap (λ (q : Node). not (is_server q)) (same_node-true n Loc h)
@@ -661,38 +660,82 @@ loc_stands (lines.Fault n) h = ap (λ (q : Node). not (is_server q)) (same_node-
 loc_stands (lines.Restart n boot) h = ap (λ (q : Node). not (is_server q)) (same_node-true n Loc h)
 loc_stands l h = refl
 
-loc_hears : (c : Cell) (past : List Entry) → HearsIn c past → LocMoves (After past) c
-loc_hears c past H l ls st = still_hears c.clients c.hosts c.sent past (loc_becomes c l ls).entry H refl (told_gives ls (sent_of past) st.lines) (all_of_loc is_standing loc_stands ls st.lines)
+to_given : (q : Node) (o : Option Message) → ((m : Message) → o ≡ Some m → m.head.to ≡ q) → GivenTo q o
+to_given q None w = tt
+to_given q (Some m) w = w m refl
 
-pub moved_hears : (c : Cell) (past : List Entry) (x : Input) → HearsIn c past → StandsIn c (lines_of past) → After past (moved c x)
+loc_hears : (c : Cell) (past : List Entry) (l : LocHost) (ls : List Line) (ms : List Message) → HearsIn c past → IsLocStep c l ls ms → After past (loc_becomes c l ls ms)
+unfolding of_loc_entry
+loc_hears c past l ls ms H st =
+    let e : Entry = of_loc_entry ls ms in
+    let w : (x : Head) → IsRan past x → IsRan (e ∷ past) x = ran_over e past in
+    let to : GivenTo Loc (given_message ls (sent_of past)) = subst (GivenTo Loc) (sym (st.given (sent_of past))) (to_given Loc (placed st.place (sent_of past)) (subst (λ (all : List Message). (m : Message) → placed st.place all ≡ Some m → m.head.to ≡ Loc) (sym H.told) st.to)) in
+    record {
+      told = ap (λ (all : List Message). all ++ ms) H.told;
+      boots = still_boots c.hosts e past (all_of_loc is_standing loc_stands ls st.lines) H.boots;
+      calls = each_more (IfCall (λ x user call. IsHad c.hosts x.to x.boot)) c.sent ms H.calls (each_map IsOfLoc _ (λ m h. uncalled_any (λ x user call. IsHad c.hosts x.to x.boot) m h.1) ms st.sent);
+      notices = each_more (λ m. OfNotice (IsNoted c.hosts m.head) m.carried) c.sent ms H.notices (each_map IsOfLoc _ (λ m h. loc_notice (λ x. IsNoted c.hosts x.head) m (λ f i z. absurd (no_server_loc m.head i f z)) h) ms st.sent);
+      answers = each_more (IfReply (λ r. IsRan (e ∷ past) r.head)) c.sent ms (each_map _ _ (if_reply (λ r. IsRan past r.head) (λ r. IsRan (e ∷ past) r.head) (λ r. w r.head)) c.sent H.answers)
+          (each_map IsOfLoc _ (λ m h. loc_reply (λ r. IsRan (e ∷ past) r.head) m (λ f i z. absurd (no_server_loc m.head i f z)) h) ms st.sent);
+      known = H.known;
+      replies = λ j. replies_to (IsRan past) (IsRan (e ∷ past)) (IsNoted c.hosts) (IsNoted c.hosts) w (λ x z. z) (c.clients j).seats (H.replies j);
+      first = H.first;
+      unheard = λ j. unheard_on j (c.hosts j).down (c.hosts j).state.seats (c.hosts j).state.lasting.boot e past (λ k b. not_under Loc (Server j) k b (given_message ls (sent_of past)) to (λ z. absurd (let no : Loc ≡ Server j = z in let no' : ⊥ = cc in no'))) (H.unheard j);
+      sound = λ j. sound_to (IsRan past) (IsRan (e ∷ past)) (IsNoted c.hosts) (IsNoted c.hosts) w (λ x z. z) (memory_of (c.hosts j).state) (H.sound j);
+      held = λ j. each_map _ _ (answer_over (IsRan past) (IsRan (e ∷ past)) (IsNoted c.hosts) (IsNoted c.hosts) w (λ x z. z)) (replies_of (c.hosts j).state.backs.held) (H.held j);
+      falls = λ j. cut_to (IsRan past) (IsRan (e ∷ past)) w (c.hosts j).state (c.hosts j).down (H.falls j);
+    }
+
+to_hears : (c : Cell) (past : List Entry) (p : ℕ) (luck : Luck) (m : Message) (to : Node) → IsSoundLoc c.loc.state → HearsIn c past → StandsIn c (lines_of past) → m.head.to ≡ to → message_at c.sent p ≡ Some m → After past (given_to c p luck m to)
+to_hears c past p luck m (Server i) s H S to at = either_hears past (has_host c i) _ _ (received_hears c past i p luck m (c.hosts i).down H S refl to at) (void_hears c past H)
+to_hears c past p luck m (Client n) s H S to at =
+    either_hears past (is_away c n) _ _ (void_hears c past H)
+    (client_hears c past n (Some p) (sought_or (Client n) (c.clients n) c.clock p m (c.clients n).seeking) H (guest_given c past n p m H to at) (subst (GivenTo (Client n)) (sym (ap (λ (ms : List Message). message_at ms p) H.told ∙ at)) to))
+to_hears c past p luck m Loc s H S to at = loc_received_to (After past) c p luck m c.loc.down refl (void_hears c past H) (λ l ls ms st. loc_hears c past l ls ms H st) s at to
+to_hears c past p luck m (Admin n) s H S to at = void_hears c past H
+
+at_hears : (c : Cell) (past : List Entry) (p : ℕ) (luck : Luck) (m : Option Message) → message_at c.sent p ≡ m → IsSoundLoc c.loc.state → HearsIn c past → StandsIn c (lines_of past) → After past (given_at c p luck m)
+at_hears c past p luck None e s H S = void_hears c past H
+at_hears c past p luck (Some m) e s H S = to_hears c past p luck m m.head.to s H S refl e
+
+begun_hears : (c : Cell) (past : List Entry) (n : ℕ) (act : Act) (g : Option Going) → HearsIn c past → After past (begun_by c n act g)
+begun_hears c past n act None H = client_hears c past n None _ H (begins_tame _ (IsNoted c.hosts) (IsHad c.hosts) n (c.clients n) c.clock act (kept_on c past _ n H)) tt
+begun_hears c past n act (Some g) H = void_hears c past H
+
+missed_hears : (c : Cell) (past : List Entry) (n : ℕ) (k : Option Seek) → HearsIn c past → After past (sought_for c n k)
+missed_hears c past n None H = void_hears c past H
+missed_hears c past n (Some k) H = client_hears c past n None _ H (missed_tame _ (IsNoted c.hosts) (IsHad c.hosts) n (c.clients n) k (kept_on c past _ n H)) tt
+
+waited_hears : (c : Cell) (past : List Entry) (n : ℕ) (g : Option Going) → (c.clients n).running ≡ g → HearsIn c past → After past (waited_by c n g)
+waited_hears c past n None e H = missed_hears c past n (c.clients n).seeking H
+waited_hears c past n (Some act) e H = client_hears c past n None _ H (waits_tame _ (IsNoted c.hosts) (IsHad c.hosts) n (c.clients n) act e (kept_on c past _ n H)) tt
+
+-- a client that begins again knows no boot number, and takes each server's to be the first
+pub first_had : (c : Cell) (past : List Entry) → HearsIn c past → (q : Node) → IsHad c.hosts q 1
+first_had c past H q i e = H.first i
+
+pub moved_hears : (c : Cell) (past : List Entry) (x : Input) → IsSoundLoc c.loc.state → HearsIn c past → StandsIn c (lines_of past) → After past (moved c x)
 unfolding moved
-moved_hears c past (begins n act) H S = either_hears past (is_away c n) _ _ (void_hears c past H) (begun_hears c past n act (c.clients n).running H)
-moved_hears c past (gives p luck) H S = at_hears c past p luck (message_at c.sent p) refl H S
-moved_hears c past (waits n) H S = either_hears past (is_away c n) _ _ (void_hears c past H) (waited_hears c past n (c.clients n).running refl H)
-moved_hears c past (ticks zero) H S = void_hears c past H
-moved_hears c past (ticks (suc n)) H S = still_hears c.clients c.hosts c.sent past (record { actor = actors.Clock; lines = lines.Tick (suc n) ∷ []; sent = []; volumes = [] }) H refl refl refl
-moved_hears c past (client_stops n) H S = either_hears past (is_away c n) _ _ (void_hears c past H) (client_hears c past n None _ H (falls_tame _ (IsNoted c.hosts) (IsHad c.hosts) n (c.clients n) (first_had c past H)) tt)
-moved_hears c past (client_starts n) H S = either_hears past (c.away n) _ _ (client_hears c past n None _ H (rises_tame _ (IsNoted c.hosts) (IsHad c.hosts) n (c.clients n) (kept_on c past _ n H)) tt) (void_hears c past H)
-moved_hears c past (stops zero) H S = loc_stopped_to (After past) c c.loc.down (void_hears c past H) (loc_hears c past H)
-moved_hears c past (stops (suc i)) H S = either_hears past (has_host c (suc i)) _ _ (stopped_hears c past (suc i) (c.hosts (suc i)).down H) (void_hears c past H)
-moved_hears c past (starts_again zero after out) H S = loc_restarted_to (After past) c after out c.loc.down (void_hears c past H) (loc_hears c past H)
-moved_hears c past (starts_again (suc i) after out) H S = either_hears past (has_host c (suc i)) _ _ (restarted_hears c past (suc i) after out (c.hosts (suc i)).down H refl (H.falls (suc i))) (void_hears c past H)
-moved_hears c past (sets_stop zero calls pick) H S = loc_armed_to (After past) c (lines.Stop Loc calls pick) _ c.loc.down (stop_step calls pick) (void_hears c past H) (loc_hears c past H)
-moved_hears c past (sets_stop (suc i) calls pick) H S = either_hears past (has_host c (suc i)) _ _ (set_hears c past (suc i) (lines.Stop (Server (suc i)) calls pick) _ (c.hosts (suc i)).down (λ sent. refl) refl H) (void_hears c past H)
-moved_hears c past (sets_fail zero call) H S = loc_armed_to (After past) c (lines.Fail Loc call) _ c.loc.down (fail_step call) (void_hears c past H) (loc_hears c past H)
-moved_hears c past (sets_fail (suc i) call) H S = either_hears past (has_host c (suc i)) _ _ (set_hears c past (suc i) (lines.Fail (Server (suc i)) call) _ (c.hosts (suc i)).down (λ sent. refl) refl H) (void_hears c past H)
-moved_hears c past (server_waits i n) H S = either_hears past (has_host c i) _ _ (timed_hears c past i n (c.hosts i).down H refl) (void_hears c past H)
-moved_hears c past (wakes i) H S = either_hears past (has_host c i) _ _ (woken_hears c past i (c.hosts i).down H refl) (void_hears c past H)
-moved_hears c past nothing H S = void_hears c past H
+moved_hears c past (begins n act) s H S = either_hears past (is_away c n) _ _ (void_hears c past H) (begun_hears c past n act (act_of (c.clients n)) H)
+moved_hears c past (gives p luck) s H S = at_hears c past p luck (message_at c.sent p) refl s H S
+moved_hears c past (waits n) s H S = either_hears past (is_away c n) _ _ (void_hears c past H) (waited_hears c past n (c.clients n).running refl H)
+moved_hears c past (ticks zero) s H S = void_hears c past H
+moved_hears c past (ticks (suc n)) s H S = still_hears c.clients c.hosts c.sent past (record { actor = actors.Clock; lines = lines.Tick (suc n) ∷ []; sent = []; volumes = [] }) H refl refl refl
+moved_hears c past (client_stops n) s H S = either_hears past (is_away c n) _ _ (void_hears c past H) (client_hears c past n None _ H (falls_tame _ (IsNoted c.hosts) (IsHad c.hosts) n c.handed (c.clients n) (first_had c past H)) tt)
+moved_hears c past (client_starts n) s H S = either_hears past (c.away n) _ _ (client_hears c past n None _ H (rises_tame _ (IsNoted c.hosts) (IsHad c.hosts) n (c.clients n) (kept_on c past _ n H)) tt) (void_hears c past H)
+moved_hears c past (stops zero) s H S = loc_stopped_to (After past) c c.loc.down refl (void_hears c past H) (λ l ls ms st. loc_hears c past l ls ms H st) s
+moved_hears c past (stops (suc i)) s H S = either_hears past (has_host c (suc i)) _ _ (stopped_hears c past (suc i) (c.hosts (suc i)).down H) (void_hears c past H)
+moved_hears c past (starts_again zero after out) s H S = loc_restarted_to (After past) c after out c.loc.down refl (void_hears c past H) (λ l ls ms st. loc_hears c past l ls ms H st) s
+moved_hears c past (starts_again (suc i) after out) s H S = either_hears past (has_host c (suc i)) _ _ (restarted_hears c past (suc i) after out (c.hosts (suc i)).down H refl (H.falls (suc i))) (void_hears c past H)
+moved_hears c past (sets_stop zero calls pick) s H S = loc_armed_to (After past) c (lines.Stop Loc calls pick) _ c.loc.down refl (stop_line calls pick) (void_hears c past H) (λ l ls ms st. loc_hears c past l ls ms H st) s
+moved_hears c past (sets_stop (suc i) calls pick) s H S = either_hears past (has_host c (suc i)) _ _ (set_hears c past (suc i) (lines.Stop (Server (suc i)) calls pick) _ (c.hosts (suc i)).down (λ sent. refl) refl H) (void_hears c past H)
+moved_hears c past (sets_fail zero call) s H S = loc_armed_to (After past) c (lines.Fail Loc call) _ c.loc.down refl (fail_line call) (void_hears c past H) (λ l ls ms st. loc_hears c past l ls ms H st) s
+moved_hears c past (sets_fail (suc i) call) s H S = either_hears past (has_host c (suc i)) _ _ (set_hears c past (suc i) (lines.Fail (Server (suc i)) call) _ (c.hosts (suc i)).down (λ sent. refl) refl H) (void_hears c past H)
+moved_hears c past (server_waits i n) s H S = either_hears past (has_host c i) _ _ (timed_hears c past i n (c.hosts i).down H refl) (void_hears c past H)
+moved_hears c past (wakes i) s H S = either_hears past (has_host c i) _ _ (woken_hears c past i (c.hosts i).down H refl) (void_hears c past H)
+moved_hears c past nothing s H S = void_hears c past H
 
 -- ---- a run
-
-run_hears : (xs : List Input) (c : Cell) (past es : List Entry) (end : Cell) → HearsIn c past → StandsIn c (lines_of past) → Leads c xs es end → HearsIn end (past_of past es)
-run_hears [] c past [] end H S r = subst (λ (x : Cell). HearsIn x past) (sym r) H
-run_hears [] c past (e ∷ es) end H S r = absurd r
-run_hears (x ∷ xs) c past [] end H S r = absurd r
-run_hears (x ∷ xs) c past (e ∷ es) end H S r =
-    subst (λ (y : Entry). HearsIn end (past_of (y ∷ past) es)) (sym r.0) (run_hears xs (moved c x).cell ((moved c x).entry ∷ past) es end (moved_hears c past x H S) (moved_keeps c (lines_of past) x S) r.1)
 
 -- the set-up tells versions alone
 first_standing : (ls : List Line) → AreVersions ls → all_lines is_standing ls ≡ true
@@ -737,8 +780,18 @@ stands_first s =
       stored = λ i n seat e. absurd cc;
     }
 
+-- what is heard, and the keys of calls
+abbrev pub Heard : Cell → List Entry → Type 0
+Heard c past = HearsIn c past × StandsIn c (lines_of past)
+
+pub heard_kept : IsKept Heard
+heard_kept c past x so h = (moved_hears c past x so h.0 h.1, moved_keeps c (lines_of past) x so h.1)
+
+pub heard_first : (s : Script) → Heard (start s) (set_up s ∷ [])
+heard_first s = (first_hears s, stands_first s)
+
 pub hears_at : (s : Script) (h : List Entry) (end : Cell) → RunsTo h s end → HearsIn end (past_of (set_up s ∷ []) h)
-hears_at s h end r = run_hears r.inputs (start s) (set_up s ∷ []) h end (first_hears s) (stands_first s) r.leads
+hears_at s h end r = (run_keeps Heard heard_kept r.inputs s (set_up s ∷ []) h end (heard_first s) r.leads).0
 
 pub run_unheard : (s : Script) (h : List Entry) (end : Cell) → RunsTo h s end → (i j : ℕ) → (end.hosts i).down ≡ None → (head : Head) → head.from ≡ Client j → admitted (end.hosts i).state.lasting.boot (end.hosts i).state.seats head ≡ pairs.runs
     → IsUnheard (Server i) (called_key head) head.boot (past_of (set_up s ∷ []) h)

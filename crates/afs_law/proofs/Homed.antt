@@ -1,4 +1,8 @@
 -- What a client keeps is of the servers of its volumes, and so is what it gives back; and an act that gives promises back has some to give.
+use Rattle.afs_law.proofs.Origins.{quietly, placed_in, told_in, AskedIn}
+use Rattle.afs_history.specs.declared.acts.Operand.{Operand}
+use Rattle.afs_law.proofs.Acting.{runs_act}
+use Rattle.afs_num.specs.declared.types.Code.{Code}
 use Rattle.afs_history.specs.declared.acts.Act.{Act}
 use Rattle.afs_history.specs.declared.acts.Act.TheVariants as acts
 use Rattle.afs_history.specs.declared.lines.Line.{Line}
@@ -8,7 +12,7 @@ use Rattle.afs_ideal.specs.Operations.{volume_changed}
 use Rattle.afs_law.proofs.Addressed.{Addressed, AsksOf, IsOneIn, asked_at, gives_is, homes_first, homes_kept}
 use Rattle.afs_law.proofs.Basics.{at_put, each_at, same_node-refl, same_node-true, some_of}
 use Rattle.afs_law.proofs.Firm.{IsFirm}
-use Rattle.afs_law.proofs.Following.{AreOpen, Follows, IsNoGift, begins_follow, falls_follow, given_follow, rises_follow, waits_follow}
+use Rattle.afs_law.proofs.Following.{AreOpen, Follows, IsNoGift, begins_follow, falls_follow, given_follow, rises_follow, waits_follow, sought_follow, missed_follow}
 use Rattle.afs_law.proofs.Located.{running_homes}
 use Rattle.afs_law.proofs.Moving.{Behind, EachMove, IsKept, each_moved}
 use Rattle.afs_law.proofs.Nexts.{asks_change}
@@ -43,11 +47,11 @@ use Rattle.afs_num.specs.declared.types.Head.{Head}
 use Rattle.afs_num.specs.declared.types.Node.{Node}
 use Rattle.afs_num.specs.declared.types.Node.TheVariants.{Client, Server}
 use Rattle.afs_rows.specs.Callbacks.{put}
-use Rattle.afs_rows.specs.ClientRow.{Walked, admits_call, asking, awaits, batch, batch_to, begin_row, begins_by, behind_batch, body_told, breaks, call_by, call_of, callee_by, client_row, counts, dropped, ended, entries_told, entry_told, find_cached, first_server_of, gift_of, gifts_to, given, gives_by, goes_by, hears, in_order, is_awaited, is_below, is_busy_code, is_older, is_spent, is_trusted, joined, left_after, left_in, look_at, looked, most_busy, most_given, most_reads, put_entries, put_entry, read_lines, reborn, refreshed, runs_carried, status_look, status_told, takes, takes_bulk, takes_data, takes_entry, takes_given, takes_list, takes_set, takes_shown, takes_status, timeout_row, trusted_in, untrusted_in, used_first, walked, walks_on, whole, with_statuses}
-use Rattle.afs_rows.specs.Going.{ClientState, Going, Need, answers, asks_for, began, gives_back, next, reads, reads_rights, reads_status, reads_statuses, with_read}
+use Rattle.afs_rows.specs.ClientRow.{Walked, admits_call, asking, awaits, batch, batch_to, begin_row, begins_by, behind_batch, body_told, breaks, call_by, call_of, callee_by, client_row, counts, dropped, ended, entries_told, entry_told, find_cached, first_server_of, gift_of, gifts_to, given, gives_by, goes_by, hears, in_order, is_awaited, is_below, is_busy_code, is_older, is_spent, is_trusted, joined, left_after, left_in, look_at, looked, most_busy, most_given, most_reads, put_entries, put_entry, read_lines, reborn, refreshed, runs_carried, status_look, status_told, takes, takes_bulk, takes_data, takes_entry, takes_given, takes_list, takes_set, takes_shown, takes_status, timeout_row, trusted_in, untrusted_in, used_first, walked, walks_on, whole, with_statuses, seeking_for, asks_where, volume_asked, is_gone_code, most_moved}
+use Rattle.afs_rows.specs.Going.{ClientState, Going, Need, answers, asks_for, began, gives_back, locates, next, reads, reads_rights, reads_status, reads_statuses, with_read, Seek, operand_in}
 use Rattle.afs_rows.specs.Runs.{Cell, Entry, start}
 use Rattle.afs_rows.specs.Scopes.{is_in_scope}
-use Rattle.afs_rows.specs.States.{CacheEntry, Gift}
+use Rattle.afs_rows.specs.States.{CacheEntry, Gift, Location}
 use Rattle.afs_rows.specs.Steps.{Step}
 use Rattle.std.proofs.Common.{zero, suc, ◌+◌, ◌≡◌, ℕ, inl, inr, Bool, true, false, cond, List, [], ◌∷◌, ◌++◌, map, flat_map, Option, Some, None, refl, sym, ap, subst, ◌∙◌, filter, take, drop, length, not, nat_eq}
 use Rattle.std.specs.List.{list_any}
@@ -176,8 +180,13 @@ same_homed P c y h r g k = record { cache = k; gifts = subst (AreGiven P) (sym g
 again_homed : (P : ℕ → Node → Type 0) (c : ClientState) (act : Going) → Homed P c → c.running ≡ Some act → Homed P (asking c act)
 again_homed P c act h run = record { cache = h.cache; gifts = h.gifts; some = λ a r give none. h.some a (run ∙ r) give none }
 
+-- it waits for no server
+seeks_homed : (P : ℕ → Node → Type 0) (y : ClientState) (k : Seek) (cache : List CacheEntry) → AreKept P cache → Homed P (seeking_for y k cache)
+seeks_homed P y k cache h = record { cache = h; gifts = tt; some = λ a r. absurd cc }
+
 goes_homed : (P : ℕ → Node → Type 0) (n : ℕ) (y : ClientState) (front : List Line → List Line) (w : Walked) (need : Need) → IsNoGive w.act → AreKept P w.cache → AreGiven P y.gifts → Homed P (goes_by (Client n) y front w need).state
 goes_homed P n y front w (answers k) plain h g = ends_homed P y w.cache h
+goes_homed P n y front w (locates o) plain h g = seeks_homed P y _ w.cache h
 goes_homed P n y front w need plain h g = asks_homed P (record y { cache = w.cache }) w.act plain h g
 
 walks_homed : (P : ℕ → Node → Type 0) (n clock : ℕ) (y : ClientState) (front : List Line → List Line) (act : Going) (cache : List CacheEntry) → IsNoGive act → AreKept P cache → AreGiven P y.gifts → Homed P (walks_on (Client n) y clock front act cache).state
@@ -266,10 +275,14 @@ takes_homed P n clock place c act call (replies.BulkStatus statuses callbacks sy
 takes_homed P n clock place c act call replies.GiveUpCallBacks t h r same = given_homed P n place c act call h
 takes_homed P n clock place c act call reply t h r same = plain_homed P c call h
 
+where_homed : (P : ℕ → Node → Type 0) (n place : ℕ) (c : ClientState) (act : Going) (code : Code) (o : Option Operand) → Homed P c → Homed P (asks_where (Client n) c place act code o).state
+where_homed P n place c act code None h = ends_homed P c c.cache h.cache
+where_homed P n place c act code (Some o) h = seeks_homed P (record c { moved = c.moved + 1 }) _ c.cache h.cache
+
 counts_homed : (P : ℕ → Node → Type 0) (n clock place : ℕ) (c : ClientState) (act : Going) (head : Head) (x : Carried) → AsksHome P c → Homed P c → c.running ≡ Some act → Homed P (counts (Client n) c clock place act head x).state
 counts_homed P n clock place c act head (carried.Call user call) t h r = h
 counts_homed P n clock place c act head (carried.Refusal code) t h r =
-    either_homed P (is_spent c act) _ _ (again_homed P c act h r) (either_homed P (is_busy_code code && nat_lt c.busy most_busy) _ _ (again_homed P (record c { busy = c.busy + 1 }) act (same_homed P c _ h refl refl h.cache) r) (ends_homed P c c.cache h.cache))
+    either_homed P (is_spent c act) _ _ (again_homed P c act h r) (either_homed P (is_busy_code code && nat_lt c.busy most_busy) _ _ (again_homed P (record c { busy = c.busy + 1 }) act (same_homed P c _ h refl refl h.cache) r) (either_homed P (is_gone_code code && nat_lt c.moved most_moved) _ _ (where_homed P n place c act code (operand_in act (volume_asked (call_of c act))) h) (ends_homed P c c.cache h.cache)))
 counts_homed P n clock place c act head (carried.Reply (tell.File reply)) t h r = either_homed P (is_spent c act) _ _ (again_homed P c act h r) (takes_homed P n clock place c act (call_of c act) reply t h r refl)
 counts_homed P n clock place c act head (carried.Reply reply) t h r = h
 counts_homed P n clock place c act head carried.Notice t h r = same_homed P c _ h refl refl h.cache
@@ -319,13 +332,13 @@ first_homed P n clock y front act need is h g = walks_homed P n clock y front ac
 
 begins_home : (P : ℕ → Node → Type 0) (n clock : ℕ) (c : ClientState) (act : Act) → Homed P c → Homed P (begin_row (Client n) c clock act).state
 unfolding begin_row
-begins_home P n clock c act h = first_homed P n clock (record c { busy = 0 }) (λ ls. lines.Begin (Client n) act ∷ ls) (began c.table act) (next (began c.table act)) refl h.cache h.gifts
+begins_home P n clock c act h = first_homed P n clock (record c { busy = 0; moved = 0 }) (λ ls. lines.Begin (Client n) act ∷ ls) (began c.table act) (next (began c.table act)) refl h.cache h.gifts
 
 waits_home : (P : ℕ → Node → Type 0) (n : ℕ) (c : ClientState) (act : Going) → Homed P c → Homed P (timeout_row (Client n) c act).state
 waits_home P n c act h = either_homed P (nat_lt c.tries 2) _ _ (same_homed P c _ h refl refl h.cache) (ends_homed P c _ (kept_left P (volume_changed (call_of c act)) c.cache h.cache))
 
-falls_home : (P : ℕ → Node → Type 0) (c : ClientState) → Homed P (reborn c)
-falls_home P c = record { cache = tt; gifts = tt; some = λ a r. absurd cc }
+falls_home : (P : ℕ → Node → Type 0) (handed : List Location) (c : ClientState) → Homed P (reborn handed c)
+falls_home P handed c = record { cache = tt; gifts = tt; some = λ a r. absurd cc }
 
 -- ---- every step
 
@@ -346,7 +359,7 @@ HomedIn s c past = Addressed s c past × AtHomeIn s c past
 asks_home : (s : Script) (c : Cell) (past : List Entry) (n : ℕ) → Addressed s c past → AsksHome (IsAt s) (c.clients n)
 asks_home s c past n h act r id x =
     let A = h.0.0.0.0.1 in
-    asked_at s (c.clients n) act (A.table n) (h.1.0.0 n act r) (running_homes s (Client n) (lines_of past) act (A.acts n ∙ r)) id x
+    asked_at s (c.clients n) act (A.table n) (h.1.0.0 n act r) (running_homes s (Client n) (lines_of past) act (A.acts n ∙ runs_act (c.clients n) act r)) id x
 
 client_home : (s : Script) (c : Cell) (past : List Entry) (n : ℕ) (st : Step ClientState) → AtHomeIn s c past → Follows n (c.clients n) st → Homed (IsAt s) st.state → (j : ℕ) → AtHome s (put n st.state c.clients j)
 client_home s c past n st h f home j = at_put n j (AtHome s) st.state c.clients (λ same. record { homed = home; open' = f.opens (h n).open' }) (λ other. h j)
@@ -355,12 +368,16 @@ home_moves : (s : Script) → EachMove (HomedIn s) (Behind (AtHomeIn s))
 home_moves s = record {
   void = λ c past h. h.1;
   ticked = λ c past n h. h.1;
-  begun = λ c past n act h r. client_home s c past n _ h.1 (begins_follow n (c.clients n) c.clock act (h.0.0.1 n).0 r) (begins_home (IsAt s) n c.clock (c.clients n) act (h.1 n).homed);
+  begun = λ c past n act h r z0. client_home s c past n _ h.1 (begins_follow n (c.clients n) c.clock act (h.0.0.1 n).0 r) (begins_home (IsAt s) n c.clock (c.clients n) act (h.1 n).homed);
   told = λ c past n place m h at to. client_home s c past n _ h.1 (given_follow n (c.clients n) c.clock place m (h.0.0.1 n).0 (each_at (λ m. IsFirm m.head m.carried) c.sent place m at h.0.0.0.1)) (given_home (IsAt s) n c.clock place (c.clients n) m (asks_home s c past n h.0) (h.1 n).homed);
+  sought = λ c past n place m k h at to z e. (let A : AskedIn s c past = h.0.0.0.0.0.1 in
+      client_home s c past n _ h.1 (sought_follow s n (c.clients n) c.clock place k m.head m.carried (placed_in s c past n k A z) (told_in s c past n place m k A at e) (h.0.0.1 n).0)
+      (quietly s c past n place m k (λ st. Homed (IsAt s) st.state) A at z e (λ code. same_homed (IsAt s) (c.clients n) _ (h.1 n).homed refl refl (h.1 n).homed.cache) (h.1 n).homed (same_homed (IsAt s) (c.clients n) _ (h.1 n).homed refl refl (h.1 n).homed.cache)));
+  missed = λ c past n k h r z. client_home s c past n _ h.1 (missed_follow n (c.clients n) k r (h.0.0.1 n).0) (either_homed (IsAt s) (nat_lt (c.clients n).tries 2) _ _ (same_homed (IsAt s) (c.clients n) _ (h.1 n).homed refl refl (h.1 n).homed.cache) (same_homed (IsAt s) (c.clients n) _ (h.1 n).homed refl refl (h.1 n).homed.cache));
+  loc = λ c past l ls ms h st. h.1;
   waited = λ c past n act h r. client_home s c past n _ h.1 (waits_follow n (c.clients n) act (h.0.0.1 n).0) (waits_home (IsAt s) n (c.clients n) act (h.1 n).homed);
-  fallen = λ c past n h. client_home s c past n _ h.1 (falls_follow n (c.clients n)) (falls_home (IsAt s) (c.clients n));
+  fallen = λ c past n h. client_home s c past n _ h.1 (falls_follow n c.handed (c.clients n)) (falls_home (IsAt s) c.handed (c.clients n));
   risen = λ c past n h. client_home s c past n _ h.1 (rises_follow n (c.clients n) (h.0.0.1 n).0) (h.1 n).homed;
-  loc = λ c past l ls h st. h.1;
   served = λ c past i place m armed h up at to. h.1;
   cut = λ c past i place m t h up at to. h.1;
   stopped = λ c past i h up. h.1;
@@ -375,7 +392,7 @@ home_moves s = record {
 }
 
 pub homed_kept : (s : Script) → IsKept (HomedIn s)
-homed_kept s c past x h = (homes_kept s c past x h.0, each_moved (HomedIn s) (Behind (AtHomeIn s)) (home_moves s) c past x h)
+homed_kept s c past x so h = (homes_kept s c past x so h.0, each_moved (HomedIn s) (Behind (AtHomeIn s)) (home_moves s) c past x so h)
 
 pub homed_first : (s : Script) → HomedIn s (start s) (set_up s ∷ [])
 homed_first s = (homes_first s, λ j. record { homed = record { cache = tt; gifts = tt; some = λ a r. absurd cc }; open' = λ a r. absurd cc })
@@ -401,15 +418,16 @@ gift_at : (s : Script) (gs : List Gift) → AreGiven (IsAt s) gs → (id : ℕ) 
 gift_at s [] h id x = absurd x
 gift_at s (g ∷ gs) h id x = batch_at s g.server most_given (g ∷ gs) h id x
 
-asks_at : (s : Script) (c : ClientState) (need : Need) → ((call : FsCall) → need ≡ asks_for call → IsNoGift call) → AreGiven (IsAt s) c.gifts → GivesHome s (callee_by c need) (call_by c.gifts need)
-asks_at s c (reads f) w h = tt
-asks_at s c (reads_status f) w h = tt
-asks_at s c (reads_statuses fs) w h = tt
-asks_at s c (reads_rights f) w h = tt
-asks_at s c (asks_for (calls.GiveUpCallBacks fids callbacks)) w h = absurd (w (calls.GiveUpCallBacks fids callbacks) refl)
-asks_at s c (asks_for call) w h = tt
-asks_at s c gives_back w h = gift_at s c.gifts h
-asks_at s c (answers n) w h = tt
+asks_at : (s : Script) (c : ClientState) (act : Going) (need : Need) → ((call : FsCall) → need ≡ asks_for call → IsNoGift call) → AreGiven (IsAt s) c.gifts → GivesHome s (callee_by c act need) (call_by c.gifts need)
+asks_at s c act (reads f) w h = tt
+asks_at s c act (reads_status f) w h = tt
+asks_at s c act (reads_statuses fs) w h = tt
+asks_at s c act (reads_rights f) w h = tt
+asks_at s c act (asks_for (calls.GiveUpCallBacks fids callbacks)) w h = absurd (w (calls.GiveUpCallBacks fids callbacks) refl)
+asks_at s c act (asks_for call) w h = tt
+asks_at s c act gives_back w h = gift_at s c.gifts h
+asks_at s c act (locates o) w h = tt
+asks_at s c act (answers n) w h = tt
 
 first_in : (t : Bool) (g : Gift) (rest : List Gift) → t ≡ true → cond t (g ∷ rest) [] ≡ [] → ⊥
 first_in true g rest e h = absurd cc
@@ -431,6 +449,7 @@ asks_some gs (reads_rights f) w h = tt
 asks_some gs (asks_for (calls.GiveUpCallBacks fids callbacks)) w h = absurd (w (calls.GiveUpCallBacks fids callbacks) refl)
 asks_some gs (asks_for call) w h = tt
 asks_some gs gives_back w h = gives_some (batch gs) _ (λ e. some_in gs (h refl) e)
+asks_some gs (locates o) w h = tt
 asks_some gs (answers n) w h = tt
 
 -- ---- the call of an act that runs
@@ -449,9 +468,9 @@ is_asked s c past n act h r =
     let A = h.0.0.0.0.0.1 in
     let x : ClientState = c.clients n in
     let plain : (call : FsCall) → next act ≡ asks_for call → IsNoGift call = λ call e. changes_more call (asks_change act call e) in
-    let homes = running_homes s (Client n) (lines_of past) act (A.acts n ∙ r) in
+    let homes = running_homes s (Client n) (lines_of past) act (A.acts n ∙ runs_act x act r) in
     record {
       unended = (h.1 n).open' act r;
-      home = subst (λ (q : Node). GivesHome s q (call_of x act)) (sym (h.0.1.0.0 n act r)) (asks_at s x (next act) plain (h.1 n).homed.gifts);
+      home = subst (λ (q : Node). GivesHome s q (call_of x act)) (sym (h.0.1.0.0 n act r)) (asks_at s x act (next act) plain (h.1 n).homed.gifts);
       gives = asks_some x.gifts (next act) plain (λ e. (h.1 n).homed.some act r (gives_is s act homes e));
     }

@@ -28,7 +28,7 @@ use Rattle.afs_num.specs.declared.messages.Received.TheVariants.{Whole}
 use Rattle.afs_num.specs.declared.types.Node.{Node}
 use Rattle.afs_num.specs.declared.types.Node.TheVariants.{Admin, Client, Loc, Server}
 use Rattle.afs_rows.specs.Callbacks.{Started, owe_line, put, risen_turn, starts, starts_by}
-use Rattle.afs_rows.specs.ClientRow.{begin_row, client_row, timeout_row}
+use Rattle.afs_rows.specs.ClientRow.{begin_row, client_row, timeout_row, seek_timeout_row, sought_by}
 use Rattle.afs_law.proofs.Steps.{blow_line, server_falls, server_moves, server_set, server_stays, loc_becomes}
 use Rattle.afs_rows.specs.Runs.{Armed, Cell, Entry, Fall, Moved, RunsTo, at_rest, begun_by_disk, client_falls, client_moves, client_rises, in_boot, in_step, start, ticked, unarmed, voided, ServerHost}
 use Rattle.afs_rows.specs.ServerRow.{Decision, begun_after, decides, drops, made, refuses, repeats, saves, shows, tells_boot, versioned}
@@ -93,7 +93,7 @@ blow_least i true o = le_refl _
 blow_least i false o = fault_least (same_node (Server i) (Server i)) (server_boot (Server i) o) (last_written (Server i) o)
 
 -- the boot that its disk has, or may have since a restart failed
-abbrev reached : ℕ → Option Fall → ℕ
+abbrev pub reached : ℕ → Option Fall → ℕ
 reached boot None = boot
 reached boot (Some at_rest) = boot
 reached boot (Some (in_step m clock hit)) = boot
@@ -116,7 +116,7 @@ found me x true in_boot = le_refl _
 
 -- ---- the entries of a server
 
-goes_on : (ls : List Line) → all_lines is_running ls ≡ true → TellsNoStop ls
+pub goes_on : (ls : List Line) → all_lines is_running ls ≡ true → TellsNoStop ls
 goes_on [] h = tt
 goes_on (lines.Crash n ∷ ls) h = absurd cc
 goes_on (lines.Fault n ∷ ls) h = absurd cc
@@ -316,12 +316,14 @@ hosted_moves : (s : Script) → EachMove (Written s) HostedStep
 hosted_moves s = (let q : EachMove (Placed s) (PlacedStep s) = placed_moves s in record {
   void = λ c past h. besides_hosts s c past (voided c) h (q.void c past h.0) (λ i e. absurd cc) refl;
   ticked = λ c past n h. besides_hosts s c past (ticked c (suc n)) h (q.ticked c past n h.0) (λ i e. absurd cc) refl;
-  begun = λ c past n act h r. besides_hosts s c past (client_moves c n (begin_row (Client n) (c.clients n) c.clock act)) h (q.begun c past n act h.0 r) (λ i e. absurd cc) refl;
+  begun = λ c past n act h r z0. besides_hosts s c past (client_moves c n (begin_row (Client n) (c.clients n) c.clock act)) h (q.begun c past n act h.0 r z0) (λ i e. absurd cc) refl;
   told = λ c past n place m h at to. besides_hosts s c past (client_moves c n (client_row (Client n) (c.clients n) c.clock place (Whole m))) h (q.told c past n place m h.0 at to) (λ i e. absurd cc) refl;
+  sought = λ c past n place m k h at to z e. besides_hosts s c past (client_moves c n (sought_by (Client n) (c.clients n) c.clock place k m.head m.carried)) h (q.sought c past n place m k h.0 at to z e) (λ i e'. absurd cc) refl;
+  missed = λ c past n k h r z. besides_hosts s c past (client_moves c n (seek_timeout_row (Client n) (c.clients n) k)) h (q.missed c past n k h.0 r z) (λ i e'. absurd cc) refl;
+  loc = λ c past l ls ms h st. besides_hosts s c past (loc_becomes c l ls ms) h (q.loc c past l ls ms h.0 st) (λ i e'. absurd cc) refl;
   waited = λ c past n act h r. besides_hosts s c past (client_moves c n (timeout_row (Client n) (c.clients n) act)) h (q.waited c past n act h.0 r) (λ i e. absurd cc) refl;
   fallen = λ c past n h. besides_hosts s c past (client_falls c n) h (q.fallen c past n h.0) (λ i e. absurd cc) refl;
   risen = λ c past n h. besides_hosts s c past (client_rises c n) h (q.risen c past n h.0) (λ i e. absurd cc) refl;
-  loc = λ c past l ls h st. besides_hosts s c past (loc_becomes c l ls) h (q.loc c past l ls h.0 st) (λ i e'. absurd cc) refl;
   served = λ c past i place m armed h up at to. serves_hosts s c past i armed (server_row (Server i) (c.hosts i).state c.clock place (Whole m)) h (q.served c past i place m armed h.0 up at to) up (served_boot i (c.hosts i).state c.clock place m) (serves_running (Server i) (c.hosts i).state c.clock place m);
   cut = λ c past i place m t h up at to. falls_hosts s c past i (lines.Given place ∷ blow_line i t.stops ∷ []) (in_step m c.clock t) h (q.cut c past i place m t h.0 up at to) (as_up s c past i _ [] h up (blow_lived i place (c.hosts i).state.lasting.boot (last_written (Server i) (lines_of past) + 1) t.stops)) (up_now c past i h.1 up) (blow_least i t.stops (lines.Given place ∷ lines_of past));
   stopped = λ c past i h up. falls_hosts s c past i (lines.Crash (Server i) ∷ []) at_rest h (q.stopped c past i h.0 up) (as_up s c past i _ [] h up (inr (tt, refl))) (up_now c past i h.1 up) (le_refl _);
@@ -339,10 +341,10 @@ hosted_moves s = (let q : EachMove (Placed s) (PlacedStep s) = placed_moves s in
 })
 
 written_kept : (s : Script) → IsKept (Written s)
-written_kept s c past x h = (placed_kept s c past x h.0, (each_moved (Written s) HostedStep (hosted_moves s) c past x h).written)
+written_kept s c past x so h = (placed_kept s c past x so h.0, (each_moved (Written s) HostedStep (hosted_moves s) c past x so h).written)
 
 -- the set-up tells versions alone
-first_running : (ls : List Line) → AreVersions ls → all_lines is_running ls ≡ true
+pub first_running : (ls : List Line) → AreVersions ls → all_lines is_running ls ≡ true
 first_running [] h = refl
 first_running (lines.Version v ∷ ls) h = first_running ls h
 first_running (l ∷ ls) h = absurd h
@@ -352,4 +354,4 @@ written_first s = (placed_first s, λ i. le_of_eq (sym (running_written (Server 
 
 pub run_hosted : (s : Script) (h : List Entry) (end : Cell) → RunsTo h s end → EachEntry (λ past e. IsServerLived e.actor past e.lines e.sent) (set_up s ∷ []) h
 run_hosted s h end r =
-    run_each (Written s) (λ past e. IsServerLived e.actor past e.lines e.sent) (written_kept s) (λ c past x k. (each_moved (Written s) HostedStep (hosted_moves s) c past x k).good) r.inputs (start s) (set_up s ∷ []) h end (written_first s) r.leads
+    run_each (Written s) (λ past e. IsServerLived e.actor past e.lines e.sent) (written_kept s) (λ c past x so k. (each_moved (Written s) HostedStep (hosted_moves s) c past x so k).good) r.inputs s (set_up s ∷ []) h end (written_first s) r.leads

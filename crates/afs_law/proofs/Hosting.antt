@@ -26,7 +26,7 @@ use Rattle.afs_num.specs.Nodes.{same_node}
 use Rattle.afs_num.specs.declared.types.Head.{Head}
 use Rattle.afs_num.specs.declared.types.Key.{Key}
 use Rattle.afs_num.specs.declared.types.Node.{Node}
-use Rattle.afs_num.specs.declared.types.Node.TheVariants.{Client, Server}
+use Rattle.afs_num.specs.declared.types.Node.TheVariants.{Client, Loc, Server}
 use Rattle.afs_num.specs.declared.calls.FsCall.{FsCall}
 use Rattle.afs_num.specs.declared.calls.FsReply.{FsReply}
 use Rattle.afs_num.specs.declared.histories.Version.{Version}
@@ -132,15 +132,20 @@ called_due : (t : Bool) (K : Head → Type 0) (L : Head → Type 0) (me : Node) 
 called_due true K L me x clock head user call e r k told = admits_due K L me x clock head user call (admitted x.lasting.boot x.seats head) (same_node-true head.to me e) r k told refl
 called_due false K L me x clock head user call e r k told = tt
 
-hears_due : (K : Head → Type 0) (L : Head → Type 0) (me : Node) (x : ServerState) (clock : ℕ) (head : Head) (c : Carried) → AreReplies K L x.seats → IsCallOf K x.lasting.boot x.seats head c → (head.to ≡ me → L (boot_told x.lasting.boot head).head) → IsDue K L me x (hears me x clock head c)
-hears_due K L me x clock head (carried.Call user (ask.File call)) r k told = called_due (same_node head.to me) K L me x clock head user call refl r k told
-hears_due K L me x clock head (carried.Call user call) r k told = absurd k
-hears_due K L me x clock head (carried.Refusal code) r k told = tt
-hears_due K L me x clock head (carried.Reply reply) r k told = tt
-hears_due K L me x clock head carried.Notice r k told = tt
+not_due : (t : Bool) (K L : Head → Type 0) (me : Node) (x : ServerState) (d : Decision) → t ≡ false → IsDue K L me x (cond t d drops)
+not_due true K L me x d e = absurd cc
+not_due false K L me x d e = tt
 
-pub decides_due : (K : Head → Type 0) (L : Head → Type 0) (me : Node) (x : ServerState) (clock : ℕ) (m : Message) → AreReplies K L x.seats → IsCallOf K x.lasting.boot x.seats m.head m.carried → (m.head.to ≡ me → L (boot_told x.lasting.boot m.head).head) → IsDue K L me x (decides me x clock (Whole m))
-decides_due K L me x clock m r k told = hears_due K L me x clock m.head m.carried r k told
+hears_due : (K : Head → Type 0) (L : Head → Type 0) (me : Node) (x : ServerState) (clock : ℕ) (head : Head) (c : Carried) → same_node Loc me ≡ false → AreReplies K L x.seats → IsCallOf K x.lasting.boot x.seats head c → (head.to ≡ me → L (boot_told x.lasting.boot head).head) → IsDue K L me x (hears me x clock head c)
+hears_due K L me x clock head (carried.Call user (ask.File call)) ne r k told = called_due (same_node head.to me) K L me x clock head user call refl r k told
+hears_due K L me x clock head (carried.Call user (ask.Volume call)) ne r k told = absurd k
+hears_due K L me x clock head (carried.Call user (ask.Location call)) ne r k told = not_due (same_node head.to me) K L me x _ (subst (λ (q : Node). same_node q me ≡ false) (sym k.0) ne)
+hears_due K L me x clock head (carried.Refusal code) ne r k told = tt
+hears_due K L me x clock head (carried.Reply reply) ne r k told = tt
+hears_due K L me x clock head carried.Notice ne r k told = tt
+
+pub decides_due : (K : Head → Type 0) (L : Head → Type 0) (me : Node) (x : ServerState) (clock : ℕ) (m : Message) → same_node Loc me ≡ false → AreReplies K L x.seats → IsCallOf K x.lasting.boot x.seats m.head m.carried → (m.head.to ≡ me → L (boot_told x.lasting.boot m.head).head) → IsDue K L me x (decides me x clock (Whole m))
+decides_due K L me x clock m ne r k told = hears_due K L me x clock m.head m.carried ne r k told
 
 -- ---- what it keeps
 
@@ -439,12 +444,12 @@ abbrev pub IsCutBy : (Head → Type 0) → ℕ → List Seat → Fall → Type 0
 IsCutBy K boot seats (in_step m clock hit) = IsCallOf K boot seats m.head m.carried
 IsCutBy K boot seats fall = ⊤
 
-pub disk_begins : (K : Head → Type 0) (L : Head → Type 0) (me : Node) (x : ServerState) (after : Bool) (fall : Fall) → IsSound K L (memory_of x) → Each (IsAnswer K L) (replies_of x.backs.held) → IsCutBy K x.lasting.boot x.seats fall → ((h : Head) → h.to ≡ me → L (boot_told x.lasting.boot h).head) → Begins K L me x (begun_by_disk me x after fall)
-disk_begins K L me x after at_rest s h c told = before_begins K L me x s h
-disk_begins K L me x false (in_step m clock hit) s h c told = before_begins K L me x s h
-disk_begins K L me x true (in_step m clock hit) s h c told = after_begins K L me x clock (decides me x clock (Whole m)) s h (decides_due K L me x clock m s.seats c (told m.head))
-disk_begins K L me x false in_boot s h c told = before_begins K L me x s h
-disk_begins K L me x true in_boot s h c told = revives_begins K L me x s h
+pub disk_begins : (K : Head → Type 0) (L : Head → Type 0) (me : Node) (x : ServerState) (after : Bool) (fall : Fall) → same_node Loc me ≡ false → IsSound K L (memory_of x) → Each (IsAnswer K L) (replies_of x.backs.held) → IsCutBy K x.lasting.boot x.seats fall → ((h : Head) → h.to ≡ me → L (boot_told x.lasting.boot h).head) → Begins K L me x (begun_by_disk me x after fall)
+disk_begins K L me x after at_rest ne s h c told = before_begins K L me x s h
+disk_begins K L me x false (in_step m clock hit) ne s h c told = before_begins K L me x s h
+disk_begins K L me x true (in_step m clock hit) ne s h c told = after_begins K L me x clock (decides me x clock (Whole m)) s h (decides_due K L me x clock m ne s.seats c (told m.head))
+disk_begins K L me x false in_boot ne s h c told = before_begins K L me x s h
+disk_begins K L me x true in_boot ne s h c told = revives_begins K L me x s h
 
 pub starts_step : (K : Head → Type 0) (L : Head → Type 0) (i : ℕ) (x : ServerState) (clock count : ℕ) (f : Begun ServerState) → Begins K L (Server i) x f → HostStep K L None (Server i) x (start_row (Server i) clock count f)
 unfolding start_row

@@ -11,10 +11,14 @@ use Rattle.afs_num.specs.declared.types.Head.{Head}
 use Rattle.afs_num.specs.declared.types.Node.{Node}
 use Rattle.afs_num.specs.declared.types.Node.TheVariants.{Server}
 use Rattle.afs_records.specs.Entries.{entry_of_line}
-use Rattle.afs_rows.specs.ClientRow.{server_at, server_or_first}
+use Rattle.afs_rows.specs.ClientRow.{server_or_first}
 use Rattle.afs_rows.specs.Runs.{Cell, Entry, counts_later, location_by, locations, locations_in}
 use Rattle.afs_rows.specs.States.{Location}
 use Rattle.std.proofs.Common.{◌≡◌, ℕ, ◌⊎◌, inl, inr, Bool, true, false, cond, eq-eqb, eqb-true, find, nat_eq, List, [], ◌∷◌, Option, Some, None, refl, sym, subst, ◌∙◌}
+
+-- where the table has the volume of this number
+abbrev pub server_at : List Location → ℕ → ℕ
+server_at t id = server_or_first (find (λ (l : Location). nat_eq l.read_write id) t)
 
 -- a call is sent to the server of each volume that it asks
 abbrev pub IsHome : Script → Head → List ℕ → FsCall → Type 0

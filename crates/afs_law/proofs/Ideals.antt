@@ -9,7 +9,7 @@ use Rattle.afs_ideal.specs.SetUp.{first_volume}
 use Rattle.afs_ideal.specs.Tables.{Table, get, set}
 use Rattle.afs_ideal.specs.Told.{Agrees}
 use Rattle.afs_ideal.specs.Volumes.{Edit, Volume, counted, edited_all, versions_by}
-use Rattle.afs_law.proofs.Acting.{Acts, begins_acts, falls_acts, given_acts, is_of, rises_acts, waits_acts, who_at}
+use Rattle.afs_law.proofs.Acting.{Acts, begins_acts, falls_acts, given_acts, is_of, rises_acts, waits_acts, who_at, missed_acts}
 use Rattle.afs_law.proofs.Backing.{all_lines}
 use Rattle.afs_law.proofs.Basics.{ByClient, IfCall, OfCall, at_more, at_put, both, by_client, each_at, same_node-refl}
 use Rattle.afs_law.proofs.Choosing.{AreLeft, IfCut, Saves, Works, disk_works, is_from, risen_from, risen_lines, serves_works, starts_works, times_works, wakes_works}
@@ -20,7 +20,7 @@ use Rattle.afs_law.proofs.KeysOnce.{IsKnown, any_told, by_key, server_number}
 use Rattle.afs_law.proofs.SettingUp.{FirstFacts, any_home, first_facts, found_there, ideal_first}
 use Rattle.afs_law.proofs.Moving.{Behind, EachMove, IsKept, each_moved, run_keeps}
 use Rattle.afs_law.proofs.Naming.{fine_after}
-use Rattle.afs_law.proofs.Origins.{KnownAsked, asked_first, asked_kept, of_client}
+use Rattle.afs_law.proofs.Origins.{KnownAsked, asked_first, asked_kept, of_client, sought_acts_in, handed_same}
 use Rattle.afs_law.proofs.Saving.{ideal_by, onto_versioned, volume_test}
 use Rattle.afs_law.specs.Ideal.{Accepts, applied, applied_by, brought, call_under, change_key, changed_under, is_at, last_version, set_up, versions_in, volume_after}
 use Rattle.afs_law.specs.Laws.{VolumesAreTold}
@@ -194,12 +194,12 @@ found_counts true v t id b (inr x) = x
 found_counts false v t id b (inl e) = ap is_some (get-set v.id id (first_volume v) t ∙ ap (λ (c : Bool). cond c (Some (first_volume v)) (get id t)) (eq-eqb v.id id e))
 found_counts false v t id b (inr x) = ap is_some (get-set v.id id (first_volume v) t) ∙ some_by (eqb v.id id) (first_volume v) (get id t) x
 
-at_counts : (id : ℕ) (q : Node) (vs : List VolumeLine) → is_at id q vs → counts_later id vs ≡ true
+pub at_counts : (id : ℕ) (q : Node) (vs : List VolumeLine) → is_at id q vs → counts_later id vs ≡ true
 at_counts id q [] h = absurd h
 at_counts id q (v ∷ vs) (inl x) = found_counts (is_some (get v.id (first_volumes vs))) v (first_volumes vs) id refl (inl x.1.0)
 at_counts id q (v ∷ vs) (inr x) = found_counts (is_some (get v.id (first_volumes vs))) v (first_volumes vs) id refl (inr (at_counts id q vs x))
 
-not_both : (a b id : ℕ) (vs : List VolumeLine) → counts_later a vs ≡ false → a ≡ id → counts_later id vs ≡ true → ⊥
+pub not_both : (a b id : ℕ) (vs : List VolumeLine) → counts_later a vs ≡ false → a ≡ id → counts_later id vs ≡ true → ⊥
 not_both a b id vs not same there = let z : counts_later a vs ≡ true = ap (λ (n : ℕ). counts_later n vs) same ∙ there in absurd cc
 
 pub one_place : (id : ℕ) (q r : Node) (vs : List VolumeLine) → is_at id q vs → is_at id r vs → q ≡ r
@@ -364,12 +364,14 @@ pub volumes_moves : (s : Script) → EachMove (Held s) (Behind (VolumesIn s))
 volumes_moves s = record {
   void = λ c past h. still_volumes s c.hosts c.sent c.sent past _ h.1 (same_grows c.sent) refl refl;
   ticked = λ c past n h. still_volumes s c.hosts c.sent c.sent past _ h.1 (same_grows c.sent) refl refl;
-  begun = λ c past n act h r. acts_volumes s c past n _ h.1 (begins_acts n (c.clients n) c.clock act r);
+  begun = λ c past n act h r z. acts_volumes s c past n _ h.1 (begins_acts n (c.clients n) c.clock act r z);
   told = λ c past n place m h at to. acts_volumes s c past n _ h.1 (given_acts (by_key (IsKnown h.0.0.keys.callees c.clients)) any_told n (c.clients n) c.clock place m (h.0.0.keys.replies n) (h.0.1.seats n));
+  sought = λ c past n place m k h at to z e. acts_volumes s c past n _ h.1 (sought_acts_in s c past n place m k h.0.1 at z e);
+  missed = λ c past n k h r z. acts_volumes s c past n _ h.1 (missed_acts n (c.clients n) k r z);
   waited = λ c past n act h r. acts_volumes s c past n _ h.1 (waits_acts n (c.clients n) act r);
-  fallen = λ c past n h. acts_volumes s c past n _ h.1 (falls_acts n (c.clients n));
+  fallen = λ c past n h. acts_volumes s c past n _ h.1 (falls_acts n c.handed (c.clients n) (handed_same s c past (h.0.1) n));
   risen = λ c past n h. acts_volumes s c past n _ h.1 (rises_acts n (c.clients n));
-  loc = λ c past l ls h st. still_volumes s c.hosts c.sent c.sent past _ h.1 (same_grows c.sent) refl (loc_blank ls st.lines);
+  loc = λ c past l ls ms h st. still_volumes s c.hosts c.sent (c.sent ++ ms) past _ h.1 (λ place m at. at_more c.sent ms place m at) refl (loc_blank ls st.lines);
   served = λ c past i place m armed h up at to. done_volumes s c past i armed (server_row (Server i) (c.hosts i).state c.clock place (Whole m)) h (serves_works (IsCalled c.sent) (Server i) (c.hosts i).state c.clock place m (λ rest. each_at (IfCall (IsOne c.sent)) c.sent place m at h.0.1.ones));
   cut = λ c past i place m t h up at to. falls_volumes s c past i (Some (in_step m c.clock t)) unarmed _ h (blow_blank i place t.stops) (λ k clock hit e. (place, subst (λ (y : Message). message_at c.sent place ≡ Some y) (same_cut m k c.clock clock t hit e) at));
   stopped = λ c past i h up. falls_volumes s c past i (Some at_rest) unarmed _ h refl (λ m clock hit e. absurd cc);
@@ -385,7 +387,7 @@ volumes_moves s = record {
 }
 
 pub held_kept : (s : Script) → IsKept (Held s)
-held_kept s c past x h = (asked_kept s c past x h.0, each_moved (Held s) (Behind (VolumesIn s)) (volumes_moves s) c past x h)
+held_kept s c past x so h = (asked_kept s c past x so h.0, each_moved (Held s) (Behind (VolumesIn s)) (volumes_moves s) c past x so h)
 
 -- ---- the set-up
 
@@ -456,7 +458,7 @@ volumes_first s =
     }
 
 pub held_at : (s : Script) (h : List Entry) (end : Cell) → RunsTo h s end → Held s end (past_of (set_up s ∷ []) h)
-held_at s h end r = run_keeps (Held s) (held_kept s) r.inputs (start s) (set_up s ∷ []) h end (asked_first s, volumes_first s) r.leads
+held_at s h end r = run_keeps (Held s) (held_kept s) r.inputs s (set_up s ∷ []) h end (asked_first s, volumes_first s) r.leads
 
 -- ---- the law
 

@@ -1,6 +1,8 @@
 -- A client makes a call where it begins an act, or is given the answer to the call before; else it sends that again. However many servers a cell has.
+use Rattle.afs_num.specs.declared.location_calls.LocCall.{LocCall}
+use Rattle.afs_law.proofs.Listing.{loc_uncalled}
 use Rattle.afs_history.specs.declared.scripts.Script.{Script}
-use Rattle.afs_law.proofs.Acting.{Acts, IsTheCall, begins_acts, given_acts, last_key, waits_acts, who_at}
+use Rattle.afs_law.proofs.Acting.{Acts, IsTheCall, begins_acts, given_acts, last_key, waits_acts, who_at, missed_acts, IfSeek, IsTheSeek, IsOwnSeek}
 use Rattle.afs_law.proofs.Asking.{its_last}
 use Rattle.afs_law.proofs.Basics.{ByClient, Each, IfCall, OfCall, a_key, both, by_client, each_map, if_call, same_key-true, same_node-true, some_of}
 use Rattle.afs_law.proofs.Calling.{IsUncalled, uncalled_any}
@@ -10,12 +12,14 @@ use Rattle.afs_law.proofs.KeysOnce.{IsKnown, any_told, by_key}
 use Rattle.afs_law.proofs.Knowing.{served_uncalled, started_uncalled, timed_uncalled, woken_uncalled}
 use Rattle.afs_law.proofs.Moving.{EachMove}
 use Rattle.afs_law.proofs.Numbered.{IsNumbered, Numbered}
-use Rattle.afs_law.proofs.Origins.{KnownAsked, of_client, same_key_at, the_calls}
-use Rattle.afs_law.proofs.Timing.{row_begun}
+use Rattle.afs_law.proofs.Origins.{quietly, KnownAsked, of_client, same_key_at, the_calls, sought_acts_in, IsUpToLast, if_seek, next_uncalled}
+use Rattle.afs_law.proofs.Beginning.{row_begun}
 use Rattle.afs_law.proofs.Unanswered.{is_its}
 use Rattle.afs_law.specs.Ideal.{call_in, call_under, callee_under}
-use Rattle.afs_law.specs.Legal.{HearsAnswer, IsFileReply, IsInTurn, IsLastCall, IsOfLastCall}
-use Rattle.afs_law.specs.Past.{IsCall, IsUpTo, answered_key, called_key, code_told, has_begun, has_sent, is_called, sent_of}
+use Rattle.afs_law.specs.Past as questions
+use Rattle.afs_num.specs.declared.histories.Actor.TheVariants as actors
+use Rattle.afs_law.specs.Legal.{HearsAnswer, IsFileReply, IsInTurn, IsLastCall, IsOfLastCall, IsAskedInTurn}
+use Rattle.afs_law.specs.Past.{IsCall, IsUpTo, answered_key, called_key, code_told, has_begun, has_sent, is_called, sent_of, AskedSince, has_called}
 use Rattle.afs_model.specs.Calls as pairs
 use Rattle.afs_model.specs.FsRows.{call_number}
 use Rattle.afs_model.specs.Calls.{Admitted, admitted}
@@ -32,14 +36,14 @@ use Rattle.afs_num.specs.declared.types.Head.{Head}
 use Rattle.afs_num.specs.declared.types.Key.{Key}
 use Rattle.afs_num.specs.declared.types.Node.{Node}
 use Rattle.afs_num.specs.declared.types.Node.TheVariants.{Client, Server}
-use Rattle.afs_rows.specs.ClientRow.{admits_call, awaits, breaks, call_of, client_row, counts, hears, is_awaited, opcode_of, runs_carried, timeout_row, whole}
-use Rattle.afs_rows.specs.Going.{ClientState, Going}
-use Rattle.afs_law.proofs.Steps.{server_moves, server_rises}
-use Rattle.afs_rows.specs.Runs.{Cell, Entry, Moved, begun_by_disk, message_at}
+use Rattle.afs_rows.specs.ClientRow.{question, admits_call, awaits, breaks, call_of, client_row, counts, hears, is_awaited, opcode_of, runs_carried, timeout_row, whole}
+use Rattle.afs_rows.specs.Going.{ClientState, Going, Seek}
+use Rattle.afs_law.proofs.Steps.{server_moves, server_rises, loc_becomes}
+use Rattle.afs_rows.specs.Runs.{Cell, Entry, Moved, begun_by_disk, message_at, user_at}
 use Rattle.afs_rows.specs.ServerRow.{key_of}
 use Rattle.afs_rows.specs.ServerSteps.{back_timeout_row, server_row, wake_row}
 use Rattle.afs_rows.specs.Steps.{Step}
-use Rattle.std.proofs.Common.{◌≡◌, ◌≤◌, ◌<◌, ◌⊎◌, ◌∙◌, ℕ, ℤ, arith, inl, inr, Bool, true, false, cond, List, [], ◌∷◌, Option, Some, None, pos, ap, eqb-true, refl, subst, sym}
+use Rattle.std.proofs.Common.{◌++◌, ◌≡◌, ◌≤◌, ◌<◌, ◌⊎◌, ◌∙◌, ℕ, ℤ, arith, inl, inr, Bool, true, false, cond, List, [], ◌∷◌, Option, Some, None, pos, ap, eqb-true, refl, subst, sym}
 use Rattle.std.specs.Prelude.{nat_eq, nat_lt}
 
 -- ---- the callee under a key
@@ -115,6 +119,9 @@ its_opcode c act head e =
 
 -- ---- that it awaits a header says the same as that this is one of its last call
 
+known_seeks : (s : Script) (c : Cell) (past : List Entry) → KnownAsked s c past → Each (IfSeek (IsUpToLast c.clients)) (sent_of past)
+known_seeks s c past h = subst (Each (IfSeek (IsUpToLast c.clients))) (sym h.0.hears.told) h.1.upto
+
 known_calls : (s : Script) (c : Cell) (past : List Entry) → (h : KnownAsked s c past) → Each (IfCall (KnownBy h.0.keys.callees c.clients)) (sent_of past)
 known_calls s c past h = subst (Each (IfCall (KnownBy h.0.keys.callees c.clients))) (sym h.0.hears.told) h.0.keys.calls
 
@@ -134,11 +141,36 @@ of_last_call s c past n act head h r to e =
       of = subst (λ (k : Key). call_under k (sent_of past) ≡ Some (x.user, call_of x act)) key (last_under s c past n act h r);
       from = subst (λ (k : Key). callee_under k (sent_of past) ≡ Some head.from) key (last_callee s c past n act h r ∙ ap Some (sym (its_callee x act head e)));
       opcode = its_opcode x act head e;
-      last = its_last h.0.keys.callees c.clients n (answered_key head) (sent_of past) (sym key) (known_calls s c past h);
+      last = its_last h.0.keys.callees c.clients n (answered_key head) (sent_of past) (sym key) (known_calls s c past h) (known_seeks s c past h);
     }
 
 same_at : (n m : Node) (a b c d : ℕ) → n ≡ m → a ≡ c → b ≡ d → a_key n a b ≡ a_key m c d
 same_at n m a b c d x y z = ap (λ (q : Node). a_key q a b) x ∙ (ap (λ (e : ℕ). a_key m e b) y ∙ ap (λ (i : ℕ). a_key m c i) z)
+
+-- what was asked of the location database is none above the last call of its node
+asks_up : (l k : Key) (user : List ℕ) (q : LocCall) (ms : List Message) → l.node ≡ k.node → questions.Asks l user q ms → IsLastCall k ms → IsUpTo l.epoch l.number k.epoch k.number
+asks_up l k user q [] node x h = absurd x
+asks_up l k user q (m ∷ ms) node (inl x) h = subst (λ (i : Key). IsUpTo i.epoch i.number k.epoch k.number) x.0 (h.0 (subst IsCall (sym x.1) tt) (ap (λ (i : Key). i.node) x.0 ∙ node))
+asks_up l k user q (m ∷ ms) node (inr x) h = asks_up l k user q ms node x h.1
+
+last_parts : (k : Key) (a b : List Message) → IsLastCall k (a ++ b) → IsLastCall k a × IsLastCall k b
+last_parts k [] b h = (tt, h)
+last_parts k (m ∷ a) b h = let p = last_parts k a b h.1 in ((h.0, p.0), p.1)
+
+since_up : (l k : Key) (user : List ℕ) (q : LocCall) (past : List Entry) → l.node ≡ k.node → AskedSince l user q past → IsLastCall k (sent_of past) → IsUpTo l.epoch l.number k.epoch k.number
+since_up l k user q [] node x h = absurd x
+since_up l k user q (e ∷ past) node (inl x) h = asks_up l k user q e.sent node x.1 (last_parts k (sent_of past) e.sent h).1
+since_up l k user q (e ∷ past) node (inr x) h = since_up l k user q past node x.1 (last_parts k (sent_of past) e.sent h).0
+
+-- while an act waits for it, the client's last call is what it asked
+pub seek_is_last : (s : Script) (c : Cell) (past : List Entry) (n : ℕ) (k : Seek) (head : Head) → KnownAsked s c past → (c.clients n).seeking ≡ Some k → head.to ≡ Client n → IsOfLastCall head past → answered_key head ≡ last_key n (c.clients n)
+seek_is_last s c past n k head h z to i =
+    let x : ClientState = c.clients n in
+    let l : Key = answered_key head in
+    let up : IsUpTo l.epoch l.number x.epoch x.last = called_up l (last_key n x) (i.user, i.call) (sent_of past) to i.of (its_last h.0.keys.callees c.clients n (last_key n x) (sent_of past) refl (known_calls s c past h) (known_seeks s c past h)) in
+    let down : IsUpTo x.epoch x.last l.epoch l.number = since_up (last_key n x) l (user_at s n) (question k.operand) past (sym to) (h.1.seeks n k z).asked i.last in
+    let same = both_up l.epoch l.number x.epoch x.last up down in
+    same_at head.to (Client n) l.epoch l.number x.epoch x.last to same.0 same.1
 
 -- the call of an act that runs, and what goes back under it is awaited
 pub record IsTheLast (n : ℕ) (c : ClientState) (act : Going) (head : Head) (call : FsCall) : Type 0 where
@@ -150,7 +182,7 @@ is_the_last s c past n act head h r to i =
     let x : ClientState = c.clients n in
     let k : Key = answered_key head in
     let under : call_under (last_key n x) (sent_of past) ≡ Some (x.user, call_of x act) = last_under s c past n act h r in
-    let up : IsUpTo k.epoch k.number x.epoch x.last = called_up k (last_key n x) (i.user, i.call) (sent_of past) to i.of (its_last h.0.keys.callees c.clients n (last_key n x) (sent_of past) refl (known_calls s c past h)) in
+    let up : IsUpTo k.epoch k.number x.epoch x.last = called_up k (last_key n x) (i.user, i.call) (sent_of past) to i.of (its_last h.0.keys.callees c.clients n (last_key n x) (sent_of past) refl (known_calls s c past h) (known_seeks s c past h)) in
     let down : IsUpTo x.epoch x.last k.epoch k.number = called_up (last_key n x) k (x.user, call_of x act) (sent_of past) (sym to) under i.last in
     let same = both_up k.epoch k.number x.epoch x.last up down in
     let key : k ≡ last_key n x = same_at head.to (Client n) k.epoch k.number x.epoch x.last to same.0 same.1 in
@@ -245,15 +277,19 @@ waits_last n c act = either_last (nat_lt c.tries 2) c _ _ refl refl
 abbrev HasTurn : ℕ → ClientState → Step ClientState → List Entry → Type 0
 HasTurn n c st past = (st.state.last ≡ c.last → ⊥) → (has_begun (Client n) st.lines ≡ true) ⊎ HearsAnswer (Client n) past st.lines
 
-was_sent : (n : ℕ) (x : ClientState) (act : Going) (sent : List Message) → x.running ≡ Some act → IsNumbered n x sent → has_sent (last_key n x) sent ≡ true
-was_sent n x act sent run (inl e) = absurd (none_runs x.running act e.1 run)
-was_sent n x act sent run (inr y) = y.0
+under_sent : (t : Bool) (x : Carried) (o : Option (List ℕ × FsCall)) (p : List ℕ × FsCall) (rest : Bool) → (o ≡ Some p → rest ≡ true) → cond t (call_in x) o ≡ Some p → cond t true rest ≡ true
+under_sent true x o p rest w e = refl
+under_sent false x o p rest w e = w e
 
-last_turn : (n : ℕ) (c : ClientState) (st : Step ClientState) (act : Going) (past : List Entry) → IsNumbered n c (sent_of past) → Acts n (who_at c) c.gifts st → HasTurn n c st past → st.state.running ≡ Some act → IsInTurn (last_key n st.state) (of_client n st ∷ past)
+was_sent : (k : Key) (sent : List Message) (p : List ℕ × FsCall) → call_under k sent ≡ Some p → has_sent k sent ≡ true
+was_sent k [] p e = absurd cc
+was_sent k (m ∷ sent) p e = under_sent (is_called k m.head m.carried) m.carried (call_under k sent) p (has_sent k sent) (was_sent k sent p) e
+
+last_turn : (n : ℕ) (c : ClientState) (st : Step ClientState) (act : Going) (past : List Entry) → ((g : Going) → c.running ≡ Some g → has_sent (last_key n c) (sent_of past) ≡ true) → Acts n (who_at c) c.gifts st → HasTurn n c st past → st.state.running ≡ Some act → IsInTurn (last_key n st.state) (of_client n st ∷ past)
 last_turn n c st act past numbered a turn run = elim a.goes [
   | inl r ↦ elim r.act [
     | inl none ↦ absurd (none_runs st.state.running act none run)
-    | inr same ↦ inl (subst (λ (k : Key). has_sent k (sent_of past) ≡ true) (sym (same_key_at n c st.state r.epoch r.last)) (was_sent n c act (sent_of past) (sym same.0 ∙ run) numbered))
+    | inr same ↦ inl (subst (λ (k : Key). has_sent k (sent_of past) ≡ true) (sym (same_key_at n c st.state r.epoch r.last)) (numbered act (sym same.0 ∙ run)))
   ]
   | inr y ↦ elim y [
     | inl z ↦ inr (turn (more_not st.state.last c.last z.last))
@@ -267,10 +303,28 @@ TakesTurn past head user call = IsInTurn (called_key head) past
 client_turns : (s : Script) (c : Cell) (past : List Entry) (n : ℕ) (st : Step ClientState) → Numbered s c past → Acts n (who_at (c.clients n)) (c.clients n).gifts st → HasTurn n (c.clients n) st past → Each (IfCall (TakesTurn (of_client n st ∷ past))) st.sent
 client_turns s c past n st h a turn =
     let x : ClientState = c.clients n in
-    let numbered : IsNumbered n x (sent_of past) = subst (IsNumbered n x) (sym h.0.0.0.0.hears.told) (h.1 n) in
+    let numbered : (g : Going) → x.running ≡ Some g → has_sent (last_key n x) (sent_of past) ≡ true = λ g r. was_sent (last_key n x) (sent_of past) (x.user, call_of x g) (last_under s c past n g h.0.0.0 r) in
     let now : (head : Head) (user : List ℕ) (call : FsCall) → IsTheCall n st.state head user call → TakesTurn (of_client n st ∷ past) head user call =
     λ head user call i. subst (λ (k : Key). IsInTurn k (of_client n st ∷ past)) (sym i.key) (last_turn n x st i.act past numbered a turn i.runs) in
     each_map (IfCall (IsTheCall n st.state)) (IfCall (TakesTurn (of_client n st ∷ past))) (if_call (IsTheCall n st.state) (TakesTurn (of_client n st ∷ past)) now) st.sent (the_calls n x st a.goes)
+
+-- and what it asks the location database
+abbrev pub TakesAsk : List Entry → Head → List ℕ → LocCall → Type 0
+TakesAsk past head user call = IsAskedInTurn (called_key head) user call past
+
+client_asks : (s : Script) (c : Cell) (past : List Entry) (n : ℕ) (st : Step ClientState) → KnownAsked s c past → Acts n (who_at (c.clients n)) (c.clients n).gifts st → HasTurn n (c.clients n) st past → Each (IfSeek (TakesAsk (of_client n st ∷ past))) st.sent
+client_asks s c past n st h a turn =
+    let x : ClientState = c.clients n in
+    let now : (head : Head) (user : List ℕ) (call : LocCall) → IsTheSeek n st.state head user call → TakesAsk (of_client n st ∷ past) head user call =
+    λ head user call i. subst (λ (k : Key). IsAskedInTurn k user call (of_client n st ∷ past)) (sym i.key) (elim (a.seeks i.its i.seeks) [
+      | inl on ↦ inl (
+        on.begins,
+        subst (λ (k : Key). AskedSince k user call past) (sym (same_key_at n x st.state on.epoch on.last))
+            (subst (λ (u : List ℕ). AskedSince (last_key n x) u call past) (sym (i.user' ∙ (a.user ∙ h.1.user n))) (subst (λ (q : LocCall). AskedSince (last_key n x) (user_at s n) q past) (sym i.asks) (h.1.seeks n i.its on.before).asked)),
+      )
+      | inr w ↦ inr (next_uncalled s c past n (last_key n st.state) h.0 h.1 (record { node = refl; epoch = w.above.0; number = w.above.1 }), turn (more_not st.state.last x.last w.above.1))
+    ]) in
+    each_map (IsOwnSeek n st.state) (IfSeek (TakesAsk (of_client n st ∷ past))) (if_seek (IsTheSeek n st.state) (TakesAsk (of_client n st ∷ past)) now) st.sent a.keys
 
 told_turn : (s : Script) (c : Cell) (past : List Entry) (n place : ℕ) (m : Message) → Numbered s c past → message_at c.sent place ≡ Some m → m.head.to ≡ Client n → HasTurn n (c.clients n) (client_row (Client n) (c.clients n) c.clock place (Whole m)) past
 told_turn s c past n place m h at to other = elim (row_stays n c.clock place (c.clients n) m to) [
@@ -280,31 +334,40 @@ told_turn s c past n place m h at to other = elim (row_stays n c.clock place (c.
 
 -- ---- every step
 
-abbrev pub TurnsNow : Cell → List Entry → Moved → Type 0
-TurnsNow c past m = Each (IfCall (TakesTurn (m.entry ∷ past))) m.entry.sent
+abbrev TurnsNow' : List Entry → Moved → Type 0
+TurnsNow' past m = Each (IfCall (TakesTurn (m.entry ∷ past))) m.entry.sent × ((j : ℕ) → m.entry.actor ≡ actors.Node (Client j) → Each (IfSeek (TakesAsk (m.entry ∷ past))) m.entry.sent)
 
-none_turn : (past : List Entry) (m : Moved) → Each IsUncalled m.entry.sent → Each (IfCall (TakesTurn (m.entry ∷ past))) m.entry.sent
-none_turn past m h = each_map IsUncalled (IfCall (TakesTurn (m.entry ∷ past))) (uncalled_any (TakesTurn (m.entry ∷ past))) m.entry.sent h
+abbrev pub TurnsNow : Cell → List Entry → Moved → Type 0
+TurnsNow c past m = Each (IfCall (TakesTurn (m.entry ∷ past))) m.entry.sent × ((j : ℕ) → m.entry.actor ≡ actors.Node (Client j) → Each (IfSeek (TakesAsk (m.entry ∷ past))) m.entry.sent)
+
+none_turn : (past : List Entry) (m : Moved) → Each IsUncalled m.entry.sent → ((j : ℕ) → m.entry.actor ≡ actors.Node (Client j) → ⊥) → TurnsNow' past m
+none_turn past m h other = (each_map IsUncalled (IfCall (TakesTurn (m.entry ∷ past))) (uncalled_any (TakesTurn (m.entry ∷ past))) m.entry.sent h, λ j e. absurd (other j e))
+
+client_both : (s : Script) (c : Cell) (past : List Entry) (n : ℕ) (st : Step ClientState) → Numbered s c past → Acts n (who_at (c.clients n)) (c.clients n).gifts st → HasTurn n (c.clients n) st past
+    → Each (IfCall (TakesTurn (of_client n st ∷ past))) st.sent × ((j : ℕ) → actors.Node (Client n) ≡ actors.Node (Client j) → Each (IfSeek (TakesAsk (of_client n st ∷ past))) st.sent)
+client_both s c past n st h a turn = (client_turns s c past n st h a turn, λ j e. client_asks s c past n st h.0.0.0 a turn)
 
 pub turn_moves : (s : Script) → EachMove (Numbered s) TurnsNow
 turn_moves s = record {
-  void = λ c past h. tt;
-  ticked = λ c past n h. tt;
-  begun = λ c past n act h r. client_turns s c past n _ h (begins_acts n (c.clients n) c.clock act r) (λ other. inl (row_begun (c.clients n) n c.clock act));
-  told = λ c past n place m h at to. client_turns s c past n _ h (given_acts (by_key (IsKnown h.0.0.0.0.keys.callees c.clients)) any_told n (c.clients n) c.clock place m (h.0.0.0.0.keys.replies n) (h.0.0.0.1.seats n)) (told_turn s c past n place m h at to);
-  waited = λ c past n act h r. client_turns s c past n _ h (waits_acts n (c.clients n) act r) (λ other. absurd (other (waits_last n (c.clients n) act)));
-  fallen = λ c past n h. tt;
-  risen = λ c past n h. tt;
-  loc = λ c past l ls h st. tt;
-  served = λ c past i place m armed h up at to. none_turn past (server_moves c i armed (server_row (Server i) (c.hosts i).state c.clock place (Whole m))) (served_uncalled c past i place m h.0.0.0.0 at);
-  cut = λ c past i place m t h up at to. tt;
-  stopped = λ c past i h up. tt;
-  stop_set = λ c past i calls pick armed h up. tt;
-  fail_set = λ c past i call armed h up. tt;
-  timed = λ c past i n b armed h up at. none_turn past (server_moves c i armed (back_timeout_row (Server i) (c.hosts i).state c.clock n b)) (timed_uncalled c past i n b h.0.0.0.0);
-  woken = λ c past i armed h up. none_turn past (server_moves c i armed (wake_row (Server i) (c.hosts i).state c.clock)) (woken_uncalled c past i h.0.0.0.0);
-  started = λ c past i after fall h down. none_turn past (server_rises c i (begun_by_disk (Server i) (c.hosts i).state after fall)) (started_uncalled c past i after fall h.0.0.0.0 down);
-  early = λ c past i fall h down. tt;
-  midway = λ c past i after fall h down. tt;
-  full = λ c past i after fall h down. tt;
+  void = λ c past h. (tt, λ j e. tt);
+  ticked = λ c past n h. (tt, λ j e. tt);
+  begun = λ c past n act h r z0. client_both s c past n _ h (begins_acts n (c.clients n) c.clock act r z0) (λ other. inl (row_begun (c.clients n) n c.clock act));
+  told = λ c past n place m h at to. client_both s c past n _ h (given_acts (by_key (IsKnown h.0.0.0.0.keys.callees c.clients)) any_told n (c.clients n) c.clock place m (h.0.0.0.0.keys.replies n) (h.0.0.0.1.seats n)) (told_turn s c past n place m h at to);
+  sought = λ c past n place m k h at to z e. client_both s c past n _ h (sought_acts_in s c past n place m k h.0.0.0.1 at z e) (λ other. absurd (other (quietly s c past n place m k (λ st. st.state.last ≡ (c.clients n).last) h.0.0.0.1 at z e (λ code. refl) refl refl)));
+  missed = λ c past n k h r z. client_both s c past n _ h (missed_acts n (c.clients n) k r z) (λ other. absurd (other (either_last (nat_lt (c.clients n).tries 2) (c.clients n) _ _ refl refl)));
+  loc = λ c past l ls ms h st. none_turn past (loc_becomes c l ls ms) (loc_uncalled c l ls ms st) (λ j e. absurd cc);
+  waited = λ c past n act h r. client_both s c past n _ h (waits_acts n (c.clients n) act r) (λ other. absurd (other (waits_last n (c.clients n) act)));
+  fallen = λ c past n h. (tt, λ j e. tt);
+  risen = λ c past n h. (tt, λ j e. tt);
+  served = λ c past i place m armed h up at to. none_turn past (server_moves c i armed (server_row (Server i) (c.hosts i).state c.clock place (Whole m))) (served_uncalled c past i place m h.0.0.0.0 at) (λ j e. absurd cc);
+  cut = λ c past i place m t h up at to. (tt, λ j e. tt);
+  stopped = λ c past i h up. (tt, λ j e. tt);
+  stop_set = λ c past i calls pick armed h up. (tt, λ j e. tt);
+  fail_set = λ c past i call armed h up. (tt, λ j e. tt);
+  timed = λ c past i n b armed h up at. none_turn past (server_moves c i armed (back_timeout_row (Server i) (c.hosts i).state c.clock n b)) (timed_uncalled c past i n b h.0.0.0.0) (λ j e. absurd cc);
+  woken = λ c past i armed h up. none_turn past (server_moves c i armed (wake_row (Server i) (c.hosts i).state c.clock)) (woken_uncalled c past i h.0.0.0.0) (λ j e. absurd cc);
+  started = λ c past i after fall h down. none_turn past (server_rises c i (begun_by_disk (Server i) (c.hosts i).state after fall)) (started_uncalled c past i after fall h.0.0.0.0 down) (λ j e. absurd cc);
+  early = λ c past i fall h down. (tt, λ j e. tt);
+  midway = λ c past i after fall h down. (tt, λ j e. tt);
+  full = λ c past i after fall h down. (tt, λ j e. tt);
 }

@@ -1,10 +1,12 @@
 -- What a client keeps rests on a reply that it was given, and it dropped nothing of it since, however many servers a cell has.
+use Rattle.afs_law.specs.LocLaws.{IsToldIn}
+use Rattle.afs_history.specs.declared.acts.Operand.{Operand}
 use Rattle.afs_history.specs.declared.acts.Act.{Act}
 use Rattle.afs_history.specs.declared.lines.Line.{Line}
 use Rattle.afs_history.specs.declared.lines.Line.TheVariants as lines
 use Rattle.afs_history.specs.declared.scripts.Script.{Script}
 use Rattle.afs_ideal.specs.Operations.{volume_changed}
-use Rattle.afs_law.proofs.Acting.{Acts, begins_acts, falls_acts, given_acts, rises_acts, waits_acts, who_at}
+use Rattle.afs_law.proofs.Acting.{Acts, begins_acts, falls_acts, given_acts, rises_acts, waits_acts, who_at, IsPlaced, missed_acts, by_quiet, sought_quiet}
 use Rattle.afs_law.proofs.Apart.{apart_filter, apart_put, apart_refreshed, found_filter, found_out, put_found}
 use Rattle.afs_law.proofs.Backing.{all_lines}
 use Rattle.afs_law.proofs.Basics.{at_put, both, each_at, found-cached-fid, found-refreshed, same_fid-refl, same_fid-true, same_node-refl, same_node-true, some_of}
@@ -16,7 +18,7 @@ use Rattle.afs_law.proofs.Following.{dropped_named, in_named}
 use Rattle.afs_law.proofs.Gifts.{Given, given_first, given_kept}
 use Rattle.afs_law.proofs.KeysOnce.{IsKnown, any_told, by_key}
 use Rattle.afs_law.proofs.Moving.{Behind, EachMove, IsKept, each_moved, run_keeps}
-use Rattle.afs_law.proofs.Origins.{Leaves, any_cut, any_message, blow_idle, idle_leaves, idle_works, is_idle, of_client, other_leaves, loc_idle}
+use Rattle.afs_law.proofs.Origins.{Leaves, any_cut, any_message, blow_idle, idle_leaves, idle_works, is_idle, of_client, other_leaves, loc_idle, sought_acts_in, placed_in, told_in, handed_same}
 use Rattle.afs_law.proofs.Walking.{walked_apart, walked_found}
 use Rattle.afs_law.specs.Breaks.{IsNamedIn}
 use Rattle.afs_law.specs.ClientParts.{CachedAreFetched, IsFetchedEntry, lines_since_fetch}
@@ -53,10 +55,11 @@ use Rattle.afs_num.specs.declared.types.Head.{Head}
 use Rattle.afs_num.specs.declared.types.Node.{Node}
 use Rattle.afs_num.specs.declared.types.Node.TheVariants.{Client, Server}
 use Rattle.afs_rows.specs.Callbacks.{put}
-use Rattle.afs_rows.specs.ClientRow.{Look, Walked, admits_call, awaits, begin_row, begins_by, behind_batch, body_told, breaks, call_of, calls_again, client_row, counts, dead_code, done, drop_line, dropped, dropped_after, ended, entries_told, entry_told, find_cached, gift_of, given, given_up_in, gives_by, goes_by, hears, ignores, in_order, is_awaited, is_below, is_busy_code, is_named, is_older, is_spent, is_trusted, left_after, left_in, look_at, looked, most_busy, most_reads, put_entries, put_entry, read_lines, refreshed, replies_step, runs_carried, status_look, status_told, takes, takes_bulk, takes_data, takes_entries, takes_entry, takes_given, takes_list, takes_set, takes_shown, takes_status, timeout_line, timeout_row, trusted_in, untrusted_in, walked, walks_on, whole, with_statuses, without_fids, without_server, zero_code}
-use Rattle.afs_rows.specs.Going.{ClientState, Going, Need, answers, began, gives_back, next, with_read}
+use Rattle.afs_rows.specs.ClientRow.{Look, Walked, admits_call, awaits, begin_row, begins_by, behind_batch, body_told, breaks, call_of, calls_again, client_row, counts, dead_code, done, drop_line, dropped, dropped_after, ended, entries_told, entry_told, find_cached, gift_of, given, given_up_in, gives_by, goes_by, hears, ignores, in_order, is_awaited, is_below, is_busy_code, is_named, is_older, is_spent, is_trusted, left_after, left_in, look_at, looked, most_busy, most_reads, put_entries, put_entry, read_lines, refreshed, replies_step, runs_carried, status_look, status_told, takes, takes_bulk, takes_data, takes_entries, takes_entry, takes_given, takes_list, takes_set, takes_shown, takes_status, timeout_line, timeout_row, trusted_in, untrusted_in, walked, walks_on, whole, with_statuses, without_fids, without_server, zero_code, asks_where, answers_step, seeking_for, is_gone_code, most_moved, volume_asked, sought_by, seek_timeout_row}
+use Rattle.afs_rows.specs.Going.{ClientState, Going, Need, answers, began, gives_back, next, with_read, operand_in, Seek}
 use Rattle.afs_law.proofs.Steps.{blow_line, server_falls, server_moves, server_rises, server_set, server_stays, loc_becomes}
 use Rattle.afs_rows.specs.Runs.{Cell, Entry, at_rest, begun_by_disk, in_boot, in_step, message_at, start, ticked, voided}
+use Rattle.afs_law.proofs.Steps.{loc_becomes}
 use Rattle.afs_rows.specs.Scopes.{is_in_scope}
 use Rattle.afs_rows.specs.ServerSteps.{back_timeout_row, server_row, wake_row}
 use Rattle.afs_rows.specs.States.{CacheEntry, Gift}
@@ -393,12 +396,19 @@ pub record IsHeard (n place : ℕ) (head : Head) (x : Carried) (past : List Entr
   pub to : head.to ≡ Client n
   pub firm : IsFirm head x
 
+answer_keeps : (n place : ℕ) (c : ClientState) (code : Code) (past : List Entry) → AreApart c.cache → Keeps n c.cache past (answers_step (Client n) c place code)
+answer_keeps n place c code past apart = record { apart = apart; each = then_given n place c.cache past (lines.Answer (Client n) code ∷ []) c.cache (same_old n c.cache (lines.Answer (Client n) code ∷ []) (answer_tail n code)) }
+
+where_keeps : (n place : ℕ) (c : ClientState) (act : Going) (code : Code) (past : List Entry) (o : Option Operand) → AreApart c.cache → Keeps n c.cache past (asks_where (Client n) c place act code o)
+where_keeps n place c act code past None apart = answer_keeps n place c code past apart
+where_keeps n place c act code past (Some o) apart = told_keeps n place c (seeking_for (record c { moved = c.moved + 1 }) _ c.cache) past _ apart refl
+
 counts_keeps : (n clock place : ℕ) (c : ClientState) (act : Going) (head : Head) (x : Carried) (past : List Entry) → AreApart c.cache → IsHeard n place head x past → is_awaited c act head ≡ true → Keeps n c.cache past (counts (Client n) c clock place act head x)
 counts_keeps n clock place c act head (carried.Call user call) past apart w e = told_keeps n place c c past [] apart refl
 counts_keeps n clock place c act head (carried.Refusal code) past apart w e =
     either_keeps (is_spent c act) n c.cache past _ _ (again_keeps n place c c past act apart refl)
     (either_keeps (is_busy_code code && nat_lt c.busy most_busy) n c.cache past _ _ (again_keeps n place c (record c { busy = c.busy + 1 }) past act apart refl)
-    (record { apart = apart; each = then_given n place c.cache past (lines.Answer (Client n) code ∷ []) c.cache (same_old n c.cache (lines.Answer (Client n) code ∷ []) (answer_tail n code)) }))
+    (either_keeps (is_gone_code code && nat_lt c.moved most_moved) n c.cache past _ _ (where_keeps n place c act code past (operand_in act (volume_asked (call_of c act))) apart) (answer_keeps n place c code past apart)))
 counts_keeps n clock place c act head (carried.Reply (tell.File reply)) past apart w e =
     either_keeps (is_spent c act) n c.cache past _ _ (again_keeps n place c c past act apart refl)
     (takes_keeps n clock place c (record { head = head; carried = carried.Reply (tell.File reply) }) past act (call_of c act) reply apart
@@ -488,7 +498,7 @@ first_keeps n clock y act g need past apart = walks_keeps n y clock y.cache y.ca
 
 pub begins_keep : (n clock : ℕ) (c : ClientState) (act : Act) (past : List Entry) → AreApart c.cache → Keeps n c.cache past (begin_row (Client n) c clock act)
 unfolding begin_row
-begins_keep n clock c act past apart = first_keeps n clock (record c { busy = 0 }) act (began c.table act) (next (began c.table act)) past apart
+begins_keep n clock c act past apart = first_keeps n clock (record c { busy = 0; moved = 0 }) act (began c.table act) (next (began c.table act)) past apart
 
 dead_old : (n : ℕ) (cache : List CacheEntry) (o : Option ℕ) → AreApart cache → (f : Fid) (e : CacheEntry) → find_cached f (left_in o cache) ≡ Some e → IsOldEntry n cache (dropped (Client n) (given_up_in o cache) (lines.Answer (Client n) dead_code ∷ [])) f e
 dead_old n cache None apart f e found = same_old n cache (lines.Answer (Client n) dead_code ∷ []) (answer_tail n dead_code) f e found
@@ -549,6 +559,18 @@ own_kept n c st past h k f e found = elim (k.each f e found) [
   | inr x ↦ new_kept n f e (of_client n st) past x
 ]
 
+-- an act that waits for the location database leaves the cache
+pub sought_keep : (s : Script) (n : ℕ) (c : ClientState) (clock place : ℕ) (k : Seek) (m : Message) (past : List Entry) → IsPlaced s c k → IsToldIn s m.carried → AreApart c.cache → Keeps n c.cache past (sought_by (Client n) c clock place k m.head m.carried)
+sought_keep s n c clock place k m past p w apart =
+    by_quiet (Keeps n c.cache past) n c place k m.head m.carried (sought_by (Client n) c clock place k m.head m.carried) (sought_quiet s n c clock place k m.head m.carried p w)
+    (λ code x y. record { apart = apart; each = then_given n place c.cache past (lines.Answer (Client n) code ∷ []) c.cache (same_old n c.cache (lines.Answer (Client n) code ∷ []) (answer_tail n code)) })
+    (told_keeps n place c c past [] apart refl) (told_keeps n place c _ past _ apart refl)
+
+pub missed_keep : (n : ℕ) (c : ClientState) (k : Seek) (past : List Entry) → AreApart c.cache → Keeps n c.cache past (seek_timeout_row (Client n) c k)
+missed_keep n c k past apart = either_keeps (nat_lt c.tries 2) n c.cache past _ _
+    (record { apart = apart; each = λ f e found. same_entries n c.cache past (timeout_line (Client n) c (c.tries + 1) ∷ []) (record { fetched = λ g. refl; spares = λ q g o x. x }) f e found })
+    (record { apart = apart; each = λ f e found. same_entries n c.cache past (timeout_line (Client n) c 3 ∷ lines.Answer (Client n) dead_code ∷ []) (record { fetched = λ g. refl; spares = λ q g o x. x }) f e found })
+
 client_kept : (s : Script) (c : Cell) (past : List Entry) (n : ℕ) (st : Step ClientState) → KeptIn c past → Acts n (who_at (c.clients n)) (c.clients n).gifts st → Keeps n (c.clients n).cache past st → Rested (put n st.state c.clients) (of_client n st ∷ past)
 client_kept s c past n st h a k j =
     at_put n j (λ (x : ClientState). AreApart x.cache × ((f : Fid) (e : CacheEntry) → find_cached f x.cache ≡ Some e → IsFetchedEntry j f e (of_client n st ∷ past))) st.state c.clients
@@ -566,12 +588,14 @@ kept_moves : (s : Script) → EachMove (GivenKept s) (Behind KeptIn)
 kept_moves s = record {
   void = λ c past h. idle_kept s c past (voided c).entry h.1 refl;
   ticked = λ c past n h. idle_kept s c past (ticked c (suc n)).entry h.1 refl;
-  begun = λ c past n act h r. client_kept s c past n _ h.1 (begins_acts n (c.clients n) c.clock act r) (begins_keep n c.clock (c.clients n) act past (h.1 n).0);
+  begun = λ c past n act h r z. client_kept s c past n _ h.1 (begins_acts n (c.clients n) c.clock act r z) (begins_keep n c.clock (c.clients n) act past (h.1 n).0);
   told = λ c past n place m h at to. client_kept s c past n _ h.1 (given_acts (by_key (IsKnown h.0.0.0.0.0.keys.callees c.clients)) any_told n (c.clients n) c.clock place m (h.0.0.0.0.0.keys.replies n) (h.0.0.0.0.1.seats n)) (given_keep n c.clock place (c.clients n) m past (h.1 n).0 (heard_now s c past n place m h.0 at to));
+  sought = λ c past n place m k h at to z e. client_kept s c past n _ h.1 (sought_acts_in s c past n place m k h.0.0.0.0.1 at z e) (sought_keep s n (c.clients n) c.clock place k m past (placed_in s c past n k h.0.0.0.0.1 z) (told_in s c past n place m k h.0.0.0.0.1 at e) (h.1 n).0);
+  missed = λ c past n k h r z. client_kept s c past n _ h.1 (missed_acts n (c.clients n) k r z) (missed_keep n (c.clients n) k past (h.1 n).0);
+  loc = λ c past l ls ms h st. idle_kept s c past (loc_becomes c l ls ms).entry h.1 (loc_idle ls st.lines);
   waited = λ c past n act h r. client_kept s c past n _ h.1 (waits_acts n (c.clients n) act r) (waits_keep n (c.clients n) act past (h.1 n).0);
-  fallen = λ c past n h. client_kept s c past n _ h.1 (falls_acts n (c.clients n)) (record { apart = tt; each = λ f e found. absurd cc });
+  fallen = λ c past n h. client_kept s c past n _ h.1 (falls_acts n c.handed (c.clients n) (handed_same s c past (h.0.0.0.0.1) n)) (record { apart = tt; each = λ f e found. absurd cc });
   risen = λ c past n h. client_kept s c past n _ h.1 (rises_acts n (c.clients n)) (record { apart = (h.1 n).0; each = λ f e found. same_entries n (c.clients n).cache past (lines.Restart (Client n) (c.clients n).epoch ∷ []) (record { fetched = λ g. refl; spares = λ q g o x. x }) f e found });
-  loc = λ c past l ls h st. idle_kept s c past (loc_becomes c l ls).entry h.1 (loc_idle ls st.lines);
   served = λ c past i place m armed h up at to. idle_kept s c past (server_moves c i armed (server_row (Server i) (c.hosts i).state c.clock place (Whole m))).entry h.1 (idle_works any_message i (c.hosts i).state _ _ (serves_works any_message (Server i) (c.hosts i).state c.clock place m (λ rest. tt)));
   cut = λ c past i place m t h up at to. idle_kept s c past (server_falls c i (lines.Given place ∷ blow_line i t.stops ∷ []) (in_step m c.clock t)).entry h.1 (blow_idle i t.stops);
   stopped = λ c past i h up. idle_kept s c past (server_falls c i (lines.Crash (Server i) ∷ []) at_rest).entry h.1 refl;
@@ -586,10 +610,10 @@ kept_moves s = record {
 }
 
 pub kept_kept : (s : Script) → IsKept (GivenKept s)
-kept_kept s c past x h = (given_kept s c past x h.0, each_moved (GivenKept s) (Behind KeptIn) (kept_moves s) c past x h)
+kept_kept s c past x so h = (given_kept s c past x so h.0, each_moved (GivenKept s) (Behind KeptIn) (kept_moves s) c past x so h)
 
 pub kept_first : (s : Script) → GivenKept s (start s) (set_up s ∷ [])
 kept_first s = (given_first s, λ j. (tt, λ f e found. absurd cc))
 
 pub run_kept : CachedAreFetched
-run_kept s h end r j f e found = ((run_keeps (GivenKept s) (kept_kept s) r.inputs (start s) (set_up s ∷ []) h end (kept_first s) r.leads).1 j).1 f e found
+run_kept s h end r j f e found = ((run_keeps (GivenKept s) (kept_kept s) r.inputs s (set_up s ∷ []) h end (kept_first s) r.leads).1 j).1 f e found

@@ -1,24 +1,29 @@
 -- What holds of keys in a run, whatever servers a cell has: a client makes each call to one server, which runs it only above that
 -- caller's last one that changed something. So a key changes something at most once, and no call or reply has one to come.
-use Rattle.afs_law.proofs.Moving.{loc_armed_to, loc_restarted_to, loc_stopped_to, LocMoves}
-use Rattle.afs_law.proofs.LocLines.{all_of_loc, is_of_loc, stop_step, fail_step}
+use Rattle.afs_law.proofs.Moving.{loc_armed_to, loc_restarted_to, loc_stopped_to}
+use Rattle.afs_law.proofs.LocLines.{all_of_loc, is_of_loc}
 use Rattle.afs_history.specs.declared.acts.Act.{Act}
 use Rattle.afs_law.proofs.Backing.{all_lines, is_unchanging}
 use Rattle.afs_law.proofs.Basics.{a_key, same_key-true, Above, Each, IfCall, IfReply, OfClient, OfReply, by_client, if_reply, runs_admitted, UpTo, at_put, below_not, below_up_to, client_number, each_at, each_map, each_more, if_call, node_apart, same_key-refl, up_to_below, up_to_same, below-true, below-false, some_of, OfNotice, OfCall, ByClient}
-use Rattle.afs_law.proofs.Calling.{mild_unchanging, AreReplies, IsAnswer, answer_over, GoesOn, IsLastOf, Tame, begins_tame, caller_at, falls_tame, given_tame, rises_tame, uncalled_any, waits_tame, any_call}
+use Rattle.afs_law.proofs.Calling.{mild_unchanging, AreReplies, IsAnswer, answer_over, GoesOn, IsLastOf, Tame, begins_tame, caller_at, falls_tame, given_tame, rises_tame, uncalled_any, waits_tame, any_call, guest_tame, missed_tame}
+use Rattle.afs_law.proofs.Listing.{IsLocStep, IsOfLoc, IsSoundLoc, cut_loc, line_loc, loc_reply, loc_unchanging, no_server_loc, served_loc, started_loc, stays_loc, fail_line, stop_line}
+use Rattle.afs_law.proofs.Moving.{first_sound, loc_armed_to, loc_received_to, loc_restarted_to, loc_stopped_to, sound_moved}
+use Rattle.afs_rows.specs.ClientRow.{act_of}
+use Rattle.afs_rows.specs.LocRow.{loc_device_calls}
+use Rattle.afs_rows.specs.LocSteps.{LocHost}
 use Rattle.afs_law.proofs.Hosting.{Begins, HasOne, HostStep, Hosts, IsCutBy, IsSound, Memory, decides_due, disk_begins, memory_of, serves_step, starts_step, times_step, wakes_step, IsRunBy}
-use Rattle.afs_law.specs.Laws.{ArePairsKnown, IsKnownTo, AreChanges, HasReply, seat_key}
+use Rattle.afs_law.specs.Laws.{IsKnownTo, AreChanges, HasReply, seat_key}
 use Rattle.afs_law.proofs.Saving.{later_by}
 use Rattle.afs_law.specs.Legal.{HasChangeBy, IsNew}
 use Rattle.afs_law.specs.Once.{AreOnce, ChangesOnce, past_of}
-use Rattle.afs_law.specs.Past.{IsLatest, IsUpTo, HasCode, IsCall, answered_key, called_key, lines_of, onto, same_key}
+use Rattle.afs_law.specs.Past.{IsLatest, IsUpTo, HasCode, IsCall, answered_key, called_key, lines_of, onto, same_key, IsFileCall}
 use Rattle.afs_rows.specs.Callbacks.{put, replies_of}
-use Rattle.afs_rows.specs.Going.{ClientState, Going}
-use Rattle.afs_law.proofs.Steps.{blow_line, calls_at, server_moves, falls_is, sets_is, stays_is}
+use Rattle.afs_rows.specs.Going.{ClientState, Going, Seek}
+use Rattle.afs_law.proofs.Steps.{loc_becomes, blow_line, calls_at, server_moves, falls_is, sets_is, stays_is}
 use Rattle.afs_rows.specs.Hosts.{sets}
 use Rattle.afs_rows.specs.ServerHosts.{can_start}
-use Rattle.afs_rows.specs.Runs.{is_away, Armed, Blow, Cell, Entry, Fall, Input, Leads, Luck, Moved, Outcome, RunsTo, at_rest, back_timed, begins, begun_by, begun_by_disk, client_moves, client_starts, client_stops, comes_up, fails_early, fails_midway, given_at, given_to, gives, has_host, in_boot, in_step, is_full, message_at, moved, nothing, server_armed, server_ends, server_given, server_restarted, server_served, server_stopped, server_timed, server_waits, server_wakes, sets_fail, sets_stop, settled, start, starts_again, stops, struck, ticks, unarmed, voided, waited_by, waits, wakes, ServerHost}
-use Rattle.afs_rows.specs.ServerRow.{key_of}
+use Rattle.afs_rows.specs.Runs.{is_away, Armed, Blow, Cell, Entry, Fall, Input, Leads, Luck, Moved, Outcome, RunsTo, at_rest, back_timed, begins, begun_by, begun_by_disk, client_moves, client_starts, client_stops, comes_up, fails_early, fails_midway, given_at, given_to, gives, has_host, in_boot, in_step, is_full, message_at, moved, nothing, server_armed, server_ends, server_given, server_restarted, server_served, server_stopped, server_timed, server_waits, server_wakes, sets_fail, sets_stop, settled, start, starts_again, stops, struck, ticks, unarmed, voided, waited_by, waits, wakes, ServerHost, sought_for}
+use Rattle.afs_rows.specs.ServerRow.{key_of, reply_head}
 use Rattle.afs_rows.specs.States.{Seat, BackCall, ServerState}
 use Rattle.afs_rows.specs.Steps.{Step, Begun}
 use Rattle.afs_model.specs.Calls as pairs
@@ -126,9 +131,13 @@ pub record HasRun (callees : Key → Node) (clients : ℕ → ClientState) (host
 abbrev pub last_of : ℕ → ClientState → Key
 last_of j c = record { node = Client j; epoch = c.epoch; number = c.last }
 
--- the header is that of a reply under such a key
+-- the header, if it is a server's, is that of a reply under such a key
 abbrev pub by_key : (Node → Key → Type 0) → Head → Type 0
-by_key K h = K h.from (answered_key h)
+by_key K h = (i : ℕ) → h.from ≡ Server i → K h.from (answered_key h)
+
+-- what is known of a call is so of its reply
+pub by_calls : (K : Node → Key → Type 0) (boot : ℕ) (m : Message) → IfCall (λ h user call. K h.to (key_of h)) m → OfCall (ByClient (λ h user call. by_key K (reply_head boot h))) m.head m.carried
+by_calls K boot m w = if_call (λ h user call. K h.to (key_of h)) (λ h user call. by_key K (reply_head boot h)) (λ h user call x i e. x) m w
 
 -- the key of an interrupted step's message
 abbrev pub IsCutOf : (Node → Key → Type 0) → Fall → Type 0
@@ -140,7 +149,7 @@ HasCut K None = ⊤
 HasCut K (Some fall) = IsCutOf K fall
 
 cut_by : (K : Node → Key → Type 0) (s : ServerState) (fall : Fall) → IsCutOf K fall → IsCutBy (by_key K) s.lasting.boot s.seats fall
-cut_by K s (in_step m clock hit) h = any_call (by_key K) s.lasting.boot s.seats m.head m.carried h
+cut_by K s (in_step m clock hit) h = any_call (by_key K) s.lasting.boot s.seats m.head m.carried (by_calls K s.lasting.boot m h)
 cut_by K s at_rest h = tt
 cut_by K s in_boot h = tt
 
@@ -158,14 +167,14 @@ any_told h = ⊤
 abbrev any_boot : Node → ℕ → Type 0
 any_boot q b = ⊤
 
-pub run_key : (K : Node → Key → Type 0) (me : Node) (k : Key) → IsRunBy (by_key K) me k → K me k
-run_key K me k r = subst (λ (n : Node). K n k) r.1.0 (subst (K r.0.from) r.1.1.0 r.1.1.1)
+pub run_key : (K : Node → Key → Type 0) (i : ℕ) (k : Key) → IsRunBy (by_key K) (Server i) k → K (Server i) k
+run_key K i k r = subst (λ (n : Node). K n k) r.1.0 (subst (K r.0.from) r.1.1.0 (r.1.1.1 i r.1.0))
 
 pub record Stands (clients : ℕ → ClientState) (hosts : ℕ → ServerHost) (sent : List Message) (o : List Line) : Type 0 where
   pub callees : Key → Node
   pub own : (j : ℕ) → callees (last_of j (clients j)) ≡ (clients j).callee
   pub calls : Each (IfCall (λ h user call. IsKnown callees clients h.to (key_of h))) sent
-  pub answers : Each (IfReply (λ r. IsKnown callees clients r.head.from (answered_key r.head))) sent
+  pub answers : Each (IfReply (λ r. by_key (IsKnown callees clients) r.head)) sent
   pub replies : (j : ℕ) → AreReplies (by_key (IsKnown callees clients)) any_told (clients j).seats
   pub sound : (i : ℕ) → IsSound (by_key (IsKnown callees clients)) any_told (memory_of (hosts i).state)
   pub held : (i : ℕ) → Each (IsAnswer (by_key (IsKnown callees clients)) any_told) (replies_of (hosts i).state.backs.held)
@@ -200,7 +209,7 @@ not_run callees clients hosts i k known above q l r same =
     r.ran (subst (λ (j : ℕ). Above (call_seat l.node (hosts j).state.lasting.kept) l.epoch l.number) here (subst (λ (x : Key). Above (call_seat x.node (hosts i).state.lasting.kept) x.epoch x.number) same above))
 
 host_keeps : (clients : ℕ → ClientState) (hosts : ℕ → ServerHost) (sent more : List Message) (o ls : List Line) (i : ℕ) (h : ServerHost) → (S : Stands clients hosts sent o) → Hosts (by_key (IsKnown S.callees clients)) any_told (Server i) (memory_of (hosts i).state) (memory_of h.state) ls
-    → Each (IsAnswer (by_key (IsKnown S.callees clients)) any_told) (replies_of h.state.backs.held) → HasCut (IsKnown S.callees clients) h.down → Each (IfCall (λ x user call. IsKnown S.callees clients x.to (key_of x))) more → Each (IfReply (λ r. IsKnown S.callees clients r.head.from (answered_key r.head))) more → Stands clients (put i h hosts) more (onto o ls)
+    → Each (IsAnswer (by_key (IsKnown S.callees clients)) any_told) (replies_of h.state.backs.held) → HasCut (IsKnown S.callees clients) h.down → Each (IfCall (λ x user call. IsKnown S.callees clients x.to (key_of x))) more → Each (IfReply (λ r. by_key (IsKnown S.callees clients) r.head)) more → Stands clients (put i h hosts) more (onto o ls)
 host_keeps clients hosts sent more o ls i h S H held cut calls answers = record {
   callees = S.callees;
   own = S.own;
@@ -214,11 +223,11 @@ host_keeps clients hosts sent more o ls i h S H held cut calls answers = record 
       (λ k e. record {
         server = i;
         is = refl;
-        known = run_key (IsKnown S.callees clients) (Server i) k (H.known k e);
+        known = run_key (IsKnown S.callees clients) i k (H.known k e);
         ran = at_put i i (λ (x : ServerHost). Above (call_seat k.node x.state.lasting.kept) k.epoch k.number → ⊥) h hosts (λ same. H.ran k e) (λ other. absurd (other refl));
       })
       (each_change (HasRun S.callees clients hosts) (HasRun S.callees clients (put i h hosts)) (grown_run S.callees clients hosts i h H.grows) o S.ran);
-  once = one_once (Server i) H.changed ls o H.one (λ k e. new_key (HasRun S.callees clients hosts) k o (not_run S.callees clients hosts i k (run_key (IsKnown S.callees clients) (Server i) k (H.known k e)) (H.new k e)) S.ran) S.once;
+  once = one_once (Server i) H.changed ls o H.one (λ k e. new_key (HasRun S.callees clients hosts) k o (not_run S.callees clients hosts i k (run_key (IsKnown S.callees clients) i k (H.known k e)) (H.new k e)) S.ran) S.once;
   stored = λ j n seat. at_put i j (λ (x : ServerHost). call_seat n x.state.lasting.kept ≡ Some seat → HasChangeBy (Server j) (seat_key n seat) (onto o ls) × HasReply n seat) h hosts
       (λ same e. elim (H.stored n seat e) [
         | inl old ↦ let was = S.stored i n seat old in (subst (λ (q : ℕ). HasChangeBy (Server q) (seat_key n seat) (onto o ls)) same (by_onto (Server i) (seat_key n seat) ls o was.0), was.1)
@@ -258,7 +267,7 @@ blow_none i false = refl
 
 served_keeps : (c : Cell) (o : List Line) (i place : ℕ) (m : Message) (b : Option Blow) → (S : StandsIn c o) → IfCall (λ h user call. IsKnown S.callees c.clients h.to (key_of h)) m → Keeps o (server_served c i place m b)
 served_keeps c o i place m None S h =
-    moves_keeps c o i _ _ _ S (serves_step (by_key (IsKnown S.callees c.clients)) any_told i (c.hosts i).state c.clock place m (S.sound i) (S.held i) (decides_due (by_key (IsKnown S.callees c.clients)) any_told (Server i) (c.hosts i).state c.clock m (S.sound i).seats (any_call (by_key (IsKnown S.callees c.clients)) (c.hosts i).state.lasting.boot (c.hosts i).state.seats m.head m.carried h) (λ to. tt)))
+    moves_keeps c o i _ _ _ S (serves_step (by_key (IsKnown S.callees c.clients)) any_told i (c.hosts i).state c.clock place m (S.sound i) (S.held i) (decides_due (by_key (IsKnown S.callees c.clients)) any_told (Server i) (c.hosts i).state c.clock m refl (S.sound i).seats (any_call (by_key (IsKnown S.callees c.clients)) (c.hosts i).state.lasting.boot (c.hosts i).state.seats m.head m.carried (by_calls (IsKnown S.callees c.clients) (c.hosts i).state.lasting.boot m h)) (λ to. tt)))
 served_keeps c o i place m (Some b) S h =
     falls_is (Keeps o) c i (lines.Given place ∷ blow_line i b.stops ∷ []) (in_step m c.clock b) (falls_keeps c o i (Some (in_step m c.clock b)) unarmed (lines.Given place ∷ blow_line i b.stops ∷ []) S (blow_none i b.stops) h)
 
@@ -284,7 +293,7 @@ restarted_keeps : (c : Cell) (o : List Line) (i : ℕ) (after : Bool) (out : Out
 restarted_keeps c o i after out None S cut = nothing_keeps c o S
 restarted_keeps c o i after out (Some fall) S cut =
     let f : Begun ServerState = begun_by_disk (Server i) (c.hosts i).state after fall in
-    ends_keeps c o i f fall (settled (can_start f.state) out) S cut (disk_begins (by_key (IsKnown S.callees c.clients)) any_told (Server i) (c.hosts i).state after fall (S.sound i) (S.held i) (cut_by (IsKnown S.callees c.clients) (c.hosts i).state fall cut) (λ h to. tt))
+    ends_keeps c o i f fall (settled (can_start f.state) out) S cut (disk_begins (by_key (IsKnown S.callees c.clients)) any_told (Server i) (c.hosts i).state after fall refl (S.sound i) (S.held i) (cut_by (IsKnown S.callees c.clients) (c.hosts i).state fall cut) (λ h to. tt))
 
 stop_keeps : (c : Cell) (o : List Line) (i calls pick : ℕ) (armed : Armed) (d : Option Fall) → (c.hosts i).down ≡ d → StandsIn c o → Keeps o (server_armed c i (sets (c.hosts i) (lines.Stop (Server i) calls pick) armed) d)
 stop_keeps c o i calls pick armed None e S = sets_is (Keeps o) c i (lines.Stop (Server i) calls pick) armed (falls_keeps c o i (c.hosts i).down armed (lines.Stop (Server i) calls pick ∷ []) S refl (S.falls i))
@@ -372,8 +381,8 @@ replies_over K L w seats h n seat m e r = answer_over K L any_told any_told w (�
 pub sound_over : (K L : Head → Type 0) → ((h : Head) → K h → L h) → (x : Memory) → IsSound K any_told x → IsSound L any_told x
 sound_over K L w x h = record { seats = replies_over K L w x.seats h.seats; kept = replies_over K L w x.kept h.kept; lower = h.lower }
 
-told_over : (K L : Node → Key → Type 0) → ((q : Node) (k : Key) → K q k → L q k) → (m : Message) → IfReply (λ r. K r.head.from (answered_key r.head)) m → IfReply (λ r. L r.head.from (answered_key r.head)) m
-told_over K L w m h = if_reply (λ r. K r.head.from (answered_key r.head)) (λ r. L r.head.from (answered_key r.head)) (λ r. w r.head.from (answered_key r.head)) m h
+told_over : (K L : Node → Key → Type 0) → ((q : Node) (k : Key) → K q k → L q k) → (m : Message) → IfReply (λ r. by_key K r.head) m → IfReply (λ r. by_key L r.head) m
+told_over K L w m h = if_reply (λ r. by_key K r.head) (λ r. by_key L r.head) (λ r z i e. w r.head.from (answered_key r.head) (z i e)) m h
 
 client_keeps : (c : Cell) (o : List Line) (n : ℕ) (D : Option ℕ) (s : Step ClientState) → (S : StandsIn c o) → Tame (by_key (IsKnown S.callees c.clients)) any_told any_boot D n (caller_at (c.clients n)) s → Keeps o (client_moves c n s)
 client_keeps c o n D s S t =
@@ -382,7 +391,7 @@ client_keeps c o n D s S t =
     let K : Node → Key → Type 0 = IsKnown S.callees c.clients in
     let L : Node → Key → Type 0 = IsKnown more then in
     let w : (q : Node) (k : Key) → K q k → L q k = known_later S.callees c.clients n s.state (S.own n) t.goes in
-    let wh : (h : Head) → by_key K h → by_key L h = λ h. w h.from (answered_key h) in
+    let wh : (h : Head) → by_key K h → by_key L h = λ h z i e. w h.from (answered_key h) (z i e) in
     record {
       callees = more;
       own = λ j. at_put n j (λ (x : ClientState). more (last_of j x) ≡ x.callee) s.state c.clients
@@ -401,77 +410,79 @@ client_keeps c o n D s S t =
       stored = λ i m seat e. let was = S.stored i m seat e in (by_onto (Server i) (seat_key m seat) s.lines o was.0, was.1);
     }
 
+-- ---- a step of the location database
+
+loc_keeps : (c : Cell) (o : List Line) (l : LocHost) (ls : List Line) (ms : List Message) → StandsIn c o → IsLocStep c l ls ms → Keeps o (loc_becomes c l ls ms)
+loc_keeps c o l ls ms S st = record {
+  callees = S.callees;
+  own = S.own;
+  calls = each_more _ c.sent ms S.calls (each_map IsOfLoc _ (λ m h. uncalled_any (λ x user call. IsKnown S.callees c.clients x.to (key_of x)) m h.1) ms st.sent);
+  answers = each_more _ c.sent ms S.answers (each_map IsOfLoc _ (λ m h. loc_reply (λ r. by_key (IsKnown S.callees c.clients) r.head) m (λ e i f. absurd (no_server_loc m.head i e f)) h) ms st.sent);
+  replies = S.replies;
+  sound = S.sound;
+  held = S.held;
+  falls = S.falls;
+  ran = plain_each (HasRun S.callees c.clients c.hosts) ls o (loc_unchanging ls st.lines) S.ran;
+  once = plain_once ls o (loc_unchanging ls st.lines) S.once;
+  stored = λ i m seat e. let was = S.stored i m seat e in (by_onto (Server i) (seat_key m seat) ls o was.0, was.1);
+}
+
 -- ---- every input
 
-to_keeps : (c : Cell) (o : List Line) (p : ℕ) (luck : Luck) (m : Message) (to : Node) → (S : StandsIn c o) → IfCall (λ h user call. IsKnown S.callees c.clients h.to (key_of h)) m → Keeps o (given_to c p luck m to)
-to_keeps c o p luck m (Server i) S h = either_keeps o (has_host c i) _ _ (received_keeps c o i p luck m (c.hosts i).down S h) (nothing_keeps c o S)
-to_keeps c o p luck m (Client n) S h = either_keeps o (is_away c n) _ _ (nothing_keeps c o S) (client_keeps c o n _ _ S (given_tame (by_key (IsKnown S.callees c.clients)) any_told any_boot n (c.clients n) c.clock p m (S.replies n) (any_call (by_key (IsKnown S.callees c.clients)) (c.clients n).epoch (c.clients n).seats m.head m.carried h) tt (any_notice m.carried)))
-to_keeps c o p luck m Loc S h = nothing_keeps c o S
-to_keeps c o p luck m (Admin n) S h = nothing_keeps c o S
+to_keeps : (c : Cell) (o : List Line) (p : ℕ) (luck : Luck) (m : Message) (to : Node) → IsSoundLoc c.loc.state → message_at c.sent p ≡ Some m → m.head.to ≡ to → (S : StandsIn c o) → IfCall (λ h user call. IsKnown S.callees c.clients h.to (key_of h)) m → Keeps o (given_to c p luck m to)
+to_keeps c o p luck m (Server i) s at to S h = either_keeps o (has_host c i) _ _ (received_keeps c o i p luck m (c.hosts i).down S h) (nothing_keeps c o S)
+to_keeps c o p luck m (Client n) s at to S h = either_keeps o (is_away c n) _ _ (nothing_keeps c o S) (client_keeps c o n _ _ S (guest_tame (by_key (IsKnown S.callees c.clients)) any_told any_boot n (c.clients n) c.clock p m (c.clients n).seeking (λ b. tt) (S.replies n) (given_tame (by_key (IsKnown S.callees c.clients)) any_told any_boot n (c.clients n) c.clock p m (S.replies n) (any_call (by_key (IsKnown S.callees c.clients)) (c.clients n).epoch (c.clients n).seats m.head m.carried (by_calls (IsKnown S.callees c.clients) (c.clients n).epoch m h)) tt (any_notice m.carried))))
+to_keeps c o p luck m Loc s at to S h = loc_received_to (Keeps o) c p luck m c.loc.down refl (nothing_keeps c o S) (λ l ls ms st. loc_keeps c o l ls ms S st) s at to
+to_keeps c o p luck m (Admin n) s at to S h = nothing_keeps c o S
 
-at_keeps : (c : Cell) (o : List Line) (p : ℕ) (luck : Luck) (m : Option Message) → message_at c.sent p ≡ m → StandsIn c o → Keeps o (given_at c p luck m)
-at_keeps c o p luck None e S = nothing_keeps c o S
-at_keeps c o p luck (Some m) e S = to_keeps c o p luck m m.head.to S (each_at _ c.sent p m e S.calls)
+at_keeps : (c : Cell) (o : List Line) (p : ℕ) (luck : Luck) (m : Option Message) → message_at c.sent p ≡ m → IsSoundLoc c.loc.state → StandsIn c o → Keeps o (given_at c p luck m)
+at_keeps c o p luck None e s S = nothing_keeps c o S
+at_keeps c o p luck (Some m) e s S = to_keeps c o p luck m m.head.to s e refl S (each_at _ c.sent p m e S.calls)
 
 begun_keeps : (c : Cell) (o : List Line) (n : ℕ) (act : Act) (g : Option Going) → StandsIn c o → Keeps o (begun_by c n act g)
 begun_keeps c o n act None S = client_keeps c o n _ _ S (begins_tame (by_key (IsKnown S.callees c.clients)) any_told any_boot n (c.clients n) c.clock act (S.replies n))
 begun_keeps c o n act (Some g) S = nothing_keeps c o S
 
+missed_keeps : (c : Cell) (o : List Line) (n : ℕ) (k : Option Seek) → StandsIn c o → Keeps o (sought_for c n k)
+missed_keeps c o n None S = nothing_keeps c o S
+missed_keeps c o n (Some k) S = client_keeps c o n _ _ S (missed_tame (by_key (IsKnown S.callees c.clients)) any_told any_boot n (c.clients n) k (S.replies n))
+
 waited_keeps : (c : Cell) (o : List Line) (n : ℕ) (g : Option Going) → (c.clients n).running ≡ g → StandsIn c o → Keeps o (waited_by c n g)
-waited_keeps c o n None e S = nothing_keeps c o S
+waited_keeps c o n None e S = missed_keeps c o n (c.clients n).seeking S
 waited_keeps c o n (Some act) e S = client_keeps c o n _ _ S (waits_tame (by_key (IsKnown S.callees c.clients)) any_told any_boot n (c.clients n) act e (S.replies n))
 
 ticked_keeps : (c : Cell) (o : List Line) (n : ℕ) → StandsIn c o → Stands c.clients c.hosts c.sent (lines.Tick n ∷ o)
 ticked_keeps c o n S = record { callees = S.callees; own = S.own; calls = S.calls; answers = S.answers; replies = S.replies; sound = S.sound; held = S.held; falls = S.falls; ran = (tt, S.ran); once = S.once; stored = S.stored }
 
-loc_changes : (l : Line) → is_of_loc l ≡ true → is_unchanging l ≡ true
-loc_changes (lines.Change server k count) h = absurd cc
-loc_changes l h = refl
-
-loc_keeps : (c : Cell) (o : List Line) → StandsIn c o → LocMoves (Keeps o) c
-loc_keeps c o S l ls st = record {
-  callees = S.callees;
-  own = S.own;
-  calls = S.calls;
-  answers = S.answers;
-  replies = S.replies;
-  sound = S.sound;
-  held = S.held;
-  falls = S.falls;
-  ran = plain_each (HasRun S.callees c.clients c.hosts) ls o (all_of_loc is_unchanging loc_changes ls st.lines) S.ran;
-  once = plain_once ls o (all_of_loc is_unchanging loc_changes ls st.lines) S.once;
-  stored = λ i m seat e. let was = S.stored i m seat e in (by_onto (Server i) (seat_key m seat) ls o was.0, was.1);
-}
-
-pub moved_keeps : (c : Cell) (o : List Line) (x : Input) → StandsIn c o → Keeps o (moved c x)
+pub moved_keeps : (c : Cell) (o : List Line) (x : Input) → IsSoundLoc c.loc.state → StandsIn c o → Keeps o (moved c x)
 unfolding moved
-moved_keeps c o (begins n act) S = either_keeps o (is_away c n) _ _ (nothing_keeps c o S) (begun_keeps c o n act (c.clients n).running S)
-moved_keeps c o (gives p luck) S = at_keeps c o p luck (message_at c.sent p) refl S
-moved_keeps c o (waits n) S = either_keeps o (is_away c n) _ _ (nothing_keeps c o S) (waited_keeps c o n (c.clients n).running refl S)
-moved_keeps c o (ticks zero) S = nothing_keeps c o S
-moved_keeps c o (ticks (suc n)) S = ticked_keeps c o (suc n) S
-moved_keeps c o (client_stops n) S = either_keeps o (is_away c n) _ _ (nothing_keeps c o S) (client_keeps c o n _ _ S (falls_tame (by_key (IsKnown S.callees c.clients)) any_told any_boot n (c.clients n) (λ q. tt)))
-moved_keeps c o (client_starts n) S = either_keeps o (c.away n) _ _ (client_keeps c o n _ _ S (rises_tame (by_key (IsKnown S.callees c.clients)) any_told any_boot n (c.clients n) (S.replies n))) (nothing_keeps c o S)
-moved_keeps c o (stops zero) S = loc_stopped_to (Keeps o) c c.loc.down (nothing_keeps c o S) (loc_keeps c o S)
-moved_keeps c o (stops (suc i)) S = either_keeps o (has_host c (suc i)) _ _ (stopped_keeps c o (suc i) (c.hosts (suc i)).down S) (nothing_keeps c o S)
-moved_keeps c o (starts_again zero after out) S = loc_restarted_to (Keeps o) c after out c.loc.down (nothing_keeps c o S) (loc_keeps c o S)
-moved_keeps c o (starts_again (suc i) after out) S = either_keeps o (has_host c (suc i)) _ _ (restarted_keeps c o (suc i) after out (c.hosts (suc i)).down S (S.falls (suc i))) (nothing_keeps c o S)
-moved_keeps c o (sets_stop zero calls pick) S = loc_armed_to (Keeps o) c (lines.Stop Loc calls pick) _ c.loc.down (stop_step calls pick) (nothing_keeps c o S) (loc_keeps c o S)
-moved_keeps c o (sets_stop (suc i) calls pick) S = either_keeps o (has_host c (suc i)) _ _ (stop_keeps c o (suc i) calls pick _ (c.hosts (suc i)).down refl S) (nothing_keeps c o S)
-moved_keeps c o (sets_fail zero call) S = loc_armed_to (Keeps o) c (lines.Fail Loc call) _ c.loc.down (fail_step call) (nothing_keeps c o S) (loc_keeps c o S)
-moved_keeps c o (sets_fail (suc i) call) S = either_keeps o (has_host c (suc i)) _ _ (fail_keeps c o (suc i) call _ (c.hosts (suc i)).down S) (nothing_keeps c o S)
-moved_keeps c o (server_waits i n) S = either_keeps o (has_host c i) _ _ (timed_keeps c o i n (c.hosts i).down S) (nothing_keeps c o S)
-moved_keeps c o (wakes i) S = either_keeps o (has_host c i) _ _ (woken_keeps c o i (c.hosts i).down S) (nothing_keeps c o S)
-moved_keeps c o nothing S = nothing_keeps c o S
+moved_keeps c o (begins n act) s S = either_keeps o (is_away c n) _ _ (nothing_keeps c o S) (begun_keeps c o n act (act_of (c.clients n)) S)
+moved_keeps c o (gives p luck) s S = at_keeps c o p luck (message_at c.sent p) refl s S
+moved_keeps c o (waits n) s S = either_keeps o (is_away c n) _ _ (nothing_keeps c o S) (waited_keeps c o n (c.clients n).running refl S)
+moved_keeps c o (ticks zero) s S = nothing_keeps c o S
+moved_keeps c o (ticks (suc n)) s S = ticked_keeps c o (suc n) S
+moved_keeps c o (client_stops n) s S = either_keeps o (is_away c n) _ _ (nothing_keeps c o S) (client_keeps c o n _ _ S (falls_tame (by_key (IsKnown S.callees c.clients)) any_told any_boot n c.handed (c.clients n) (λ q. tt)))
+moved_keeps c o (client_starts n) s S = either_keeps o (c.away n) _ _ (client_keeps c o n _ _ S (rises_tame (by_key (IsKnown S.callees c.clients)) any_told any_boot n (c.clients n) (S.replies n))) (nothing_keeps c o S)
+moved_keeps c o (stops zero) s S = loc_stopped_to (Keeps o) c c.loc.down refl (nothing_keeps c o S) (λ l ls ms st. loc_keeps c o l ls ms S st) s
+moved_keeps c o (stops (suc i)) s S = either_keeps o (has_host c (suc i)) _ _ (stopped_keeps c o (suc i) (c.hosts (suc i)).down S) (nothing_keeps c o S)
+moved_keeps c o (starts_again zero after out) s S = loc_restarted_to (Keeps o) c after out c.loc.down refl (nothing_keeps c o S) (λ l ls ms st. loc_keeps c o l ls ms S st) s
+moved_keeps c o (starts_again (suc i) after out) s S = either_keeps o (has_host c (suc i)) _ _ (restarted_keeps c o (suc i) after out (c.hosts (suc i)).down S (S.falls (suc i))) (nothing_keeps c o S)
+moved_keeps c o (sets_stop zero calls pick) s S = loc_armed_to (Keeps o) c (lines.Stop Loc calls pick) _ c.loc.down refl (stop_line calls pick) (nothing_keeps c o S) (λ l ls ms st. loc_keeps c o l ls ms S st) s
+moved_keeps c o (sets_stop (suc i) calls pick) s S = either_keeps o (has_host c (suc i)) _ _ (stop_keeps c o (suc i) calls pick _ (c.hosts (suc i)).down refl S) (nothing_keeps c o S)
+moved_keeps c o (sets_fail zero call) s S = loc_armed_to (Keeps o) c (lines.Fail Loc call) _ c.loc.down refl (fail_line call) (nothing_keeps c o S) (λ l ls ms st. loc_keeps c o l ls ms S st) s
+moved_keeps c o (sets_fail (suc i) call) s S = either_keeps o (has_host c (suc i)) _ _ (fail_keeps c o (suc i) call _ (c.hosts (suc i)).down S) (nothing_keeps c o S)
+moved_keeps c o (server_waits i n) s S = either_keeps o (has_host c i) _ _ (timed_keeps c o i n (c.hosts i).down S) (nothing_keeps c o S)
+moved_keeps c o (wakes i) s S = either_keeps o (has_host c i) _ _ (woken_keeps c o i (c.hosts i).down S) (nothing_keeps c o S)
+moved_keeps c o nothing s S = nothing_keeps c o S
 
 -- ---- a run
 
-pub run_stands : (xs : List Input) (c : Cell) (past es : List Entry) (end : Cell) → StandsIn c (lines_of past) → Leads c xs es end → StandsIn end (lines_of (past_of past es))
-run_stands [] c past [] end S r = subst (λ (x : Cell). StandsIn x (lines_of past)) (sym r) S
-run_stands [] c past (e ∷ es) end S r = absurd r
-run_stands (x ∷ xs) c past [] end S r = absurd r
-run_stands (x ∷ xs) c past (e ∷ es) end S r =
-    subst (λ (y : Entry). StandsIn end (lines_of (past_of (y ∷ past) es))) (sym r.0) (run_stands xs (moved c x).cell ((moved c x).entry ∷ past) es end (moved_keeps c (lines_of past) x S) r.1)
+pub run_stands : (xs : List Input) (c : Cell) (past es : List Entry) (end : Cell) → IsSoundLoc c.loc.state → StandsIn c (lines_of past) → Leads c xs es end → StandsIn end (lines_of (past_of past es))
+run_stands [] c past [] end s S r = subst (λ (x : Cell). StandsIn x (lines_of past)) (sym r) S
+run_stands [] c past (e ∷ es) end s S r = absurd r
+run_stands (x ∷ xs) c past [] end s S r = absurd r
+run_stands (x ∷ xs) c past (e ∷ es) end s S r =
+    subst (λ (y : Entry). StandsIn end (lines_of (past_of (y ∷ past) es))) (sym r.0) (run_stands xs (moved c x).cell ((moved c x).entry ∷ past) es end (sound_moved c past x s) (moved_keeps c (lines_of past) x s S) r.1)
 
 pub first_stands : (s : Script) → StandsIn (start s) []
 first_stands s = record {
@@ -489,30 +500,22 @@ first_stands s = record {
 }
 
 pub once : (s : Script) (h : List Entry) (end : Cell) → RunsTo h s end → ChangesOnce h
-once s h end r = (run_stands r.inputs (start s) [] h end (first_stands s) r.leads).once
+once s h end r = (run_stands r.inputs (start s) [] h end (first_sound s) (first_stands s) r.leads).once
 
 -- ---- the pairs of calls, and of replies
 
 pub known_pair : (callees : Key → Node) (clients : ℕ → ClientState) (q : Node) (k : Key) (j : ℕ) → k.node ≡ Client j → IsKnown callees clients q k → UpTo k.epoch k.number (clients j).epoch (clients j).last
 known_pair callees clients q k j e h = subst (λ (i : ℕ). UpTo k.epoch k.number (clients i).epoch (clients i).last) (client_number h.client j (sym h.node ∙ e)) h.behind
 
-pub call_pair : (callees : Key → Node) (clients : ℕ → ClientState) (j : ℕ) (h : Head) (x : Carried) → IsCall x → h.from ≡ Client j → OfCall (ByClient (λ y user call. IsKnown callees clients y.to (key_of y))) h x → IsKnownTo (clients j) h
-call_pair callees clients j h (carried.Call user (ask.File call)) is from w = known_pair callees clients h.to (key_of h) j from (by_client j h.from (IsKnown callees clients h.to (key_of h)) from w)
-call_pair callees clients j h (carried.Call user call) is from w = absurd w
-call_pair callees clients j h x is from w = absurd is
+reply_pair : (callees : Key → Node) (clients : ℕ → ClientState) (i j : ℕ) (h : Head) (x : Carried) → HasCode x → h.from ≡ Server i → h.to ≡ Client j → OfReply (OfClient h.to (by_key (IsKnown callees clients) h)) x → IsKnownTo (clients j) h
+reply_pair callees clients i j h (carried.Refusal code) is from to w = known_pair callees clients h.from (answered_key h) j to (by_client j h.to (by_key (IsKnown callees clients) h) to w i from)
+reply_pair callees clients i j h (carried.Reply reply) is from to w = known_pair callees clients h.from (answered_key h) j to (by_client j h.to (by_key (IsKnown callees clients) h) to w i from)
+reply_pair callees clients i j h x is from to w = absurd is
 
-reply_pair : (callees : Key → Node) (clients : ℕ → ClientState) (j : ℕ) (h : Head) (x : Carried) → HasCode x → h.to ≡ Client j → OfReply (OfClient h.to (IsKnown callees clients h.from (answered_key h))) x → IsKnownTo (clients j) h
-reply_pair callees clients j h (carried.Refusal code) is to w = known_pair callees clients h.from (answered_key h) j to (by_client j h.to (IsKnown callees clients h.from (answered_key h)) to w)
-reply_pair callees clients j h (carried.Reply reply) is to w = known_pair callees clients h.from (answered_key h) j to (by_client j h.to (IsKnown callees clients h.from (answered_key h)) to w)
-reply_pair callees clients j h x is to w = absurd is
-
-pub pairs_known : (s : Script) (h : List Entry) (end : Cell) → RunsTo h s end → ArePairsKnown end.sent end.clients
-pairs_known s h end r =
-    let S : StandsIn end (lines_of (past_of [] h)) = run_stands r.inputs (start s) [] h end (first_stands s) r.leads in
-    record {
-      calls = λ j place m at is from. call_pair S.callees end.clients j m.head m.carried is from (each_at _ end.sent place m at S.calls);
-      replies = λ j place m at is to. reply_pair S.callees end.clients j m.head m.carried is to (each_at _ end.sent place m at S.answers);
-    }
+pub pairs_known : (s : Script) (h : List Entry) (end : Cell) → RunsTo h s end → (i j place : ℕ) (m : Message) → message_at end.sent place ≡ Some m → HasCode m.carried → m.head.from ≡ Server i → m.head.to ≡ Client j → IsKnownTo (end.clients j) m.head
+pairs_known s h end r i j place m at is from to =
+    let S : StandsIn end (lines_of (past_of [] h)) = run_stands r.inputs (start s) [] h end (first_sound s) (first_stands s) r.leads in
+    reply_pair S.callees end.clients i j m.head m.carried is from to (each_at _ end.sent place m at S.answers)
 
 -- ---- what the disks keep of callers
 
@@ -526,7 +529,7 @@ seat_of_last (Some seat) k not = (seat, (refl, seat_behind (pair_below seat.epoc
 
 pub durable_changes : (s : Script) (h : List Entry) (end : Cell) → RunsTo h s end → (i : ℕ) → AreChanges (Server i) (end.hosts i).state.lasting.kept (lines_of (past_of [] h))
 durable_changes s h end r i =
-    let S : StandsIn end (lines_of (past_of [] h)) = run_stands r.inputs (start s) [] h end (first_stands s) r.leads in
+    let S : StandsIn end (lines_of (past_of [] h)) = run_stands r.inputs (start s) [] h end (first_sound s) (first_stands s) r.leads in
     record {
       told = λ n seat e. (S.stored i n seat e).0;
       reply = λ n seat e. (S.stored i n seat e).1;

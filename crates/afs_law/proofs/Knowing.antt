@@ -5,7 +5,9 @@ use Rattle.afs_law.proofs.Calling.{IsAnswer, IsUncalled, answer_over, any_call}
 use Rattle.afs_law.proofs.Hearing.{HearsIn, first_hears, moved_hears, stands_first}
 use Rattle.afs_law.proofs.Hosting.{IsDue, IsCutBy, IsSound, decides_due, disk_begins, memory_of, serves_step, starts_step, times_step, wakes_step}
 use Rattle.afs_law.proofs.KeysOnce.{HasCut, IsCutOf, IsKnown, StandsIn, any_told, by_key, moved_keeps, sound_over}
-use Rattle.afs_law.proofs.Moving.{IsKept}
+use Rattle.afs_law.proofs.Moving.{IsKept, Behind, each_moved}
+use Rattle.afs_law.proofs.Posting.{HoldsIn, SitsHolds, holds_moves}
+use Rattle.afs_law.proofs.Seating.{SitsIn, sits_moves}
 use Rattle.afs_law.specs.Ideal.{set_up}
 use Rattle.afs_law.specs.Past.{lines_of}
 use Rattle.afs_num.specs.declared.messages.Message.{Message}
@@ -18,17 +20,23 @@ use Rattle.afs_rows.specs.Runs.{Blow, Cell, Entry, Fall, at_rest, begun_by_disk,
 use Rattle.afs_rows.specs.ServerRow.{decides, key_of}
 use Rattle.afs_rows.specs.ServerSteps.{back_timeout_row, server_row, start_row, wake_row}
 use Rattle.afs_rows.specs.States.{BackCall, ServerState}
-use Rattle.std.proofs.Common.{◌≡◌, ℕ, Bool, List, [], ◌∷◌, Option, Some, None, subst}
+use Rattle.std.proofs.Common.{◌≡◌, ℕ, Bool, List, [], ◌∷◌, Option, Some, None, refl, subst}
 
 pub record Known (c : Cell) (past : List Entry) : Type 0 where
   pub keys : StandsIn c (lines_of past)
   pub hears : HearsIn c past
+  -- what servers keep, and hold back, is their own
+  pub posts : SitsHolds c past
 
 pub known_kept : IsKept Known
-known_kept c past x K = record { keys = moved_keeps c (lines_of past) x K.keys; hears = moved_hears c past x K.hears K.keys }
+known_kept c past x s K = record { keys = moved_keeps c (lines_of past) x s K.keys; hears = moved_hears c past x s K.hears K.keys; posts = (each_moved SitsIn (Behind SitsIn) sits_moves c past x s K.posts.0, each_moved SitsHolds (Behind HoldsIn) holds_moves c past x s K.posts) }
 
 pub known_first : (s : Script) → Known (start s) (set_up s ∷ [])
-known_first s = record { keys = stands_first s; hears = first_hears s }
+known_first s = record {
+  keys = stands_first s;
+  hears = first_hears s;
+  posts = (λ i. record { seats = λ n seat m e. absurd cc; kept = λ n seat m e. absurd cc }, λ i. tt);
+}
 
 -- ---- a server sends no call of a client
 
@@ -48,7 +56,7 @@ pub served_uncalled : (c : Cell) (past : List Entry) (i place : ℕ) (m : Messag
 served_uncalled c past i place m K at =
     let x : ServerState = (c.hosts i).state in
     let sound : IsSound any_told any_told (memory_of x) = any_sound c past i K in
-    uncalled _ (serves_step any_told any_told i x c.clock place m sound (any_held c past i K) (decides_due any_told any_told (Server i) x c.clock m sound.seats (any_call any_told x.lasting.boot x.seats m.head m.carried (any_given c past place m K at)) (λ to. tt))).sent
+    uncalled _ (serves_step any_told any_told i x c.clock place m sound (any_held c past i K) (decides_due any_told any_told (Server i) x c.clock m refl sound.seats (any_call any_told x.lasting.boot x.seats m.head m.carried (any_given c past place m K at)) (λ to. tt))).sent
 
 pub timed_uncalled : (c : Cell) (past : List Entry) (i : ℕ) (n : Node) (b : BackCall) → Known c past → Each IsUncalled (back_timeout_row (Server i) (c.hosts i).state c.clock n b).sent
 timed_uncalled c past i n b K = uncalled _ (times_step any_told any_told i (c.hosts i).state c.clock n b (any_sound c past i K) (any_held c past i K)).sent
@@ -70,10 +78,10 @@ pub started_uncalled : (c : Cell) (past : List Entry) (i : ℕ) (after : Bool) (
 started_uncalled c past i after fall K down =
     let x : ServerState = (c.hosts i).state in
     uncalled _ (starts_step any_told any_told i x c.clock c.count (begun_by_disk (Server i) x after fall)
-    (disk_begins any_told any_told (Server i) x after fall (any_sound c past i K) (any_held c past i K) (cut_any (IsKnown K.keys.callees c.clients) x fall (has_cut (IsKnown K.keys.callees c.clients) (c.hosts i).down fall down (K.keys.falls i))) (λ h to. tt))).sent
+    (disk_begins any_told any_told (Server i) x after fall refl (any_sound c past i K) (any_held c past i K) (cut_any (IsKnown K.keys.callees c.clients) x fall (has_cut (IsKnown K.keys.callees c.clients) (c.hosts i).down fall down (K.keys.falls i))) (λ h to. tt))).sent
 
 -- so is what it decides there
 pub cut_due : (c : Cell) (past : List Entry) (i : ℕ) (m : Message) (clock : ℕ) (hit : Blow) → Known c past → (c.hosts i).down ≡ Some (in_step m clock hit) → IsDue any_told any_told (Server i) (c.hosts i).state (decides (Server i) (c.hosts i).state clock (Whole m))
 cut_due c past i m clock hit K down =
     let x : ServerState = (c.hosts i).state in
-    decides_due any_told any_told (Server i) x clock m (any_sound c past i K).seats (cut_any (IsKnown K.keys.callees c.clients) x (in_step m clock hit) (has_cut (IsKnown K.keys.callees c.clients) (c.hosts i).down (in_step m clock hit) down (K.keys.falls i))) (λ to. tt)
+    decides_due any_told any_told (Server i) x clock m refl (any_sound c past i K).seats (cut_any (IsKnown K.keys.callees c.clients) x (in_step m clock hit) (has_cut (IsKnown K.keys.callees c.clients) (c.hosts i).down (in_step m clock hit) down (K.keys.falls i))) (λ to. tt)

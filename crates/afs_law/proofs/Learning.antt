@@ -1,10 +1,12 @@
 -- A client sends a call to no boot that its server didn't begin: what it knows of boots servers told it, however many a cell has.
+use Rattle.afs_rows.specs.LocSteps.{LocHost}
+use Rattle.afs_law.proofs.Listing.{IsLocStep, loc_uncalled, no_server_loc, IsOfLoc, loc_notice}
 use Rattle.afs_history.specs.declared.acts.Act.{Act}
 use Rattle.afs_history.specs.declared.lines.Line.{Line}
 use Rattle.afs_history.specs.declared.lines.Line.TheVariants as lines
 use Rattle.afs_history.specs.declared.scripts.Script.{Script}
 use Rattle.afs_law.proofs.Basics.{Each, IfCall, OfNotice, at_put, each_at, each_map, each_more, if_call, of_notice, same_node-true, some_of}
-use Rattle.afs_law.proofs.Calling.{AreReplies, Caller, IsAnswer, IsCallOf, IsLastOf, Tame, answer_over, begins_tame, caller_at, falls_tame, given_tame, rises_tame, uncalled_any, waits_tame}
+use Rattle.afs_law.proofs.Calling.{AreReplies, Caller, IsAnswer, IsCallOf, IsLastOf, Tame, answer_over, begins_tame, caller_at, falls_tame, given_tame, rises_tame, uncalled_any, waits_tame, missed_tame, sought_tame, IsUncalled}
 use Rattle.afs_law.proofs.Hearing.{HasCutAt, Hears, HearsIn, IsHad, IsRan, call_is, cut_by, none_more, replies_to, sound_to}
 use Rattle.afs_law.proofs.Hosting.{Begins, HostStep, IsCutBy, IsSound, before_begins, decides_due, disk_begins, memory_of, revives_begins, serves_step, starts_step, times_step, wakes_step}
 use Rattle.afs_law.proofs.KeysOnce.{any_told}
@@ -24,7 +26,7 @@ use Rattle.afs_num.specs.declared.types.Head.{Head}
 use Rattle.afs_num.specs.declared.types.Node.{Node}
 use Rattle.afs_num.specs.declared.types.Node.TheVariants.{Admin, Client, Loc, Server}
 use Rattle.afs_rows.specs.Callbacks.{put, replies_of}
-use Rattle.afs_rows.specs.ClientRow.{begin_row, boot_of, client_row, reborn, timeout_row}
+use Rattle.afs_rows.specs.ClientRow.{begin_row, boot_of, client_row, reborn, timeout_row, seek_timeout_row, sought_by}
 use Rattle.afs_rows.specs.Going.{ClientState, Going}
 use Rattle.afs_law.proofs.Steps.{blow_line, server_moves, loc_becomes}
 use Rattle.afs_rows.specs.Runs.{Blow, Armed, Cell, Entry, Fall, at_rest, begun_by_disk, in_boot, in_step, message_at, start, ticked, unarmed, voided, ServerHost}
@@ -234,12 +236,12 @@ serves_learns c past i place m armed h up at =
     let sound : IsSound any_told (Tells (e ∷ past)) (memory_of x) = sound_onto e past x (h.1.sound i) in
     up_learnt c past i (Some place) armed _ h.1
     (serves_step any_told (Tells (e ∷ past)) i x c.clock place m sound (held_onto e past (replies_of x.backs.held) (h.1.held i))
-    (decides_due any_told (Tells (e ∷ past)) (Server i) x c.clock m sound.seats (any_call c past x.lasting.boot x.seats place m h.0.hears at) (λ to. own_tells e past i x.lasting.boot m.head (now_has c past i h.0.hears up) to)))
+    (decides_due any_told (Tells (e ∷ past)) (Server i) x c.clock m refl sound.seats (any_call c past x.lasting.boot x.seats place m h.0.hears at) (λ to. own_tells e past i x.lasting.boot m.head (now_has c past i h.0.hears up) to)))
 
 -- what a restart finds
 found_begins : (e : Entry) (past : List Entry) (i : ℕ) (x : ServerState) (after : Bool) (fall : Fall) → IsSound any_told (Tells (e ∷ past)) (memory_of x) → Each (IsAnswer any_told (Tells (e ∷ past))) (replies_of x.backs.held) → IsCutBy any_told x.lasting.boot x.seats fall → HasStood i x (Some fall) past → Begins any_told (Tells (e ∷ past)) (Server i) x (begun_by_disk (Server i) x after fall)
 found_begins e past i x after at_rest s h cut stood = before_begins any_told (Tells (e ∷ past)) (Server i) x s h
-found_begins e past i x after (in_step m clock hit) s h cut stood = disk_begins any_told (Tells (e ∷ past)) (Server i) x after (in_step m clock hit) s h cut (λ y to. own_tells e past i x.lasting.boot y (stood m clock hit refl) to)
+found_begins e past i x after (in_step m clock hit) s h cut stood = disk_begins any_told (Tells (e ∷ past)) (Server i) x after (in_step m clock hit) refl s h cut (λ y to. own_tells e past i x.lasting.boot y (stood m clock hit refl) to)
 found_begins e past i x false in_boot s h cut stood = before_begins any_told (Tells (e ∷ past)) (Server i) x s h
 found_begins e past i x true in_boot s h cut stood = revives_begins any_told (Tells (e ∷ past)) (Server i) x s h
 
@@ -259,6 +261,22 @@ stays_learns c e past i after fall other h down none =
     let b = begins_at c e past i after fall h down in
     quiet_learnt c e past i (record { state = (begun_by_disk (Server i) (c.hosts i).state after fall).state; down = Some other; armed = unarmed }) h.1 (b.hosts [] refl).sound b.held (λ m clock hit is. absurd (none m clock hit is))
 
+-- ---- a step of the location database
+
+loc_learnt : (c : Cell) (past : List Entry) (l : LocHost) (ls : List Line) (ms : List Message) → LearntIn c past → IsLocStep c l ls ms → LearntIn (loc_becomes c l ls ms).cell ((loc_becomes c l ls ms).entry ∷ past)
+loc_learnt c past l ls ms h st =
+    let e : Entry = (loc_becomes c l ls ms).entry in
+    let w : Learnt c.clients c.hosts c.sent (e ∷ past) = still_learnt c e past h in
+    record {
+      calls = each_more (IfCall (IsToBegun (e ∷ past))) c.sent ms w.calls (each_map IsUncalled (IfCall (IsToBegun (e ∷ past))) (uncalled_any (IsToBegun (e ∷ past))) ms (loc_uncalled c l ls ms st));
+      notices = each_more (λ m. OfNotice (Tells (e ∷ past) m.head) m.carried) c.sent ms w.notices (each_map IsOfLoc (λ m. OfNotice (Tells (e ∷ past) m.head) m.carried) (λ m x. loc_notice (λ y. Tells (e ∷ past) y.head) m (λ from i z. absurd (no_server_loc m.head i from z)) x) ms st.sent);
+      known = w.known;
+      replies = w.replies;
+      sound = w.sound;
+      held = w.held;
+      stood = w.stood;
+    }
+
 -- ---- every step
 
 -- the entry of a step of a client
@@ -275,12 +293,14 @@ learnt_moves : EachMove KnownLearnt (Behind LearntIn)
 learnt_moves = record {
   void = λ c past h. still_learnt c (voided c).entry past h.1;
   ticked = λ c past n h. still_learnt c (ticked c (suc n)).entry past h.1;
-  begun = λ c past n act h r. (let s : Step ClientState = begin_row (Client n) (c.clients n) c.clock act in let e : Entry = of_client n s in client_learnt c e past n None s h.1 (begins_tame any_told (Tells (e ∷ past)) (IsOf (e ∷ past)) n (c.clients n) c.clock act (own_replies c e past n h.1)));
+  begun = λ c past n act h r z0. (let s : Step ClientState = begin_row (Client n) (c.clients n) c.clock act in let e : Entry = of_client n s in client_learnt c e past n None s h.1 (begins_tame any_told (Tells (e ∷ past)) (IsOf (e ∷ past)) n (c.clients n) c.clock act (own_replies c e past n h.1)));
   told = λ c past n place m h at to. (let s : Step ClientState = client_row (Client n) (c.clients n) c.clock place (Whole m) in let e : Entry = of_client n s in client_learnt c e past n (Some place) s h.1 (given_learns c e past n place m h at to));
+  sought = λ c past n place m k h at to z e. (let s : Step ClientState = sought_by (Client n) (c.clients n) c.clock place k m.head m.carried in let e : Entry = of_client n s in client_learnt c e past n (Some place) s h.1 (sought_tame any_told (Tells (e ∷ past)) (IsOf (e ∷ past)) n (c.clients n) c.clock place k m.head m.carried (λ b i q. absurd cc) (own_replies c e past n h.1)));
+  missed = λ c past n k h r z. (let s : Step ClientState = seek_timeout_row (Client n) (c.clients n) k in let e : Entry = of_client n s in client_learnt c e past n None s h.1 (missed_tame any_told (Tells (e ∷ past)) (IsOf (e ∷ past)) n (c.clients n) k (own_replies c e past n h.1)));
+  loc = λ c past l ls ms h st. loc_learnt c past l ls ms h.1 st;
   waited = λ c past n act h r. (let s : Step ClientState = timeout_row (Client n) (c.clients n) act in let e : Entry = of_client n s in client_learnt c e past n None s h.1 (waits_tame any_told (Tells (e ∷ past)) (IsOf (e ∷ past)) n (c.clients n) act r (own_replies c e past n h.1)));
-  fallen = λ c past n h. (let s : Step ClientState = record { state = reborn (c.clients n); lines = lines.Crash (Client n) ∷ []; sent = [] } in let e : Entry = of_client n s in client_learnt c e past n None s h.1 (falls_tame any_told (Tells (e ∷ past)) (IsOf (e ∷ past)) n (c.clients n) (first_of (e ∷ past))));
+  fallen = λ c past n h. (let s : Step ClientState = record { state = reborn c.handed (c.clients n); lines = lines.Crash (Client n) ∷ []; sent = [] } in let e : Entry = of_client n s in client_learnt c e past n None s h.1 (falls_tame any_told (Tells (e ∷ past)) (IsOf (e ∷ past)) n c.handed (c.clients n) (first_of (e ∷ past))));
   risen = λ c past n h. (let s : Step ClientState = record { state = c.clients n; lines = lines.Restart (Client n) (c.clients n).epoch ∷ []; sent = [] } in let e : Entry = of_client n s in client_learnt c e past n None s h.1 (rises_tame any_told (Tells (e ∷ past)) (IsOf (e ∷ past)) n (c.clients n) (own_replies c e past n h.1)));
-  loc = λ c past l ls h st. still_learnt c (loc_becomes c l ls).entry past h.1;
   served = λ c past i place m armed h up at to. serves_learns c past i place m armed h up at;
   cut = λ c past i place m t h up at to. (let e : Entry = of_server i (lines.Given place ∷ blow_line i t.stops ∷ []) [] in same_learnt c e past i (Some (in_step m c.clock t)) unarmed h.1 (λ k clock hit is. boot_onto (Server i) (c.hosts i).state.lasting.boot e.lines (lines_of past) (now_has c past i h.0.hears up)));
   stopped = λ c past i h up. same_learnt c (of_server i (lines.Crash (Server i) ∷ []) []) past i (Some at_rest) unarmed h.1 (λ k clock hit is. absurd cc);
@@ -295,7 +315,7 @@ learnt_moves = record {
 }
 
 pub learnt_kept : IsKept KnownLearnt
-learnt_kept c past x h = (known_kept c past x h.0, each_moved KnownLearnt (Behind LearntIn) learnt_moves c past x h)
+learnt_kept c past x so h = (known_kept c past x so h.0, each_moved KnownLearnt (Behind LearntIn) learnt_moves c past x so h)
 
 pub learnt_first : (s : Script) → KnownLearnt (start s) (set_up s ∷ [])
 learnt_first s = (

@@ -1,4 +1,5 @@
 pub mod Basics
+pub mod Beginning
 pub mod Edits
 pub mod Keeping
 pub mod Promising
@@ -35,13 +36,18 @@ pub mod KeysOnce
 pub mod Hearing
 pub mod Members
 pub mod LocLines
+pub mod Needing
+pub mod Seated
+pub mod Listing
 pub mod Moving
 pub mod Firm
 pub mod Seating
 pub mod Acting
 pub mod Following
 pub mod Choosing
+pub mod Posting
 pub mod Knowing
+pub mod Leaving
 pub mod Origins
 pub mod Ideals
 pub mod Cutting
@@ -63,6 +69,12 @@ pub mod Latest
 pub mod Learning
 pub mod Lives
 pub mod Hosted
+pub mod LocLife
+pub mod LocEvents
+pub mod LocJournal
+pub mod LocRuns
+pub mod LocAnswers
+pub mod LocSetUps
 pub mod Delivered
 pub mod Ascending
 pub mod Sending
@@ -118,6 +130,7 @@ pub mod Asking
 pub mod Numbered
 pub mod InTurn
 pub mod Booted
+pub mod Questions
 pub mod Claims
 pub mod Counting
 pub mod Unanswered

@@ -1,5 +1,8 @@
 -- A client that is down does nothing but begin again, in the epoch after its last, and one that is up tells its crash alone, however many
 -- servers a cell has.
+use Rattle.afs_history.specs.declared.acts.Operand.{Operand}
+use Rattle.afs_law.proofs.Listing.{IsSoundLoc}
+use Rattle.afs_law.proofs.Origins.{quietly, sought_acts_in}
 use Rattle.afs_rows.specs.LocSteps.{loc_kind}
 use Rattle.afs_rows.specs.LocRow.{LocState}
 use Rattle.afs_history.specs.declared.acts.Act.{Act}
@@ -7,11 +10,11 @@ use Rattle.afs_history.specs.declared.lines.Line.{Line}
 use Rattle.afs_history.specs.declared.lines.Line.TheVariants as lines
 use Rattle.afs_history.specs.declared.scripts.Script.{Script}
 use Rattle.afs_ideal.specs.Operations.{volume_changed}
-use Rattle.afs_law.proofs.Acting.{Acts, begins_acts, given_acts, waits_acts, who_at}
+use Rattle.afs_law.proofs.Acting.{Acts, begins_acts, given_acts, waits_acts, who_at, missed_acts}
 use Rattle.afs_law.proofs.Basics.{at_put, node_apart, same_node-refl, same_node-true}
 use Rattle.afs_law.proofs.Changing.{run_each}
 use Rattle.afs_law.proofs.KeysOnce.{IsKnown, any_told, by_key}
-use Rattle.afs_law.proofs.Moving.{IsKept, each_moved}
+use Rattle.afs_law.proofs.Moving.{IsKept, each_moved, idle_by}
 use Rattle.afs_law.proofs.Placing.{Placed, PlacedStep, placed_first, placed_kept, placed_moves}
 use Rattle.afs_law.proofs.SettingUp.{AreVersions, all_versions}
 use Rattle.afs_law.specs.Ideal.{first_lines, set_up}
@@ -47,12 +50,14 @@ use Rattle.afs_num.specs.declared.types.Head.{Head}
 use Rattle.afs_num.specs.declared.types.Node.{Node}
 use Rattle.afs_num.specs.declared.types.Node.TheVariants.{Admin, Client, Loc, Server}
 use Rattle.afs_rows.specs.Callbacks.{put}
-use Rattle.afs_rows.specs.ClientRow.{Look, Walked, admits_call, answers_step, awaits, find_cached, is_below, put_entries, put_entry, takes_stored, begin_row, begins_by, behind_batch, body_told, breaks, call_of, calls_again, client_row, counts, dead_code, drop_line, dropped, dropped_after, entries_told, entry_told, gift_of, given, given_up_in, gives_by, gives_up, goes_by, hears, ignores, in_order, is_awaited, is_busy_code, is_older, is_spent, is_trusted, look_at, looked, most_busy, most_reads, read_lines, reborn, refuses, runs_carried, status_look, status_told, takes, takes_bulk, takes_bytes, takes_data, takes_entries, takes_entry, takes_given, takes_list, takes_plain, takes_rights, takes_set, takes_shown, takes_status, timeout_row, tries_again, trusted_in, untrusted_in, walked, walks_on, whole, with_statuses}
-use Rattle.afs_rows.specs.Going.{ClientState, Going, Need, answers, began, gives_back, next, with_read}
+use Rattle.afs_rows.specs.ClientRow.{Look, Walked, admits_call, answers_step, awaits, find_cached, is_below, put_entries, put_entry, takes_stored, begin_row, begins_by, behind_batch, body_told, breaks, call_of, calls_again, client_row, counts, dead_code, drop_line, dropped, dropped_after, entries_told, entry_told, gift_of, given, given_up_in, gives_by, gives_up, goes_by, hears, ignores, in_order, is_awaited, is_busy_code, is_older, is_spent, is_trusted, look_at, looked, most_busy, most_reads, read_lines, reborn, refuses, runs_carried, status_look, status_told, takes, takes_bulk, takes_bytes, takes_data, takes_entries, takes_entry, takes_given, takes_list, takes_plain, takes_rights, takes_set, takes_shown, takes_status, timeout_row, tries_again, trusted_in, untrusted_in, walked, walks_on, whole, with_statuses, seek_timeout_row, sought_ends, seeks_on, timeout_line, sought_by, sought_or, is_sought, act_of, asks_where, volume_asked, is_gone_code, refuses_for_good, most_moved}
+use Rattle.afs_rows.specs.Going.{ClientState, Going, Need, answers, began, gives_back, next, with_read, Seek, operand_in}
 use Rattle.afs_law.proofs.Steps.{calls_at}
-use Rattle.afs_rows.specs.Hosts.{sets, crashed, set_to_fail, set_to_stop, HostStep}
+use Rattle.afs_rows.specs.Hosts.{sets, crashed, set_to_fail, set_to_stop, HostStep, served}
+use Rattle.afs_rows.specs.LocRow.{LocState}
+use Rattle.afs_rows.specs.LocSteps.{loc_kind}
 use Rattle.afs_rows.specs.ServerHosts.{can_start}
-use Rattle.afs_rows.specs.Runs.{Armed, Blow, Cell, Entry, Fall, Input, Luck, Moved, Outcome, RunsTo, back_timed, begins, begun_by, begun_by_disk, client_falls, client_moves, client_rises, client_starts, client_stops, comes_up, fails_early, fails_midway, given_at, given_to, gives, has_client, has_host, is_full, message_at, moved, nothing, server_armed, server_ends, server_given, server_restarted, server_served, server_stopped, server_timed, server_waits, server_wakes, sets_fail, sets_stop, settled, start, starts_again, stops, struck, ticked, ticks, voided, waited_by, waits, wakes, loc_restarted, loc_up}
+use Rattle.afs_rows.specs.Runs.{Armed, Blow, Cell, Entry, Fall, Input, Luck, Moved, Outcome, RunsTo, back_timed, begins, begun_by, begun_by_disk, client_falls, client_moves, client_rises, client_starts, client_stops, comes_up, fails_early, fails_midway, given_at, given_to, gives, has_client, has_host, is_full, message_at, moved, nothing, server_armed, server_ends, server_given, server_restarted, server_served, server_stopped, server_timed, server_waits, server_wakes, sets_fail, sets_stop, settled, start, starts_again, stops, struck, ticked, ticks, voided, waited_by, waits, wakes, loc_restarted, loc_up, sought_for}
 use Rattle.afs_rows.specs.States.{BackCall, CacheEntry, Gift, ServerState}
 use Rattle.afs_rows.specs.Steps.{Step, Begun}
 use Rattle.std.proofs.Common.{zero, suc, ◌+◌, ◌≡◌, ◌⊎◌, inl, inr, ℕ, Bool, true, false, cond, List, [], ◌∷◌, ◌++◌, map, Option, Some, None, refl, sym, ap, subst, ◌∙◌, filter, not}
@@ -151,8 +156,13 @@ takes_alive me c clock place act call (replies.StoreStatus status sync) = set_al
 takes_alive me c clock place act call replies.GiveUpCallBacks = given_alive me c place act call
 takes_alive me c clock place act call reply = plain_alive me c place call
 
+where_alive : (me : Node) (c : ClientState) (place : ℕ) (act : Going) (code : Code) (o : Option Operand) → Alive (asks_where me c place act code o).lines
+where_alive me c place act code None = refl
+where_alive me c place act code (Some o) = refl
+
 refuses_alive : (me : Node) (c : ClientState) (place : ℕ) (act : Going) (code : Code) → Alive (refuses me c place act code).lines
-refuses_alive me c place act code = either_alive (is_busy_code code && nat_lt c.busy most_busy) (calls_again me (record c { busy = c.busy + 1 }) place act) (answers_step me c place code) refl refl
+refuses_alive me c place act code = either_alive (is_busy_code code && nat_lt c.busy most_busy) (calls_again me (record c { busy = c.busy + 1 }) place act) (refuses_for_good me c place act code) refl
+    (either_alive (is_gone_code code && nat_lt c.moved most_moved) (asks_where me c place act code (operand_in act (volume_asked (call_of c act)))) (answers_step me c place code) (where_alive me c place act code (operand_in act (volume_asked (call_of c act)))) refl)
 
 counts_alive : (me : Node) (c : ClientState) (clock place : ℕ) (act : Going) (head : Head) (x : Carried) → Alive (counts me c clock place act head x).lines
 counts_alive me c clock place act head (carried.Call user call) = refl
@@ -187,6 +197,9 @@ hears_alive : (me : Node) (c : ClientState) (clock place : ℕ) (head : Head) (x
 hears_alive me c clock place head (carried.Call user call) = admits_alive me c place head (carried.Call user call) (admitted c.epoch c.seats head)
 hears_alive me c clock place head x = awaits_alive me c clock place head x c.running
 
+pub missed_alive : (me : Node) (c : ClientState) (k : Seek) → Alive (seek_timeout_row me c k).lines
+missed_alive me c k = either_alive (nat_lt c.tries 2) (seeks_on me c k) (sought_ends me c (λ ls. timeout_line me c 3 ∷ ls) dead_code) refl refl
+
 pub told_alive : (me : Node) (c : ClientState) (clock place : ℕ) (m : Message) → Alive (client_row me c clock place (Whole m)).lines
 unfolding client_row
 told_alive me c clock place m = either_alive (same_node m.head.to me) (hears me c clock place m.head m.carried) (ignores c place) (hears_alive me c clock place m.head m.carried) refl
@@ -197,7 +210,7 @@ first_alive me c clock front act need f = walks_alive me c clock front act c.cac
 
 pub begun_alive : (me : Node) (c : ClientState) (clock : ℕ) (act : Act) → Alive (begin_row me c clock act).lines
 unfolding begin_row
-begun_alive me c clock act = first_alive me (record c { busy = 0 }) clock (λ ls. lines.Begin me act ∷ ls) (began c.table act) (next (began c.table act)) (λ ls h. h)
+begun_alive me c clock act = first_alive me (record c { busy = 0; moved = 0 }) clock (λ ls. lines.Begin me act ∷ ls) (began c.table act) (next (began c.table act)) (λ ls h. h)
 
 pub waited_alive : (me : Node) (c : ClientState) (act : Going) → Alive (timeout_row me c act).lines
 waited_alive me c act = either_alive (nat_lt c.tries 2) (tries_again me c act) (gives_up me c (call_of c act)) refl (dropped_alive me (given_up_in (volume_changed (call_of c act)) c.cache) (lines.Answer me dead_code ∷ []) refl)
@@ -288,7 +301,10 @@ same_epoch n x st a alive = elim a.goes [
   | inl r ↦ r.epoch
   | inr y ↦ elim y [
     | inl z ↦ z.epoch
-    | inr z ↦ let no : true ≡ false = ap has_crash_or_restart (sym z.lines) ∙ alive in absurd cc
+    | inr z ↦ elim z.how [
+      | inl f ↦ let no : true ≡ false = ap has_crash_or_restart (sym f.1.1) ∙ alive in absurd cc
+      | inr t ↦ t.0
+    ]
   ]
 ]
 
@@ -313,7 +329,7 @@ falls_lives : (s : Script) (c : Cell) (past : List Entry) (n : ℕ) → Lived s 
 falls_lives s c past n h up = record {
   good = subst (λ (t : Bool). IsLived (Client n) t (epoch_after (Client n) (lines_of past)) (lines.Crash (Client n) ∷ []) []) (sym (h.1.0 n ∙ up)) (inl (refl, refl));
   down = turned_down n past c.away true (lines.Crash (Client n) ∷ lines_of past) (ap (λ (t : Bool). cond t true (is_down (Client n) (lines_of past))) (same_node-refl (Client n))) (λ j ne. ap (λ (t : Bool). cond t true (is_down (Client j) (lines_of past))) (client_apart n j ne)) h.1.0;
-  epochs = λ j. at_put n j (λ (x : ClientState). epoch_after (Client j) (lines.Crash (Client n) ∷ lines_of past) ≡ x.epoch) (reborn (c.clients n)) c.clients
+  epochs = λ j. at_put n j (λ (x : ClientState). epoch_after (Client j) (lines.Crash (Client n) ∷ lines_of past) ≡ x.epoch) (reborn c.handed (c.clients n)) c.clients
       (λ same. subst (λ (k : ℕ). epoch_after (Client k) (lines.Crash (Client n) ∷ lines_of past) ≡ (c.clients n).epoch + 1) same
       (ap (λ (t : Bool). cond t (epoch_after (Client n) (lines_of past) + 1) (epoch_after (Client n) (lines_of past))) (same_node-refl (Client n)) ∙ ap (λ (k : ℕ). k + 1) (h.1.1 n)))
       (λ ne. ap (λ (t : Bool). cond t (epoch_after (Client j) (lines_of past) + 1) (epoch_after (Client j) (lines_of past))) (client_apart n j ne) ∙ h.1.1 j);
@@ -344,12 +360,16 @@ if_down : (s : Script) (c : Cell) (past : List Entry) (away : Bool) (m : Moved) 
 if_down s c past true m h w = w refl
 if_down s c past false m h w = void_lives s c past h
 
-begun_lives : (s : Script) (c : Cell) (past : List Entry) (n : ℕ) (act : Act) (g : Option Going) → Lived s c past → c.away n ≡ false → (c.clients n).running ≡ g → Lives past (begun_by c n act g)
-begun_lives s c past n act None h up r = up_lives s c past n _ h up (begun_alive (Client n) (c.clients n) c.clock act) (begins_acts n (c.clients n) c.clock act r)
+begun_lives : (s : Script) (c : Cell) (past : List Entry) (n : ℕ) (act : Act) (g : Option Going) → Lived s c past → c.away n ≡ false → act_of (c.clients n) ≡ g → Lives past (begun_by c n act g)
+begun_lives s c past n act None h up r = let q = idle_by (c.clients n).running (c.clients n).seeking r in up_lives s c past n _ h up (begun_alive (Client n) (c.clients n) c.clock act) (begins_acts n (c.clients n) c.clock act q.0 q.1)
 begun_lives s c past n act (Some g) h up r = void_lives s c past h
 
+missed_lives : (s : Script) (c : Cell) (past : List Entry) (n : ℕ) (o : Option Seek) → Lived s c past → c.away n ≡ false → (c.clients n).running ≡ None → (c.clients n).seeking ≡ o → Lives past (sought_for c n o)
+missed_lives s c past n None h up r z = void_lives s c past h
+missed_lives s c past n (Some k) h up r z = up_lives s c past n _ h up (missed_alive (Client n) (c.clients n) k) (missed_acts n (c.clients n) k r z)
+
 waited_lives : (s : Script) (c : Cell) (past : List Entry) (n : ℕ) (g : Option Going) → Lived s c past → c.away n ≡ false → (c.clients n).running ≡ g → Lives past (waited_by c n g)
-waited_lives s c past n None h up r = void_lives s c past h
+waited_lives s c past n None h up r = missed_lives s c past n (c.clients n).seeking h up r refl
 waited_lives s c past n (Some act) h up r = up_lives s c past n _ h up (waited_alive (Client n) (c.clients n) act) (waits_acts n (c.clients n) act r)
 
 -- ---- the inputs of servers
@@ -410,20 +430,33 @@ woken_besides c i (Some fall) = void_besides c
 
 -- ---- every input
 
-to_lives : (s : Script) (c : Cell) (past : List Entry) (place : ℕ) (luck : Luck) (m : Message) (to : Node) → Lived s c past → InPlace s past (given_to c place luck m to) → Lives past (given_to c place luck m to)
-to_lives s c past place luck m (Server i) h p = besides_lives s c past _ h p (if_besides c (has_host c i) _ (received_besides c i place luck m (c.hosts i).down))
-to_lives s c past place luck m (Client n) h p = unless_away s c past (has_client c.count n) (c.away n) _ h (λ up. up_lives s c past n _ h up (told_alive (Client n) (c.clients n) c.clock place m) (given_acts (by_key (IsKnown h.0.0.0.keys.callees c.clients)) any_told n (c.clients n) c.clock place m (h.0.0.0.keys.replies n) (h.0.0.1.seats n)))
-to_lives s c past place luck m Loc h p = void_lives s c past h
-to_lives s c past place luck m (Admin n) h p = void_lives s c past h
+-- a message comes to a client, whatever that waits for
+told_lives : (s : Script) (c : Cell) (past : List Entry) (n place : ℕ) (m : Message) → Lived s c past → c.away n ≡ false → Lives past (client_moves c n (client_row (Client n) (c.clients n) c.clock place (Whole m)))
+told_lives s c past n place m h up = up_lives s c past n _ h up (told_alive (Client n) (c.clients n) c.clock place m) (given_acts (by_key (IsKnown h.0.0.0.keys.callees c.clients)) any_told n (c.clients n) c.clock place m (h.0.0.0.keys.replies n) (h.0.0.1.seats n))
 
-at_lives : (s : Script) (c : Cell) (past : List Entry) (place : ℕ) (luck : Luck) (o : Option Message) → Lived s c past → InPlace s past (given_at c place luck o) → Lives past (given_at c place luck o)
-at_lives s c past place luck None h p = void_lives s c past h
-at_lives s c past place luck (Some m) h p = to_lives s c past place luck m m.head.to h p
+sought_lives : (s : Script) (c : Cell) (past : List Entry) (n place : ℕ) (m : Message) (k : Seek) (t : Bool) → Lived s c past → c.away n ≡ false → message_at c.sent place ≡ Some m → (c.clients n).seeking ≡ Some k → is_sought (Client n) (c.clients n) k m.head m.carried ≡ t
+    → Lives past (client_moves c n (cond t (sought_by (Client n) (c.clients n) c.clock place k m.head m.carried) (client_row (Client n) (c.clients n) c.clock place (Whole m))))
+sought_lives s c past n place m k true h up at z e = up_lives s c past n _ h up (quietly s c past n place m k (λ st. Alive st.lines) h.0.0.1 at z e (λ code. refl) refl refl) (sought_acts_in s c past n place m k h.0.0.1 at z e)
+sought_lives s c past n place m k false h up at z e = told_lives s c past n place m h up
+
+guest_lives : (s : Script) (c : Cell) (past : List Entry) (n place : ℕ) (m : Message) (o : Option Seek) → Lived s c past → c.away n ≡ false → message_at c.sent place ≡ Some m → (c.clients n).seeking ≡ o → Lives past (client_moves c n (sought_or (Client n) (c.clients n) c.clock place m o))
+guest_lives s c past n place m None h up at z = told_lives s c past n place m h up
+guest_lives s c past n place m (Some k) h up at z = sought_lives s c past n place m k (is_sought (Client n) (c.clients n) k m.head m.carried) h up at z refl
+
+to_lives : (s : Script) (c : Cell) (past : List Entry) (place : ℕ) (luck : Luck) (m : Message) (to : Node) → Lived s c past → message_at c.sent place ≡ Some m → InPlace s past (given_to c place luck m to) → Lives past (given_to c place luck m to)
+to_lives s c past place luck m (Server i) h at p = besides_lives s c past _ h p (if_besides c (has_host c i) _ (received_besides c i place luck m (c.hosts i).down))
+to_lives s c past place luck m (Client n) h at p = unless_away s c past (has_client c.count n) (c.away n) _ h (λ up. guest_lives s c past n place m (c.clients n).seeking h up at refl)
+to_lives s c past place luck m Loc h at p = besides_lives s c past _ h p (loc_up_besides c (served loc_kind c.loc c.clock place luck m) c.loc.down)
+to_lives s c past place luck m (Admin n) h at p = void_lives s c past h
+
+at_lives : (s : Script) (c : Cell) (past : List Entry) (place : ℕ) (luck : Luck) (o : Option Message) → Lived s c past → message_at c.sent place ≡ o → InPlace s past (given_at c place luck o) → Lives past (given_at c place luck o)
+at_lives s c past place luck None h at p = void_lives s c past h
+at_lives s c past place luck (Some m) h at p = to_lives s c past place luck m m.head.to h at p
 
 moved_lives : (s : Script) (c : Cell) (past : List Entry) (x : Input) → Lived s c past → InPlace s past (moved c x) → Lives past (moved c x)
 unfolding moved
-moved_lives s c past (begins n act) h p = unless_away s c past (has_client c.count n) (c.away n) _ h (λ up. begun_lives s c past n act (c.clients n).running h up refl)
-moved_lives s c past (gives place luck) h p = at_lives s c past place luck (message_at c.sent place) h p
+moved_lives s c past (begins n act) h p = unless_away s c past (has_client c.count n) (c.away n) _ h (λ up. begun_lives s c past n act (act_of (c.clients n)) h up refl)
+moved_lives s c past (gives place luck) h p = at_lives s c past place luck (message_at c.sent place) h refl p
 moved_lives s c past (waits n) h p = unless_away s c past (has_client c.count n) (c.away n) _ h (λ up. waited_lives s c past n (c.clients n).running h up refl)
 moved_lives s c past (ticks zero) h p = void_lives s c past h
 moved_lives s c past (ticks (suc n)) h p = besides_lives s c past (ticked c (suc n)) h p (record { other = λ j e. absurd cc; away = refl; clients = refl })
@@ -441,11 +474,11 @@ moved_lives s c past (server_waits i n) h p = besides_lives s c past _ h p (if_b
 moved_lives s c past (wakes i) h p = besides_lives s c past _ h p (if_besides c (has_host c i) _ (woken_besides c i (c.hosts i).down))
 moved_lives s c past nothing h p = void_lives s c past h
 
-step_lives : (s : Script) (c : Cell) (past : List Entry) (x : Input) → Lived s c past → Lives past (moved c x)
-step_lives s c past x h = moved_lives s c past x h (each_moved (Placed s) (PlacedStep s) (placed_moves s) c past x h.0)
+step_lives : (s : Script) (c : Cell) (past : List Entry) (x : Input) → IsSoundLoc c.loc.state → Lived s c past → Lives past (moved c x)
+step_lives s c past x so h = moved_lives s c past x h (each_moved (Placed s) (PlacedStep s) (placed_moves s) c past x so h.0)
 
 pub lived_kept : (s : Script) → IsKept (Lived s)
-lived_kept s c past x h = let k = step_lives s c past x h in (placed_kept s c past x h.0, (k.down, k.epochs))
+lived_kept s c past x so h = let k = step_lives s c past x so h in (placed_kept s c past x so h.0, (k.down, k.epochs))
 
 -- the set-up tells versions alone
 pub versions_alive : (ls : List Line) → AreVersions ls → Alive ls
@@ -464,4 +497,4 @@ lived_first s = (placed_first s, (λ j. first_down j (first_lines s.volumes) (al
 
 pub run_lived : (s : Script) (h : List Entry) (end : Cell) → RunsTo h s end → EachEntry (λ past e. IsClientLived e.actor past e.lines e.sent) (set_up s ∷ []) h
 run_lived s h end r =
-    run_each (Lived s) (λ past e. IsClientLived e.actor past e.lines e.sent) (lived_kept s) (λ c past x k. (step_lives s c past x k).good) r.inputs (start s) (set_up s ∷ []) h end (lived_first s) r.leads
+    run_each (Lived s) (λ past e. IsClientLived e.actor past e.lines e.sent) (lived_kept s) (λ c past x so k. (step_lives s c past x so k).good) r.inputs s (set_up s ∷ []) h end (lived_first s) r.leads

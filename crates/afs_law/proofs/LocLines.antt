@@ -1,4 +1,5 @@
 -- What the location database tells in its steps, as walks over the runs of a cell use it.
+use Rattle.afs_law.proofs.Booting.{is_running}
 use Rattle.std.proofs.Common.{◌≡◌, ◌+◌, ℕ, Bool, true, false, cond, List, [], ◌∷◌, ◌++◌, Option, Some, None, refl, sym, ap, subst, nat_eq}
 use Rattle.std.specs.Prelude.{◌&&◌}
 use Rattle.afs_num.specs.Nodes.{same_node}
@@ -16,7 +17,7 @@ use Rattle.afs_records.specs.LocEffects.{deed_told, located_by, lock_before, loc
 use Rattle.afs_records.specs.LocRecords.{leaves, removes, sets, Deed, Listed, Lock}
 use Rattle.afs_law.specs.Legal.{IsInPlace}
 use Rattle.afs_law.specs.Parts.{EachLine}
-use Rattle.afs_law.specs.Past.{given_message}
+use Rattle.afs_law.specs.Past.{given_message, has_given}
 use Rattle.afs_law.proofs.Backing.{all_lines}
 use Rattle.afs_law.proofs.Basics.{both, same_node-true}
 use Rattle.afs_rows.specs.Hosts.{begun_from}
@@ -26,8 +27,9 @@ use Rattle.afs_rows.specs.Runs.{at_rest, in_boot, in_step, Entry, Fall}
 
 -- ---- its lines
 
--- a line that the location database tells, on no message
+-- a line that the location database tells
 abbrev pub is_of_loc : Line → Bool
+is_of_loc (lines.Given place) = true
 is_of_loc (lines.Crash n) = same_node n Loc
 is_of_loc (lines.Fault n) = same_node n Loc
 is_of_loc (lines.Restart n boot) = same_node n Loc
@@ -40,13 +42,14 @@ is_of_loc (lines.Recovered v) = true
 is_of_loc (lines.Located v server) = true
 is_of_loc l = false
 
--- a line of a step or of a restart of it: its disk isn't set in that
+-- of those the lines that it tells of what it does: no message is given in them, and its disk isn't set
 abbrev pub is_told : Line → Bool
+is_told (lines.Given place) = false
 is_told (lines.Stop n calls pick) = false
 is_told (lines.Fail n call) = false
 is_told l = is_of_loc l
 
-loc_node : (n : Node) → same_node n Loc ≡ true → n ≡ Loc
+pub loc_node : (n : Node) → same_node n Loc ≡ true → n ≡ Loc
 loc_node n h = same_node-true n Loc h
 
 pub all_of_loc : (p : Line → Bool) → ((l : Line) → is_of_loc l ≡ true → p l ≡ true) → (ls : List Line) → all_lines is_of_loc ls ≡ true → all_lines p ls ≡ true
@@ -54,34 +57,28 @@ all_of_loc p w [] h = refl
 all_of_loc p w (l ∷ ls) h = let q = both (is_of_loc l) (all_lines is_of_loc ls) h in rw (w l q.0, all_of_loc p w ls q.1) refl
 
 -- it is given no message
-pub told_gives : (ls : List Line) (sent : List Message) → all_lines is_of_loc ls ≡ true → given_message ls sent ≡ None
+pub told_gives : (ls : List Line) (sent : List Message) → all_lines is_told ls ≡ true → given_message ls sent ≡ None
 told_gives [] sent h = refl
 told_gives (lines.Given place ∷ ls) sent h = absurd cc
-told_gives (l ∷ ls) sent h = told_gives ls sent (both (is_of_loc l) (all_lines is_of_loc ls) h).1
+told_gives (l ∷ ls) sent h = told_gives ls sent (both (is_told l) (all_lines is_told ls) h).1
+
+-- nor tells that it is
+pub told_none : (ls : List Line) → all_lines is_told ls ≡ true → has_given ls ≡ false
+told_none [] h = refl
+told_none (lines.Given place ∷ ls) h = absurd cc
+told_none (l ∷ ls) h = told_none ls (both (is_told l) (all_lines is_told ls) h).1
 
 told_of : (l : Line) → is_told l ≡ true → is_of_loc l ≡ true
+told_of (lines.Given place) h = absurd cc
 told_of (lines.Stop n calls pick) h = absurd cc
 told_of (lines.Fail n call) h = absurd cc
 told_of l h = h
 
-told_are : (ls : List Line) → all_lines is_told ls ≡ true → all_lines is_of_loc ls ≡ true
+pub told_are : (ls : List Line) → all_lines is_told ls ≡ true → all_lines is_of_loc ls ≡ true
 told_are [] h = refl
 told_are (l ∷ ls) h = let q = both (is_told l) (all_lines is_told ls) h in rw (told_of l q.0, told_are ls q.1) refl
 
--- ---- a step of it
-
--- what it tells in a step: lines of its own, each in its place
-pub record IsLocStep (ls : List Line) : Type 0 where
-  pub lines : all_lines is_of_loc ls ≡ true
-  pub places : (s : Script) (past : List Entry) → EachLine (IsInPlace s) (actors.Node Loc) past [] ls
-
-pub stop_step : (calls pick : ℕ) → IsLocStep (lines.Stop Loc calls pick ∷ [])
-stop_step calls pick = record { lines = refl; places = λ s past. ((refl, (refl, refl)), tt) }
-
-pub fail_step : (call : ℕ) → IsLocStep (lines.Fail Loc call ∷ [])
-fail_step call = record { lines = refl; places = λ s past. ((refl, (refl, refl)), tt) }
-
-both_told : (a b : List Line) → all_lines is_told a ≡ true → all_lines is_told b ≡ true → all_lines is_told (a ++ b) ≡ true
+pub both_told : (a b : List Line) → all_lines is_told a ≡ true → all_lines is_told b ≡ true → all_lines is_told (a ++ b) ≡ true
 both_told [] b h k = k
 both_told (l ∷ a) b h k = let q = both (is_told l) (all_lines is_told a) h in rw (q.0, both_told a b q.1 k) refl
 
@@ -97,49 +94,66 @@ told_place s (lines.Recovered v) past own next h = refl
 told_place s (lines.Located v server) past own next h = refl
 told_place s l past own next h = absurd cc
 
-told_places : (s : Script) (ls : List Line) (past : List Entry) (own : List Line) → all_lines is_told ls ≡ true → EachLine (IsInPlace s) (actors.Node Loc) past own ls
+pub told_places : (s : Script) (ls : List Line) (past : List Entry) (own : List Line) → all_lines is_told ls ≡ true → EachLine (IsInPlace s) (actors.Node Loc) past own ls
 told_places s [] past own h = tt
 told_places s (l ∷ ls) past own h = let q = both (is_told l) (all_lines is_told ls) h in (told_place s l past own ls q.0, told_places s ls past (l ∷ own) q.1)
 
-pub told_step : (ls : List Line) → all_lines is_told ls ≡ true → IsLocStep ls
-told_step ls h = record { lines = told_are ls h; places = λ s past. told_places s ls past [] h }
-
 -- ---- what a record tells
 
-if_told : (t : Bool) (a b : List Line) → all_lines is_told a ≡ true → all_lines is_told b ≡ true → all_lines is_told (cond t a b) ≡ true
-if_told true a b h k = h
-if_told false a b h k = k
+-- a line of a lock or a place
+abbrev pub is_deed : Line → Bool
+is_deed (lines.Locked v stamp operation) = true
+is_deed (lines.Unlocked v) = true
+is_deed (lines.Recovered v) = true
+is_deed (lines.Located v server) = true
+is_deed l = false
 
-located_told : (v : ℕ) (before after : Option ℕ) → all_lines is_told (located_by v before after) ≡ true
-located_told v before None = refl
-located_told v before (Some i) = if_told (same_site before (Some i)) [] (lines.Located v (Server i) ∷ []) refl refl
+if_deeds : (t : Bool) (a b : List Line) → all_lines is_deed a ≡ true → all_lines is_deed b ≡ true → all_lines is_deed (cond t a b) ≡ true
+if_deeds true a b h k = h
+if_deeds false a b h k = k
 
-locks_told : (v : ℕ) (before after : Option Lock) → all_lines is_told (lock_told v before after) ≡ true
-locks_told v None (Some l) = refl
-locks_told v (Some k) (Some l) = if_told (nat_eq k.stamp l.stamp) [] (lines.Locked v l.stamp l.operation ∷ []) refl refl
-locks_told v (Some k) None = if_told k.forced (lines.Recovered v ∷ lines.Unlocked v ∷ []) (lines.Unlocked v ∷ []) refl refl
-locks_told v None None = refl
+both_deeds : (a b : List Line) → all_lines is_deed a ≡ true → all_lines is_deed b ≡ true → all_lines is_deed (a ++ b) ≡ true
+both_deeds [] b h k = k
+both_deeds (l ∷ a) b h k = let q = both (is_deed l) (all_lines is_deed a) h in rw (q.0, both_deeds a b q.1 k) refl
 
-deeds_told : (d : Deed) (t : Table Listed) → all_lines is_told (deed_told d t) ≡ true
-deeds_told (sets l) t =
-    both_told (lock_told l.entry.read_write (lock_before (get l.entry.read_write t)) l.lock) (located_by l.entry.read_write (site_before (get l.entry.read_write t)) (site_of l.entry))
-    (locks_told l.entry.read_write (lock_before (get l.entry.read_write t)) l.lock) (located_told l.entry.read_write (site_before (get l.entry.read_write t)) (site_of l.entry))
-deeds_told (removes e) t = refl
-deeds_told leaves t = refl
+located_deeds : (v : ℕ) (before after : Option ℕ) → all_lines is_deed (located_by v before after) ≡ true
+located_deeds v before None = refl
+located_deeds v before (Some i) = if_deeds (same_site before (Some i)) [] (lines.Located v (Server i) ∷ []) refl refl
 
--- ---- what a restart tells before its own line
+locks_deeds : (v : ℕ) (before after : Option Lock) → all_lines is_deed (lock_told v before after) ≡ true
+locks_deeds v None (Some l) = refl
+locks_deeds v (Some k) (Some l) = if_deeds (nat_eq k.stamp l.stamp) [] (lines.Locked v l.stamp l.operation ∷ []) refl refl
+locks_deeds v (Some k) None = if_deeds k.forced (lines.Recovered v ∷ lines.Unlocked v ∷ []) (lines.Unlocked v ∷ []) refl refl
+locks_deeds v None None = refl
 
-before_told : (s : LocState) (d : LocDecision) (ls : List Line) → all_lines is_told ls ≡ true → all_lines is_told ((loc_begun_after s d).before ls) ≡ true
-before_told s drops ls h = h
-before_told s (tells_boot head) ls h = h
-before_told s (repeats reply) ls h = h
-before_told s (refuses head code) ls h = h
-before_told s (shows head reply) ls h = h
-before_told s (saves head c) ls h = both_told (deed_told c.deed s.lasting.entries) ls (deeds_told c.deed s.lasting.entries) h
+pub are_deeds : (d : Deed) (t : Table Listed) → all_lines is_deed (deed_told d t) ≡ true
+are_deeds (sets l) t =
+    both_deeds (lock_told l.entry.read_write (lock_before (get l.entry.read_write t)) l.lock) (located_by l.entry.read_write (site_before (get l.entry.read_write t)) (site_of l.entry))
+    (locks_deeds l.entry.read_write (lock_before (get l.entry.read_write t)) l.lock) (located_deeds l.entry.read_write (site_before (get l.entry.read_write t)) (site_of l.entry))
+are_deeds (removes e) t = refl
+are_deeds leaves t = refl
 
-pub begun_told : (s : LocState) (after : Bool) (fall : Fall) (ls : List Line) → all_lines is_told ls ≡ true → all_lines is_told ((begun_from loc_kind s after fall).before ls) ≡ true
-begun_told s after at_rest ls h = h
-begun_told s false (in_step m clock b) ls h = h
-begun_told s true (in_step m clock b) ls h = before_told s (loc_decides s (Whole m)) ls h
-begun_told s false in_boot ls h = h
-begun_told s true in_boot ls h = h
+pub all_deeds : (p : Line → Bool) → ((l : Line) → is_deed l ≡ true → p l ≡ true) → (ls : List Line) → all_lines is_deed ls ≡ true → all_lines p ls ≡ true
+all_deeds p w [] h = refl
+all_deeds p w (l ∷ ls) h = let q = both (is_deed l) (all_lines is_deed ls) h in rw (w l q.0, all_deeds p w ls q.1) refl
+
+deed_told_line : (l : Line) → is_deed l ≡ true → is_told l ≡ true
+deed_told_line (lines.Locked v stamp operation) h = refl
+deed_told_line (lines.Unlocked v) h = refl
+deed_told_line (lines.Recovered v) h = refl
+deed_told_line (lines.Located v server) h = refl
+deed_told_line l h = absurd cc
+
+pub deeds_told : (d : Deed) (t : Table Listed) → all_lines is_told (deed_told d t) ≡ true
+deeds_told d t = all_deeds is_told deed_told_line (deed_told d t) (are_deeds d t)
+
+-- none of them tells that it stops or begins again
+pub deed_runs : (l : Line) → is_deed l ≡ true → is_running l ≡ true
+deed_runs (lines.Locked v stamp operation) h = refl
+deed_runs (lines.Unlocked v) h = refl
+deed_runs (lines.Recovered v) h = refl
+deed_runs (lines.Located v server) h = refl
+deed_runs l h = absurd cc
+
+pub deeds_run : (d : Deed) (t : Table Listed) → all_lines is_running (deed_told d t) ≡ true
+deeds_run d t = all_deeds is_running deed_runs (deed_told d t) (are_deeds d t)

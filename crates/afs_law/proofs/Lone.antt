@@ -1,11 +1,20 @@
 -- An act changes things once, however many servers a cell has: of the calls of one act at most one may change something, and that is its
 -- client's last.
-use Rattle.afs_law.proofs.Following.{none_runs, Follows, begins_follow, falls_follow, given_follow, more_not, rises_follow, waits_follow}
+use Rattle.afs_law.proofs.Leaving.{missed_last, sought_last}
+use Rattle.afs_law.specs.LocLaws.{IsToldIn}
+use Rattle.afs_num.specs.declared.calls.FsCall.TheVariants as calls
+use Rattle.afs_model.specs.Calls as pairs
+use Rattle.afs_model.specs.Calls.{Admitted, admitted}
+use Rattle.afs_history.specs.declared.acts.Act.{Act}
+use Rattle.afs_law.proofs.Beginning.{row_begun}
+use Rattle.afs_law.proofs.Knowing.{Known}
+use Rattle.afs_law.proofs.Listing.{loc_own}
+use Rattle.afs_law.proofs.Following.{none_runs, Follows, begins_follow, falls_follow, given_follow, more_not, rises_follow, waits_follow, sought_follow, missed_follow}
 use Rattle.afs_history.specs.declared.lines.Line.{Line}
 use Rattle.afs_history.specs.declared.lines.Line.TheVariants as lines
 use Rattle.afs_history.specs.declared.scripts.Script.{Script}
 use Rattle.afs_ideal.specs.Operations.{the_user, volume_changed}
-use Rattle.afs_law.proofs.Acting.{Acts, Asks, IsTheCall, begins_acts, falls_acts, given_acts, last_key, rises_acts, waits_acts, who_at}
+use Rattle.afs_law.proofs.Acting.{Acts, Asks, IsTheCall, begins_acts, falls_acts, given_acts, last_key, rises_acts, waits_acts, who_at, missed_acts, IsPlaced, by_quiet, sought_quiet}
 use Rattle.afs_law.proofs.Backing.{all_lines}
 use Rattle.afs_law.proofs.Basics.{ByClient, Each, IfCall, UpTo, at_put, both, by_client, client_number, each_at, node_apart, same_key-true, same_node-true, some_of}
 use Rattle.afs_law.proofs.Changing.{HeldCuts, IdealStep, cuts_first, cuts_kept, ideal_moves, run_each}
@@ -17,14 +26,14 @@ use Rattle.afs_law.proofs.KeysOnce.{IsKnown, any_told, by_key, known_pair}
 use Rattle.afs_law.proofs.SettingUp.{first_passed}
 use Rattle.afs_law.proofs.Moving.{Behind, EachMove, IsKept, each_moved}
 use Rattle.afs_law.proofs.Ops.{changes_is}
-use Rattle.afs_law.proofs.Origins.{AskedIn, any_cut, any_message, blow_idle, idle_leaves, idle_works, is_idle, of_client, other_leaves, same_key_at, the_calls, loc_idle}
+use Rattle.afs_law.proofs.Origins.{AskedIn, any_cut, any_message, blow_idle, idle_leaves, idle_works, is_idle, of_client, other_leaves, same_key_at, the_calls, loc_idle, sought_acts_in, placed_in, told_in, handed_same}
 use Rattle.afs_law.proofs.Passing.{IsAmong, among, changing_back, changing_more, lone_at, lone_first, lone_more, no_change, was_sent}
 use Rattle.afs_law.proofs.Placing.{Placed, PlacedStep, placed_first, placed_kept, placed_moves}
 use Rattle.afs_law.proofs.Saving.{any_change, later_not}
-use Rattle.afs_law.proofs.Sending.{rises_posts, served_posts, times_posts, wakes_posts}
+use Rattle.afs_law.proofs.Posting.{rises_posts, served_posts, times_posts, wakes_posts}
 use Rattle.afs_law.specs.ClientParts.{ChangesAreAlone, IsAlone, IsFirstOfAct}
 use Rattle.afs_law.specs.Ideal.{call_in, call_under, change_in, set_up}
-use Rattle.afs_law.specs.Legal.{HasChange, HasChangeBy, IdealChange, IsInPlace, IsNew, IsNot, IsOfClient}
+use Rattle.afs_law.specs.Legal.{HasChange, HasChangeBy, IdealChange, IsInPlace, IsNew, IsNot, IsOfClient, IsLater}
 use Rattle.afs_law.specs.Parts.{EachLine, IsIdeal}
 use Rattle.afs_law.specs.Past.{Called, called_key, has_begun, has_sent, is_called, is_of_act, is_sent_since, lines_of, onto, running, sent_of}
 use Rattle.afs_num.specs.Nodes.{same_node}
@@ -42,15 +51,16 @@ use Rattle.afs_num.specs.declared.types.Key.{Key}
 use Rattle.afs_num.specs.declared.types.Node.{Node}
 use Rattle.afs_num.specs.declared.types.Node.TheVariants.{Admin, Client, Loc, Server}
 use Rattle.afs_rows.specs.Callbacks.{put}
-use Rattle.afs_rows.specs.ClientRow.{call_of}
-use Rattle.afs_rows.specs.Going.{ClientState, Going, began, read_on}
+use Rattle.afs_rows.specs.ClientRow.{call_of, act_by, act_of, act_sought, admits_call, awaits, begin_row, breaks, client_row, hears, ignores, runs_carried, seek_timeout_row, sought_by, whole, reborn}
+use Rattle.afs_rows.specs.Going.{ClientState, Going, began, read_on, Seek}
 use Rattle.afs_law.proofs.Steps.{blow_line, server_falls, server_moves, server_rises, server_set, server_stays, loc_becomes}
 use Rattle.afs_rows.specs.Runs.{Cell, Entry, at_rest, begun_by_disk, in_boot, in_step, locations, moved, start, ticked, voided}
+use Rattle.afs_law.proofs.Steps.{loc_becomes}
 use Rattle.afs_rows.specs.ServerSteps.{back_timeout_row, server_row, wake_row}
 use Rattle.afs_rows.specs.ServerRow.{is_client, key_of}
 use Rattle.afs_rows.specs.Steps.{Step}
 use Rattle.std.proofs.Common.{suc, ◌≡◌, ℕ, ◌+◌, ◌⊎◌, inl, inr, Bool, true, false, cond, List, [], ◌∷◌, ◌++◌, Option, Some, None, refl, sym, ap, subst, ◌∙◌}
-use Rattle.std.specs.Prelude.{⊤}
+use Rattle.std.specs.Prelude.{⊤, nat_lt}
 use Rattle.afs_law.proofs.Looking.{begun_by}
 
 -- ---- of the act that runs only the client's last call may change something
@@ -58,8 +68,12 @@ use Rattle.afs_law.proofs.Looking.{begun_by}
 abbrev pub LastOf : (ℕ → ClientState) → List Entry → Type 0
 LastOf clients past = (j : ℕ) (act : Going) → (clients j).running ≡ Some act → (k : Key) → is_of_act (Client j) k past ≡ true → IsChangingUnder k (sent_of past) → k ≡ last_key j (clients j)
 
+-- and while that waits for the location database, no call of its client has a later pair than what may have changed something
+abbrev pub SoughtOf : (ℕ → ClientState) → List Entry → Type 0
+SoughtOf clients past = (j : ℕ) (k : Seek) → (clients j).seeking ≡ Some k → (l : Key) → is_of_act (Client j) l past ≡ true → IsChangingUnder l (sent_of past) → (q : Key) → q.node ≡ Client j → has_sent q (sent_of past) ≡ true → UpTo q.epoch q.number l.epoch l.number
+
 abbrev pub LonesOf : (ℕ → ClientState) → List Entry → Type 0
-LonesOf clients past = LastOf clients past × AreLone (sent_of past) past
+LonesOf clients past = LastOf clients past × (AreLone (sent_of past) past × SoughtOf clients past)
 
 abbrev pub LonesIn : Cell → List Entry → Type 0
 LonesIn c past = LonesOf c.clients past
@@ -93,13 +107,24 @@ lone_aside j e past a h k l x y c d =
 last_aside : (clients : ℕ → ClientState) (j : ℕ) (e : Entry) (past : List Entry) → Aside j e → LastOf clients past → (act : Going) → (clients j).running ≡ Some act → (k : Key) → is_of_act (Client j) k (e ∷ past) ≡ true → IsChangingUnder k (sent_of (e ∷ past)) → k ≡ last_key j (clients j)
 last_aside clients j e past a h act r k x c = let x' : is_of_act (Client j) k past ≡ true = of_act_before j k e past a x in h j act r k x' (changing_before j k e past x' c)
 
+back_by : (t a b : Bool) → (a ≡ true → b ≡ true) → cond t true a ≡ true → cond t true b ≡ true
+back_by true a b w h = refl
+back_by false a b w h = w h
+
+sent_back : (k : Key) (a b : List Message) → has_sent k b ≡ false → has_sent k (a ++ b) ≡ true → has_sent k a ≡ true
+sent_back k [] b none h = let no_ : false ≡ true = sym none ∙ h in absurd cc
+sent_back k (m ∷ a) b none h = back_by (is_called k m.head m.carried) (has_sent k (a ++ b)) (has_sent k a) (sent_back k a b none) h
+
+sought_aside : (clients : ℕ → ClientState) (j : ℕ) (e : Entry) (past : List Entry) → Aside j e → SoughtOf clients past → (k : Seek) → (clients j).seeking ≡ Some k → (l : Key) → is_of_act (Client j) l (e ∷ past) ≡ true → IsChangingUnder l (sent_of (e ∷ past)) → (q : Key) → q.node ≡ Client j → has_sent q (sent_of (e ∷ past)) ≡ true → UpTo q.epoch q.number l.epoch l.number
+sought_aside clients j e past a h k z l x c q node has = let x' : is_of_act (Client j) l past ≡ true = of_act_before j l e past a x in h j k z l x' (changing_before j l e past x' c) q node (sent_back q (sent_of past) e.sent (a.unsent q node) has)
+
 older_lone : (e : Entry) (past : List Entry) → AreLone (sent_of past) past → AreLone (sent_of (e ∷ past)) past
 older_lone e past h = lone_more past (sent_of past) e.sent (λ k y. y) h
 
 aside_lones : (clients : ℕ → ClientState) (e : Entry) (past : List Entry) → ((j : ℕ) → Aside j e) → LonesOf clients past → LonesOf clients (e ∷ past)
 aside_lones clients e past a h = (
   λ j act r k x c. last_aside clients j e past (a j) h.0 act r k x c,
-  (λ j k l x y c d. lone_aside j e past (a j) h.1 k l x y c d, older_lone e past h.1),
+  ((λ j k l x y c d. lone_aside j e past (a j) h.1.0 k l x y c d, older_lone e past h.1.0), λ j k z l x c q node has. sought_aside clients j e past (a j) h.1.1 k z l x c q node has),
 )
 
 -- what another node sends is none of its calls
@@ -117,6 +142,12 @@ called_by true me k head carried.Notice from ne e = absurd cc
 none_sent : (me : Node) (k : Key) (ms : List Message) → Each (IsSentBy me) ms → same_node me k.node ≡ false → has_sent k ms ≡ false
 none_sent me k [] h ne = refl
 none_sent me k (m ∷ ms) h ne = rw (called_by (is_called k m.head m.carried) me k m.head m.carried h.0.from ne refl, none_sent me k ms h.1 ne) refl
+
+loc_aside : (s : Script) (e : Entry) (past : List Entry) → all_lines is_idle e.lines ≡ true → Each (IsSentBy Loc) e.sent → (j : ℕ) → Aside j e
+loc_aside s e past idle by j = record {
+  begins = (idle_leaves s j e.lines (lines_of past) idle).begins;
+  unsent = λ k node. none_sent Loc k e.sent by (ap (same_node Loc) node);
+}
 
 server_aside : (s : Script) (i : ℕ) (e : Entry) (past : List Entry) → all_lines is_idle e.lines ≡ true → Each (IsSentBy (Server i)) e.sent → (j : ℕ) → Aside j e
 server_aside s i e past idle by j = record {
@@ -163,24 +194,24 @@ stays_idle s n (lines.Crash m ∷ ls) o h r = stays_idle s n ls (lines.Crash m �
 stays_idle s n (l ∷ ls) o h r = stays_idle s n ls (l ∷ o) h r
 
 -- where it has asked further, its last call changed nothing
-asked_last : (s : Script) (c : Cell) (past : List Entry) (n : ℕ) (st : Step ClientState) (o : Option Going) → sent_of past ≡ c.sent → AskedIn s c past → LastOf c.clients past → Acts n (who_at (c.clients n)) (c.clients n).gifts st → Follows n (c.clients n) st → Asks n (who_at (c.clients n)) st → (c.clients n).running ≡ o → has_begun (Client n) st.lines ≡ false
+asked_last : (s : Script) (c : Cell) (past : List Entry) (n : ℕ) (st : Step ClientState) (o : Option Going) → sent_of past ≡ c.sent → AskedIn s c past → LastOf c.clients past → Acts n (who_at (c.clients n)) (c.clients n).gifts st → Follows n (c.clients n) st → ((z : Asks n (who_at (c.clients n)) st) → (c.clients n).running ≡ None → has_begun (Client n) st.lines ≡ false → ⊥) → Asks n (who_at (c.clients n)) st → (c.clients n).running ≡ o → has_begun (Client n) st.lines ≡ false
     → (k : Key) → is_of_act (Client n) k past ≡ true → IsChangingUnder k (sent_of past) → ⊥
-asked_last s c past n st None told A h a f z r begun k x w =
-    none_runs st.state.running z.act (sym (a.runs s (A.table n) (lines_of past) (A.acts n)) ∙ stays_idle s (Client n) st.lines (lines_of past) begun (A.acts n ∙ r)) z.runs
-asked_last s c past n st (Some g) told A h a f z r begun k x w =
+asked_last s c past n st None told A h a f asks z r begun k x w =
+    absurd (asks z r begun)
+asked_last s c past n st (Some g) told A h a f asks z r begun k x w =
     let is : k ≡ last_key n (c.clients n) = h n g r k x w in
     let one : (w.user, w.call) ≡ ((c.clients n).user, call_of (c.clients n) g) = some_of _ _ (sym w.one ∙ (ap (λ (l : Key). call_under l (sent_of past)) is ∙ (ap (call_under (last_key n (c.clients n))) told ∙ A.last n g r))) in
     w.changes (ap (λ (q : List ℕ × FsCall). volume_changed q.1) one ∙ f.reads z.act z.runs (more_not st.state.last (c.clients n).last z.last) g r)
 
-older_last : (s : Script) (c : Cell) (past : List Entry) (n : ℕ) (st : Step ClientState) → sent_of past ≡ c.sent → AskedIn s c past → LastOf c.clients past → Acts n (who_at (c.clients n)) (c.clients n).gifts st → Follows n (c.clients n) st → (b : Going) → st.state.running ≡ Some b → has_begun (Client n) st.lines ≡ false
+older_last : (s : Script) (c : Cell) (past : List Entry) (n : ℕ) (st : Step ClientState) → sent_of past ≡ c.sent → AskedIn s c past → LastOf c.clients past → Acts n (who_at (c.clients n)) (c.clients n).gifts st → Follows n (c.clients n) st → ((z : Asks n (who_at (c.clients n)) st) → (c.clients n).running ≡ None → has_begun (Client n) st.lines ≡ false → ⊥) → (b : Going) → st.state.running ≡ Some b → has_begun (Client n) st.lines ≡ false
     → (k : Key) → is_of_act (Client n) k past ≡ true → IsChangingUnder k (sent_of past) → k ≡ last_key n st.state
-older_last s c past n st told A h a f b run begun k x w = elim a.goes [
+older_last s c past n st told A h a f asks b run begun k x w = elim a.goes [
   | inl r ↦ elim r.act [
     | inl none ↦ absurd (none_runs st.state.running b none run)
     | inr same ↦ h n b (sym same.0 ∙ run) k x w ∙ sym (same_key_at n (c.clients n) st.state r.epoch r.last)
   ]
   | inr y ↦ elim y [
-    | inl z ↦ absurd (asked_last s c past n st (c.clients n).running told A h a f z refl begun k x w)
+    | inl z ↦ absurd (asked_last s c past n st (c.clients n).running told A h a f asks z refl begun k x w)
     | inr z ↦ absurd (none_runs st.state.running b z.act run)
   ]
 ]
@@ -191,20 +222,20 @@ since_case true u b S h p q = p refl
 since_case false true b S h p q = absurd cc
 since_case false false b S h p q = q refl h
 
-now_last : (s : Script) (c : Cell) (past : List Entry) (n : ℕ) (st : Step ClientState) → sent_of past ≡ c.sent → AskedIn s c past → LastOf c.clients past → Acts n (who_at (c.clients n)) (c.clients n).gifts st → Follows n (c.clients n) st → (b : Going) → st.state.running ≡ Some b
+now_last : (s : Script) (c : Cell) (past : List Entry) (n : ℕ) (st : Step ClientState) → sent_of past ≡ c.sent → AskedIn s c past → LastOf c.clients past → Acts n (who_at (c.clients n)) (c.clients n).gifts st → Follows n (c.clients n) st → ((z : Asks n (who_at (c.clients n)) st) → (c.clients n).running ≡ None → has_begun (Client n) st.lines ≡ false → ⊥) → (b : Going) → st.state.running ≡ Some b
     → (k : Key) → is_of_act (Client n) k (of_client n st ∷ past) ≡ true → IsChangingUnder k (sent_of (of_client n st ∷ past)) → k ≡ last_key n st.state
-now_last s c past n st told A h a f b run k x w =
+now_last s c past n st told A h a f asks b run k x w =
     let e : Entry = of_client n st in
     let p = both (same_node k.node (Client n)) (is_sent_since (Client n) k (e ∷ past)) x in
     since_case (has_sent k st.sent) (has_begun (Client n) st.lines) (is_sent_since (Client n) k past) (k ≡ last_key n st.state) p.1
     (λ y. (sent_last n (c.clients n) st (the_calls n (c.clients n) st a.goes) k (same_node-true k.node (Client n) p.0) y).0)
-    (λ begun y. let x' : is_of_act (Client n) k past ≡ true = rw (p.0, y) refl in older_last s c past n st told A h a f b run begun k x' (changing_before n k e past x' w))
+    (λ begun y. let x' : is_of_act (Client n) k past ≡ true = rw (p.0, y) refl in older_last s c past n st told A h a f asks b run begun k x' (changing_before n k e past x' w))
 
 -- of the act that began last one at most, whether it runs or not
-own_lone : (s : Script) (c : Cell) (past : List Entry) (n : ℕ) (st : Step ClientState) (o : Option Going) → sent_of past ≡ c.sent → AskedIn s c past → LonesIn c past → Acts n (who_at (c.clients n)) (c.clients n).gifts st → Follows n (c.clients n) st → st.state.running ≡ o
+own_lone : (s : Script) (c : Cell) (past : List Entry) (n : ℕ) (st : Step ClientState) (o : Option Going) → sent_of past ≡ c.sent → AskedIn s c past → LonesIn c past → Acts n (who_at (c.clients n)) (c.clients n).gifts st → Follows n (c.clients n) st → ((z : Asks n (who_at (c.clients n)) st) → (c.clients n).running ≡ None → has_begun (Client n) st.lines ≡ false → ⊥) → st.state.running ≡ o
     → (k l : Key) → is_of_act (Client n) k (of_client n st ∷ past) ≡ true → is_of_act (Client n) l (of_client n st ∷ past) ≡ true → IsChangingUnder k (sent_of (of_client n st ∷ past)) → IsChangingUnder l (sent_of (of_client n st ∷ past)) → k ≡ l
-own_lone s c past n st (Some b) told A h a f run k l x y w v = now_last s c past n st told A h.0 a f b run k x w ∙ sym (now_last s c past n st told A h.0 a f b run l y v)
-own_lone s c past n st None told A h a f run k l x y w v =
+own_lone s c past n st (Some b) told A h a f asks run k l x y w v = now_last s c past n st told A h.0 a f asks b run k x w ∙ sym (now_last s c past n st told A h.0 a f asks b run l y v)
+own_lone s c past n st None told A h a f asks run k l x y w v =
     let e : Entry = of_client n st in
     let p = both (same_node k.node (Client n)) (is_sent_since (Client n) k (e ∷ past)) x in
     let q = both (same_node l.node (Client n)) (is_sent_since (Client n) l (e ∷ past)) y in
@@ -214,19 +245,70 @@ own_lone s c past n st None told A h a f run k l x y w v =
     (λ begun z. since_case (has_sent l st.sent) (has_begun (Client n) st.lines) (is_sent_since (Client n) l past) (k ≡ l) q.1
     (λ u. absurd (unsent l (same_node-true l.node (Client n) q.0) u))
     (λ begun' u. let x' : is_of_act (Client n) k past ≡ true = rw (p.0, z) refl in let y' : is_of_act (Client n) l past ≡ true = rw (q.0, u) refl in
-    lone_first (sent_of past) past h.1 n k l x' y' (changing_before n k e past x' w) (changing_before n l e past y' v)))
+    lone_first (sent_of past) past h.1.0 n k l x' y' (changing_before n k e past x' w) (changing_before n l e past y' v)))
 
-client_lones : (s : Script) (c : Cell) (past : List Entry) (n : ℕ) (st : Step ClientState) → sent_of past ≡ c.sent → AskedIn s c past → LonesIn c past → Acts n (who_at (c.clients n)) (c.clients n).gifts st → Follows n (c.clients n) st → LonesOf (put n st.state c.clients) (of_client n st ∷ past)
-client_lones s c past n st told A h a f =
+-- its call has no later pair than its client's last
+pub pair_behind : (callees : Key → Node) (clients : ℕ → ClientState) (j : ℕ) (k : Key) (sent : List Message) → k.node ≡ Client j → has_sent k sent ≡ true → Each (IfCall (λ h user call. IsKnown callees clients h.to (key_of h))) sent → UpTo k.epoch k.number (clients j).epoch (clients j).last
+pair_behind callees clients j k sent node h all =
+    let a : IsAmong k (ByClient (λ h user call. IsKnown callees clients h.to (key_of h))) = among k (λ h user call. IsKnown callees clients h.to (key_of h)) sent h all in
+    let key : called_key a.head ≡ k = same_key-true (called_key a.head) k a.key in
+    let from : a.head.from ≡ Client j = ap (λ (l : Key). l.node) key ∙ node in
+    subst (λ (l : Key). UpTo l.epoch l.number (clients j).epoch (clients j).last) key (known_pair callees clients a.head.to (key_of a.head) j from (by_client j a.head.from (IsKnown callees clients a.head.to (key_of a.head)) from a.fact))
+
+sent_not : (t : Bool) → (t ≡ true → ⊥) → t ≡ false
+sent_not true w = absurd (w refl)
+sent_not false w = refl
+
+which : (A : Type 0) (o : Option A) → (o ≡ None) ⊎ ((a : A) × (o ≡ Some a))
+which A None = inl refl
+which A (Some a) = inr (a, refl)
+
+-- an act that begins to wait for the location database, or waits on
+own_sought : (s : Script) (c : Cell) (past : List Entry) (n : ℕ) (st : Step ClientState) → Known c past → AskedIn s c past → LonesIn c past → Acts n (who_at (c.clients n)) (c.clients n).gifts st → (k : Seek) → st.state.seeking ≡ Some k → (l : Key) → is_of_act (Client n) l (of_client n st ∷ past) ≡ true → IsChangingUnder l (sent_of (of_client n st ∷ past))
+    → (q : Key) → q.node ≡ Client n → has_sent q (sent_of (of_client n st ∷ past)) ≡ true → UpTo q.epoch q.number l.epoch l.number
+own_sought s c past n st K A h a k z l x w q node has =
+    let e : Entry = of_client n st in
+    let idle : st.state.running ≡ None = elim (a.seeks k z) [ inl o ↦ o.running ∙ (A.seeks n k o.before).idle | inr now ↦ now.running ] in
+    let unsent : (m : Key) → m.node ≡ Client n → has_sent m st.sent ≡ false = λ m own. sent_not (has_sent m st.sent) (λ y. (let g = sent_last n (c.clients n) st (the_calls n (c.clients n) st a.goes) m own y in none_runs st.state.running g.1.0 idle g.1.1)) in
+    let p = both (same_node l.node (Client n)) (is_sent_since (Client n) l (e ∷ past)) x in
+    since_case (has_sent l st.sent) (has_begun (Client n) st.lines) (is_sent_since (Client n) l past) (UpTo q.epoch q.number l.epoch l.number) p.1
+    (λ y. (let no_ : true ≡ false = sym y ∙ unsent l (same_node-true l.node (Client n) p.0) in absurd cc))
+    (λ begun y.
+    let aside : Aside n e = record { begins = begun; unsent = unsent } in
+    let l' : is_of_act (Client n) l past ≡ true = rw (p.0, y) refl in
+    let w' : IsChangingUnder l (sent_of past) = changing_before n l e past l' w in
+    let has' : has_sent q (sent_of past) ≡ true = sent_back q (sent_of past) e.sent (unsent q node) has in
+    elim (which Going (c.clients n).running) [
+      | inr r ↦
+          (let is : l ≡ last_key n (c.clients n) = h.0 n r.0 r.1 l l' w' in
+          subst (λ (m : Key). UpTo q.epoch q.number m.epoch m.number) (sym is) (pair_behind K.keys.callees c.clients n q c.sent node (subst (λ (ms : List Message). has_sent q ms ≡ true) K.hears.told has') K.keys.calls))
+      | inl none ↦ elim (which Seek (c.clients n).seeking) [
+        | inr u ↦ h.1.1 n u.0 u.1 l l' w' q node has'
+        | inl rest ↦
+            (let before : running s (Client n) (lines_of past) ≡ None = A.acts n ∙ (ap (λ (r : Option Going). act_by r (c.clients n).seeking) none ∙ ap act_sought rest) in
+            let behind : act_of st.state ≡ None = sym (a.runs s (A.table n) (lines_of past) (A.acts n)) ∙ stays_idle s (Client n) st.lines (lines_of past) begun before in
+            let now : act_of st.state ≡ Some k.act = ap (λ (r : Option Going). act_by r st.state.seeking) idle ∙ ap act_sought z in
+            absurd (none_runs (act_of st.state) k.act behind now))
+      ]
+    ])
+
+client_lones : (s : Script) (c : Cell) (past : List Entry) (n : ℕ) (st : Step ClientState) → Known c past → AskedIn s c past → LonesIn c past → Acts n (who_at (c.clients n)) (c.clients n).gifts st → Follows n (c.clients n) st → ((z : Asks n (who_at (c.clients n)) st) → (c.clients n).running ≡ None → has_begun (Client n) st.lines ≡ false → ⊥) → LonesOf (put n st.state c.clients) (of_client n st ∷ past)
+client_lones s c past n st K A h a f asks =
+    let told : sent_of past ≡ c.sent = K.hears.told in
     let e : Entry = of_client n st in (
       λ j. at_put n j (λ (x : ClientState). (act : Going) → x.running ≡ Some act → (k : Key) → is_of_act (Client j) k (e ∷ past) ≡ true → IsChangingUnder k (sent_of (e ∷ past)) → k ≡ last_key j x) st.state c.clients
-          (λ same. subst (λ (i : ℕ). (act : Going) → st.state.running ≡ Some act → (k : Key) → is_of_act (Client i) k (e ∷ past) ≡ true → IsChangingUnder k (sent_of (e ∷ past)) → k ≡ last_key i st.state) same (λ b run k x w. now_last s c past n st told A h.0 a f b run k x w))
+          (λ same. subst (λ (i : ℕ). (act : Going) → st.state.running ≡ Some act → (k : Key) → is_of_act (Client i) k (e ∷ past) ≡ true → IsChangingUnder k (sent_of (e ∷ past)) → k ≡ last_key i st.state) same (λ b run k x w. now_last s c past n st told A h.0 a f asks b run k x w))
           (λ other act r k x w. last_aside c.clients j e past (other_aside s c past n j st a other) h.0 act r k x w),
       (
-        λ j. at_put n j (λ (x : ClientState). (k l : Key) → is_of_act (Client j) k (e ∷ past) ≡ true → is_of_act (Client j) l (e ∷ past) ≡ true → IsChangingUnder k (sent_of (e ∷ past)) → IsChangingUnder l (sent_of (e ∷ past)) → k ≡ l) st.state c.clients
-            (λ same. subst (λ (i : ℕ). (k l : Key) → is_of_act (Client i) k (e ∷ past) ≡ true → is_of_act (Client i) l (e ∷ past) ≡ true → IsChangingUnder k (sent_of (e ∷ past)) → IsChangingUnder l (sent_of (e ∷ past)) → k ≡ l) same (own_lone s c past n st st.state.running told A h a f refl))
-            (λ other. lone_aside j e past (other_aside s c past n j st a other) h.1),
-        older_lone e past h.1,
+        (
+          λ j. at_put n j (λ (x : ClientState). (k l : Key) → is_of_act (Client j) k (e ∷ past) ≡ true → is_of_act (Client j) l (e ∷ past) ≡ true → IsChangingUnder k (sent_of (e ∷ past)) → IsChangingUnder l (sent_of (e ∷ past)) → k ≡ l) st.state c.clients
+              (λ same. subst (λ (i : ℕ). (k l : Key) → is_of_act (Client i) k (e ∷ past) ≡ true → is_of_act (Client i) l (e ∷ past) ≡ true → IsChangingUnder k (sent_of (e ∷ past)) → IsChangingUnder l (sent_of (e ∷ past)) → k ≡ l) same (own_lone s c past n st st.state.running told A h a f asks refl))
+              (λ other. lone_aside j e past (other_aside s c past n j st a other) h.1.0),
+          older_lone e past h.1.0,
+        ),
+        λ j. at_put n j (λ (x : ClientState). (k : Seek) → x.seeking ≡ Some k → (l : Key) → is_of_act (Client j) l (e ∷ past) ≡ true → IsChangingUnder l (sent_of (e ∷ past)) → (q : Key) → q.node ≡ Client j → has_sent q (sent_of (e ∷ past)) ≡ true → UpTo q.epoch q.number l.epoch l.number) st.state c.clients
+            (λ same. subst (λ (i : ℕ). (k : Seek) → st.state.seeking ≡ Some k → (l : Key) → is_of_act (Client i) l (e ∷ past) ≡ true → IsChangingUnder l (sent_of (e ∷ past)) → (q : Key) → q.node ≡ Client i → has_sent q (sent_of (e ∷ past)) ≡ true → UpTo q.epoch q.number l.epoch l.number) same (own_sought s c past n st K A h a))
+            (λ other k z l x w q node has. sought_aside c.clients j e past (other_aside s c past n j st a other) h.1.1 k z l x w q node has),
       ),
     )
 
@@ -238,16 +320,60 @@ GivenLones s c past = Given s c past × LonesIn c past
 void_aside : (e : Entry) → e.sent ≡ [] → ((j : ℕ) → has_begun (Client j) e.lines ≡ false) → (j : ℕ) → Aside j e
 void_aside e none begins j = record { begins = begins j; unsent = λ k node. ap (has_sent k) none }
 
+-- ---- a client without an act that runs asks no server, but where an act begins
+
+same_last : {k n : ℕ} → k ≡ n → k ≡ n + 1 → ⊥
+same_last {k} {n} a b = more_not k n b a
+
+breaks_last : (n place : ℕ) (c : ClientState) (head : Head) (call : FsCall) → (breaks (Client n) c place head call).state.last ≡ c.last
+breaks_last n place c head (calls.CallBack fs callbacks) = refl
+breaks_last n place c head calls.InitCallBackState = refl
+breaks_last n place c head calls.Probe = refl
+breaks_last n place c head call = refl
+
+runs_last : (n place : ℕ) (c : ClientState) (head : Head) (x : Carried) → (runs_carried (Client n) c place head x).state.last ≡ c.last
+runs_last n place c head (carried.Call user (ask.File call)) = breaks_last n place c head call
+runs_last n place c head (carried.Call user call) = refl
+runs_last n place c head x = refl
+
+admits_last : (n place : ℕ) (c : ClientState) (head : Head) (x : Carried) (o : Admitted Message) → (admits_call (Client n) c place head (whole head x) o).state.last ≡ c.last
+admits_last n place c head x pairs.runs = runs_last n place c head x
+admits_last n place c head x (pairs.kept reply) = refl
+admits_last n place c head x pairs.in_progress = refl
+admits_last n place c head x pairs.older = refl
+admits_last n place c head x (pairs.wrong_boot boot) = refl
+
+awaits_last : (n clock place : ℕ) (c : ClientState) (head : Head) (x : Carried) (o : Option Going) → o ≡ None → (awaits (Client n) c clock place head x o).state.last ≡ c.last
+awaits_last n clock place c head x None e = refl
+awaits_last n clock place c head x (Some act) e = absurd cc
+
+hears_last : (n clock place : ℕ) (c : ClientState) (head : Head) (x : Carried) → c.running ≡ None → (hears (Client n) c clock place head x).state.last ≡ c.last
+hears_last n clock place c head (carried.Call user call) e = admits_last n place c head (carried.Call user call) (admitted c.epoch c.seats head)
+hears_last n clock place c head x e = awaits_last n clock place c head x c.running e
+
+to_last : (t : Bool) (n clock place : ℕ) (c : ClientState) (head : Head) (x : Carried) → c.running ≡ None → (cond t (hears (Client n) c clock place head x) (ignores c place)).state.last ≡ c.last
+to_last true n clock place c head x e = hears_last n clock place c head x e
+to_last false n clock place c head x e = refl
+
+row_last : (n : ℕ) (c : ClientState) (clock place : ℕ) (m : Message) → c.running ≡ None → (client_row (Client n) c clock place (Whole m)).state.last ≡ c.last
+unfolding client_row
+row_last n c clock place m e = to_last (same_node m.head.to (Client n)) n clock place c m.head m.carried e
+
+begins_asks : (n : ℕ) (c : ClientState) (clock : ℕ) (act : Act) → has_begun (Client n) (begin_row (Client n) c clock act).lines ≡ false → ⊥
+begins_asks n c clock act nb = let yes : has_begun (Client n) (begin_row (Client n) c clock act).lines ≡ true = row_begun c n clock act in let no_ : true ≡ false = sym yes ∙ nb in absurd cc
+
 lone_moves : (s : Script) → EachMove (GivenLones s) (Behind LonesIn)
 lone_moves s = record {
   void = λ c past h. aside_lones c.clients (voided c).entry past (void_aside (voided c).entry refl (λ j. refl)) h.1;
   ticked = λ c past n h. aside_lones c.clients (ticked c (suc n)).entry past (void_aside (ticked c (suc n)).entry refl (λ j. refl)) h.1;
-  begun = λ c past n act h r. client_lones s c past n _ h.0.0.0.0.0.hears.told h.0.0.0.0.1 h.1 (begins_acts n (c.clients n) c.clock act r) (begins_follow n (c.clients n) c.clock act (h.0.1 n).0 r);
-  told = λ c past n place m h at to. client_lones s c past n _ h.0.0.0.0.0.hears.told h.0.0.0.0.1 h.1 (given_acts (by_key (IsKnown h.0.0.0.0.0.keys.callees c.clients)) any_told n (c.clients n) c.clock place m (h.0.0.0.0.0.keys.replies n) (h.0.0.0.0.1.seats n)) (given_follow n (c.clients n) c.clock place m (h.0.1 n).0 (each_at (λ m. IsFirm m.head m.carried) c.sent place m at h.0.0.1));
-  waited = λ c past n act h r. client_lones s c past n _ h.0.0.0.0.0.hears.told h.0.0.0.0.1 h.1 (waits_acts n (c.clients n) act r) (waits_follow n (c.clients n) act (h.0.1 n).0);
-  fallen = λ c past n h. client_lones s c past n _ h.0.0.0.0.0.hears.told h.0.0.0.0.1 h.1 (falls_acts n (c.clients n)) (falls_follow n (c.clients n));
-  risen = λ c past n h. client_lones s c past n _ h.0.0.0.0.0.hears.told h.0.0.0.0.1 h.1 (rises_acts n (c.clients n)) (rises_follow n (c.clients n) (h.0.1 n).0);
-  loc = λ c past l ls h st. aside_lones c.clients (loc_becomes c l ls).entry past (void_aside (loc_becomes c l ls).entry refl (λ j. (idle_leaves s j ls (lines_of past) (loc_idle ls st.lines)).begins)) h.1;
+  begun = λ c past n act h r z. client_lones s c past n _ h.0.0.0.0.0 h.0.0.0.0.1 h.1 (begins_acts n (c.clients n) c.clock act r z) (begins_follow n (c.clients n) c.clock act (h.0.1 n).0 r) (λ y none nb. begins_asks n (c.clients n) c.clock act nb);
+  told = λ c past n place m h at to. client_lones s c past n _ h.0.0.0.0.0 h.0.0.0.0.1 h.1 (given_acts (by_key (IsKnown h.0.0.0.0.0.keys.callees c.clients)) any_told n (c.clients n) c.clock place m (h.0.0.0.0.0.keys.replies n) (h.0.0.0.0.1.seats n)) (given_follow n (c.clients n) c.clock place m (h.0.1 n).0 (each_at (λ m. IsFirm m.head m.carried) c.sent place m at h.0.0.1)) (λ y none nb. same_last (row_last n (c.clients n) c.clock place m none) y.last);
+  sought = λ c past n place m k h at to z e. client_lones s c past n _ h.0.0.0.0.0 h.0.0.0.0.1 h.1 (sought_acts_in s c past n place m k h.0.0.0.0.1 at z e) (sought_follow s n (c.clients n) c.clock place k m.head m.carried (placed_in s c past n k h.0.0.0.0.1 z) (told_in s c past n place m k h.0.0.0.0.1 at e) (h.0.1 n).0) (λ y none nb. same_last (sought_last s n (c.clients n) c.clock place k m.head m.carried (placed_in s c past n k h.0.0.0.0.1 z) (told_in s c past n place m k h.0.0.0.0.1 at e)) y.last);
+  missed = λ c past n k h r z. client_lones s c past n _ h.0.0.0.0.0 h.0.0.0.0.1 h.1 (missed_acts n (c.clients n) k r z) (missed_follow n (c.clients n) k r (h.0.1 n).0) (λ y none nb. same_last (missed_last n (c.clients n) k) y.last);
+  waited = λ c past n act h r. client_lones s c past n _ h.0.0.0.0.0 h.0.0.0.0.1 h.1 (waits_acts n (c.clients n) act r) (waits_follow n (c.clients n) act (h.0.1 n).0) (λ y none nb. none_runs (c.clients n).running act none r);
+  fallen = λ c past n h. client_lones s c past n _ h.0.0.0.0.0 h.0.0.0.0.1 h.1 (falls_acts n c.handed (c.clients n) (handed_same s c past (h.0.0.0.0.1) n)) (falls_follow n c.handed (c.clients n)) (λ y none nb. none_runs (reborn c.handed (c.clients n)).running y.act refl y.runs);
+  risen = λ c past n h. client_lones s c past n _ h.0.0.0.0.0 h.0.0.0.0.1 h.1 (rises_acts n (c.clients n)) (rises_follow n (c.clients n) (h.0.1 n).0) (λ y none nb. same_last refl y.last);
+  loc = λ c past l ls ms h st. aside_lones c.clients (loc_becomes c l ls ms).entry past (loc_aside s (loc_becomes c l ls ms).entry past (loc_idle ls st.lines) (loc_own c l ls ms st)) h.1;
   served = λ c past i place m armed h up at to. aside_lones c.clients (server_moves c i armed (server_row (Server i) (c.hosts i).state c.clock place (Whole m))).entry past (server_aside s i (server_moves c i armed (server_row (Server i) (c.hosts i).state c.clock place (Whole m))).entry past (idle_works any_message i (c.hosts i).state _ _ (serves_works any_message (Server i) (c.hosts i).state c.clock place m (λ rest. tt))) (served_posts (Server i) (c.hosts i).state c.clock place m (h.0.0.0.1.0 i).seats (h.0.0.0.1.1 i)).0) h.1;
   cut = λ c past i place m t h up at to. aside_lones c.clients (server_falls c i (lines.Given place ∷ blow_line i t.stops ∷ []) (in_step m c.clock t)).entry past (server_aside s i (server_falls c i (lines.Given place ∷ blow_line i t.stops ∷ []) (in_step m c.clock t)).entry past (blow_idle i t.stops) tt) h.1;
   stopped = λ c past i h up. aside_lones c.clients (server_falls c i (lines.Crash (Server i) ∷ []) at_rest).entry past (void_aside (server_falls c i (lines.Crash (Server i) ∷ []) at_rest).entry refl (λ j. refl)) h.1;
@@ -350,14 +476,6 @@ pub new_behind : (k : Key) (own o : List Line) → IsNew k (own ++ o) → IsNew 
 new_behind k [] o h = h
 new_behind k (l ∷ own) o h = new_behind k own o (new_one k (change_in l) (IsNew k (own ++ o)) h)
 
--- its call has no later pair than its client's last
-pub pair_behind : (callees : Key → Node) (clients : ℕ → ClientState) (j : ℕ) (k : Key) (sent : List Message) → k.node ≡ Client j → has_sent k sent ≡ true → Each (IfCall (λ h user call. IsKnown callees clients h.to (key_of h))) sent → UpTo k.epoch k.number (clients j).epoch (clients j).last
-pair_behind callees clients j k sent node h all =
-    let a : IsAmong k (ByClient (λ h user call. IsKnown callees clients h.to (key_of h))) = among k (λ h user call. IsKnown callees clients h.to (key_of h)) sent h all in
-    let key : called_key a.head ≡ k = same_key-true (called_key a.head) k a.key in
-    let from : a.head.from ≡ Client j = ap (λ (l : Key). l.node) key ∙ node in
-    subst (λ (l : Key). UpTo l.epoch l.number (clients j).epoch (clients j).last) key (known_pair callees clients a.head.to (key_of a.head) j from (by_client j a.head.from (IsKnown callees clients a.head.to (key_of a.head)) from a.fact))
-
 pub under_sent : (t : Bool) (c o : Option (List ℕ × FsCall)) (x : List ℕ × FsCall) (b : Bool) → cond t c o ≡ Some x → (o ≡ Some x → b ≡ true) → cond t true b ≡ true
 under_sent true c o x b e w = refl
 under_sent false c o x b e w = w e
@@ -375,15 +493,24 @@ first_of_act s c past server k count own next h i =
     let is : IsChangingUnder k (sent_of past) = ideal_changing s server k count past own next i in
     record {
       once = λ a runs l by of_act.
-          let runs' : (c.clients j).running ≡ Some a = sym (h.0.0.0.0.0.0.0.1.acts j) ∙ (ap (λ (n : Node). running s n (lines_of past)) (sym node) ∙ runs) in
+          let runs' : act_of (c.clients j) ≡ Some a = sym (h.0.0.0.0.0.0.0.1.acts j) ∙ (ap (λ (n : Node). running s n (lines_of past)) (sym node) ∙ runs) in
           let of_act' : is_of_act (Client j) l past ≡ true = subst (λ (n : Node). is_of_act n l past ≡ true) node of_act in
-          let last : l ≡ last_key j (c.clients j) = h.0.0.0.1.0 j a runs' l of_act' (h.1.0 l (any_change server l (lines_of past) by)) in
+          let changing : IsChangingUnder l (sent_of past) = h.1.0 l (any_change server l (lines_of past) by) in
           let same : l.node ≡ k.node = same_node-true l.node (Client j) (both (same_node l.node (Client j)) (is_sent_since (Client j) l past) of_act').0 ∙ sym node in
-          later_not k l (c.clients j).epoch (c.clients j).last (ap (λ (q : Key). q.epoch) last) (ap (λ (q : Key). q.number) last)
-          (pair_behind h.0.0.0.0.0.0.0.0.keys.callees c.clients j k c.sent node (subst (λ (ms : List Message). has_sent k ms ≡ true) told (has_under k (sent_of past) (i.user, i.call) i.one)) h.0.0.0.0.0.0.0.0.keys.calls)
-          (i.latest l (behind_by server l own (lines_of past) by) same);
+          let has : has_sent k (sent_of past) ≡ true = has_under k (sent_of past) (i.user, i.call) i.one in
+          let later : IsLater k l = i.latest l (behind_by server l own (lines_of past) by) same in
+          elim (which Going (c.clients j).running) [
+            | inr r ↦
+                (let last : l ≡ last_key j (c.clients j) = h.0.0.0.1.0 j r.0 r.1 l of_act' changing in
+                later_not k l (c.clients j).epoch (c.clients j).last (ap (λ (q : Key). q.epoch) last) (ap (λ (q : Key). q.number) last)
+                (pair_behind h.0.0.0.0.0.0.0.0.keys.callees c.clients j k c.sent node (subst (λ (ms : List Message). has_sent k ms ≡ true) told has) h.0.0.0.0.0.0.0.0.keys.calls) later)
+            | inl none ↦ elim (which Seek (c.clients j).seeking) [
+              | inr z ↦ later_not k l l.epoch l.number refl refl (h.0.0.0.1.1.1 j z.0 z.1 l of_act' changing k node has) later
+              | inl rest ↦ none_runs (act_of (c.clients j)) a (ap (λ (o : Option Going). act_by o (c.clients j).seeking) none ∙ ap act_sought rest) runs'
+            ]
+          ];
       alone = λ newer older split of_k l has of_l.
-          let same : k ≡ l = lone_at (sent_of past) newer older (subst (AreLone (sent_of past)) split h.0.0.0.1.1) j k l (subst (λ (n : Node). is_of_act n k older ≡ true) node of_k) (subst (λ (n : Node). is_of_act n l older ≡ true) node of_l) is (h.1.0 l has) in
+          let same : k ≡ l = lone_at (sent_of past) newer older (subst (AreLone (sent_of past)) split h.0.0.0.1.1.0) j k l (subst (λ (n : Node). is_of_act n k older ≡ true) node of_k) (subst (λ (n : Node). is_of_act n l older ≡ true) node of_l) is (h.1.0 l has) in
           no_change k (lines_of past) (new_behind k own (lines_of past) i.fresh) (subst (λ (x : Key). HasChange x (lines_of past)) (sym same) has);
     }
 
@@ -393,11 +520,11 @@ alone_lines s c past who own (lines.Change server k count ∷ ls) h w = (first_o
 alone_lines s c past who own (l ∷ ls) h w = (tt, alone_lines s c past who (l ∷ own) ls h w.1)
 
 pub lones_kept : (s : Script) → IsKept (Lones s)
-lones_kept s c past x h = (
-  (((given_kept s c past x h.0.0.0.0, each_moved (GivenLones s) (Behind LonesIn) (lone_moves s) c past x h.0.0.0), cuts_kept s c past x h.0.0.1), placed_kept s c past x h.0.1),
+lones_kept s c past x so h = (
+  (((given_kept s c past x so h.0.0.0.0, each_moved (GivenLones s) (Behind LonesIn) (lone_moves s) c past x so h.0.0.0), cuts_kept s c past x so h.0.0.1), placed_kept s c past x so h.0.1),
   (
-    changing_over s past (moved c x).entry (each_moved (HeldCuts s) (IdealStep s) (ideal_moves s) c past x h.0.0.1) h.1.0,
-    acts_over s past (moved c x).entry (each_moved (Placed s) (PlacedStep s) (placed_moves s) c past x h.0.1) h.1.1,
+    changing_over s past (moved c x).entry (each_moved (HeldCuts s) (IdealStep s) (ideal_moves s) c past x so h.0.0.1) h.1.0,
+    acts_over s past (moved c x).entry (each_moved (Placed s) (PlacedStep s) (placed_moves s) c past x so h.0.1) h.1.1,
   ),
 )
 
@@ -407,7 +534,7 @@ since_none false h = absurd cc
 
 pub lones_first : (s : Script) → Lones s (start s) (set_up s ∷ [])
 lones_first s = (
-  (((given_first s, (λ j act r. absurd cc, (λ j k l x y c d. absurd (since_none (has_begun (Client j) (set_up s).lines) (both (same_node k.node (Client j)) (is_sent_since (Client j) k (set_up s ∷ [])) x).1), tt))), cuts_first s), placed_first s),
+  (((given_first s, (λ j act r. absurd cc, ((λ j k l x y c d. absurd (since_none (has_begun (Client j) (set_up s).lines) (both (same_node k.node (Client j)) (is_sent_since (Client j) k (set_up s ∷ [])) x).1), tt), λ j k z. absurd cc))), cuts_first s), placed_first s),
   (
     λ k x. absurd (first_passed (λ (ls : List Line). HasChange k ls → ⊥) (λ v o h. h) s.volumes [] (λ z. z) x),
     (λ n e. first_passed (λ (ls : List Line). running s n ls ≡ None) (λ v o h. h) s.volumes [] refl, tt),
@@ -416,4 +543,4 @@ lones_first s = (
 
 pub run_alone : ChangesAreAlone
 run_alone s h end r =
-    run_each (Lones s) (λ past e. EachLine (IsAlone s) e.actor past [] e.lines) (lones_kept s) (λ c past x k. alone_lines s c past (moved c x).entry.actor [] (moved c x).entry.lines k (each_moved (HeldCuts s) (IdealStep s) (ideal_moves s) c past x k.0.0.1)) r.inputs (start s) (set_up s ∷ []) h end (lones_first s) r.leads
+    run_each (Lones s) (λ past e. EachLine (IsAlone s) e.actor past [] e.lines) (lones_kept s) (λ c past x so k. alone_lines s c past (moved c x).entry.actor [] (moved c x).entry.lines k (each_moved (HeldCuts s) (IdealStep s) (ideal_moves s) c past x so k.0.0.1)) r.inputs s (set_up s ∷ []) h end (lones_first s) r.leads

@@ -2,7 +2,7 @@
 use Rattle.afs_num.specs.declared.types.Node.TheVariants.{Client}
 use Rattle.afs_history.specs.Written.{bytes_in}
 use Rattle.afs_history.specs.declared.acts.Written.{Written}
-use Rattle.std.proofs.Common.{◌+◌, arith, ◌≡◌, ℕ, ℤ, Bool, true, false, cond, List, [], ◌∷◌, ◌++◌, Option, Some, None, nat_eq, pos, negsuc, refl, sym, ap, subst, ◌∙◌, inl, inr}
+use Rattle.std.proofs.Common.{◌+◌, arith, ◌≡◌, ℕ, ℤ, Bool, true, false, cond, List, [], ◌∷◌, ◌++◌, Option, Some, None, nat_eq, pos, negsuc, refl, sym, ap, subst, ◌∙◌, inl, inr, eq-eqb, ◌⊎◌}
 use Rattle.std.specs.Prelude.{◌&&◌, ◌||◌, ⊤, not}
 use Rattle.afs_history.specs.declared.acts.Act.{Act}
 use Rattle.afs_history.specs.declared.acts.Act.TheVariants as acts
@@ -11,7 +11,7 @@ use Rattle.afs_history.specs.declared.acts.Operand.TheVariants as operands
 use Rattle.afs_history.specs.declared.acts.Path.{Path}
 use Rattle.afs_history.specs.declared.lines.Line.{Line}
 use Rattle.afs_history.specs.declared.lines.Line.TheVariants as lines
-use Rattle.afs_ideal.specs.Operations.{Caller, Result, changes, no_operation, op, reads as reading_result, refused, the_user, volume_called, volume_changed}
+use Rattle.afs_ideal.specs.Operations.{Caller, Result, changes, no_operation, op, reads as reading_result, refused, the_user, volume_called, volume_changed, is_number}
 use Rattle.afs_ideal.specs.Volumes.{Volume}
 use Rattle.afs_num.specs.declared.calls.FsCall.{FsCall}
 use Rattle.afs_num.specs.declared.calls.FsCall.TheVariants as calls
@@ -30,10 +30,10 @@ use Rattle.afs_law.proofs.Nexts.{as_changed}
 use Rattle.afs_law.proofs.Ops.{op_code, op_is, reads_is, shown_reads}
 use Rattle.afs_law.specs.Ideal.{set_up, volume_after}
 use Rattle.afs_law.specs.Laws.{IsChangingAct, IsMade}
-use Rattle.afs_law.specs.Legal.{IsOfClient, as_asked, AreGood, EndsAct, GoodCode, HasChange, IsGood, IsTold, Legal, LegalAfter, answer_at, answer_on, code_given, op_on}
+use Rattle.afs_law.specs.Legal.{IsOfClient, as_asked, AreGood, EndsAct, GoodCode, HasChange, IsGood, IsTold, Legal, LegalAfter, answer_at, answer_on, code_given, op_on, IsUnlisted, IsUnheardOf, IsGone}
 use Rattle.afs_law.specs.Once.{past_of}
 use Rattle.afs_law.specs.Past.{answered_key, lines_of, onto, running}
-use Rattle.afs_rows.specs.Going.{stored_whole, asked, Going, Homes, Need, Parted, Shown, Taken, act_needs, answers, asks_for, at_parent, by_body, call_for, fid_of, first_body, gives_back, in_directory, in_home, is_even, is_last_name, is_root, looked_up, next, parted, reads, reads_rights, reads_status, reads_statuses, root_of, step_to, to_object, to_parent, walk}
+use Rattle.afs_rows.specs.Going.{stored_whole, asked, Going, Homes, Need, Parted, Shown, Taken, act_needs, answers, asks_for, at_parent, by_body, call_for, fid_of, first_body, gives_back, in_directory, in_home, is_even, is_last_name, is_root, looked_up, next, parted, reads, reads_rights, reads_status, reads_statuses, root_of, step_to, to_object, to_parent, walk, locates, no_entry}
 use Rattle.afs_rows.specs.Runs.{Entry}
 
 -- ---- what an act needs that changes something: at its end a change, and no answer 0 before
@@ -48,6 +48,7 @@ IsUndone need = ⊤
 record OfNeeds (P : Need → Type 0) : Type 0 where
   read : (f : Fid) → P (reads f)
   refused : (n : ℕ) → (n ≡ 0 → ⊥) → P (answers n)
+  located : (o : Operand) → P (locates o)
 
 some_code : (n : ℕ) → n + 1 ≡ 0 → ⊥
 some_code n e = absurd (omega (arith, e))
@@ -70,16 +71,16 @@ of_walk P q all more [] rs d w = w d rs
 of_walk P q all more (name ∷ names) rs d w =
     of_reading P q d _ (first_body d rs) (λ b rest. of_step P q (all || not (is_last_name names)) (walk all more names rest) d.volume (looked_up name b) (λ f. of_walk P q all more names rest f w))
 
-of_home : (P : Need → Type 0) → OfNeeds P → (home : Option ℕ) (more : ℕ → Need) → ((id : ℕ) → P (more id)) → P (in_home home more)
-of_home P q None more w = q.refused 363524 (some_code 363523)
-of_home P q (Some id) more w = w id
+of_home : (P : Need → Type 0) → OfNeeds P → (o : Operand) (home : Option ℕ) (more : ℕ → Need) → ((id : ℕ) → P (more id)) → P (in_home o home more)
+of_home P q o None more w = q.located o
+of_home P q o (Some id) more w = w id
 
 of_object : (P : Need → Type 0) → OfNeeds P → (home : Option ℕ) (o : Operand) (rs : List Shown) (more : Fid → List Shown → Need) → ((f : Fid) (rest : List Shown) → P (more f rest)) → P (to_object home o rs more)
-of_object P q home (operands.Fid f) rs more w = of_home P q home _ (λ id. w f rs)
-of_object P q home (operands.Path p) rs more w = of_home P q home _ (λ id. of_walk P q false more p.names rs (root_of id) w)
+of_object P q home (operands.Fid f) rs more w = of_home P q (operands.Fid f) home _ (λ id. w f rs)
+of_object P q home (operands.Path p) rs more w = of_home P q (operands.Path p) home _ (λ id. of_walk P q false more p.names rs (root_of id) w)
 
 of_undone : OfNeeds IsUndone
-of_undone = record { read = λ f. tt; refused = λ n some. some }
+of_undone = record { read = λ f. tt; refused = λ n some. some; located = λ o. tt }
 
 directory_undone : (need : Need) (b : Body) → IsUndone need → IsUndone (in_directory need b)
 directory_undone need (bodies.File k) w = λ e. absurd cc
@@ -87,13 +88,13 @@ directory_undone need (bodies.Dir k) w = w
 directory_undone need (bodies.Link k) w = λ e. absurd cc
 directory_undone need bodies.Gone w = λ e. absurd cc
 
-parent_by : (home : Option ℕ) (o : Option Parted) (rs : List Shown) (more : Fid → List ℕ → List Shown → Need) → ((f : Fid) (name : List ℕ) (rest : List Shown) → IsUndone (more f name rest)) → IsUndone (at_parent home rs more o)
-parent_by home None rs more w = λ e. absurd cc
-parent_by home (Some p) rs more w =
-    of_home IsUndone of_undone home _ (λ id. of_walk IsUndone of_undone true _ p.front rs (root_of id) (λ d rest. of_reading IsUndone of_undone d _ (first_body d rest) (λ b later. directory_undone (more d p.last later) b (w d p.last later))))
+parent_by : (a : Operand) (home : Option ℕ) (o : Option Parted) (rs : List Shown) (more : Fid → List ℕ → List Shown → Need) → ((f : Fid) (name : List ℕ) (rest : List Shown) → IsUndone (more f name rest)) → IsUndone (at_parent a home rs more o)
+parent_by a home None rs more w = λ e. absurd cc
+parent_by a home (Some p) rs more w =
+    of_home IsUndone of_undone a home _ (λ id. of_walk IsUndone of_undone true _ p.front rs (root_of id) (λ d rest. of_reading IsUndone of_undone d _ (first_body d rest) (λ b later. directory_undone (more d p.last later) b (w d p.last later))))
 
 parent_undone : (home : Option ℕ) (p : Path) (rs : List Shown) (more : Fid → List ℕ → List Shown → Need) → ((f : Fid) (name : List ℕ) (rest : List Shown) → IsUndone (more f name rest)) → IsUndone (to_parent home p rs more)
-parent_undone home p rs more w = parent_by home (parted p.names) rs more w
+parent_undone home p rs more w = parent_by (operands.Path p) home (parted p.names) rs more w
 
 one_undone : (b : Bool) (need : Need) → IsUndone need → IsUndone (cond b need (answers 22))
 one_undone true need w = w
@@ -127,7 +128,7 @@ IsStore bytes need = ⊤
 
 close_stores : (g : Going) (o : Operand) (contents : Written) → g.act ≡ acts.Close o contents → IsStore (bytes_in contents) (next g)
 close_stores g o contents is =
-    subst (λ (a : Act). IsStore (bytes_in contents) (act_needs g.homes a g.reads)) (sym is) (of_object (IsStore (bytes_in contents)) (record { read = λ f. tt; refused = λ n some. tt }) g.homes.first o g.reads _ (λ f rest. (f, refl)))
+    subst (λ (a : Act). IsStore (bytes_in contents) (act_needs g.homes a g.reads)) (sym is) (of_object (IsStore (bytes_in contents)) (record { read = λ f. tt; refused = λ n some. tt; located = λ o. tt }) g.homes.first o g.reads _ (λ f rest. (f, refl)))
 
 store_ends : (bytes : List ℕ) (need : Need) → IsStore bytes need → EndsAct need → (f : Fid) × (call_for need ≡ stored_whole f bytes)
 store_ends bytes (asks_for call) h e = h
@@ -136,6 +137,7 @@ store_ends bytes (reads f) h e = absurd e
 store_ends bytes (reads_status f) h e = absurd e
 store_ends bytes (reads_statuses fs) h e = absurd e
 store_ends bytes (reads_rights f) h e = absurd e
+store_ends bytes (locates o) h e = absurd e
 store_ends bytes (answers n) h e = absurd e
 
 -- ---- a changing call that is answered 0 was told
@@ -172,10 +174,32 @@ ending (reads_statuses fs) w e = absurd e
 ending (reads_rights f) w e = absurd e
 ending (asks_for call) w e = w
 ending gives_back w e = absurd w
+ending (locates o) w e = absurd e
 ending (answers n) w e = absurd e
 
 answer_number : (code : ℤ) (n : ℕ) → code ≡ pos n → code ≡ pos 0 → n ≡ 0
 answer_number code n a b = let e : pos n ≡ pos 0 = sym a ∙ b in cc
+
+no_entry_zero : (code : ℤ) → code ≡ pos no_entry → code ≡ pos 0 → ⊥
+no_entry_zero code a b = let e : pos no_entry ≡ pos 0 = sym a ∙ b in let f : is_number (pos no_entry) 0 ≡ true = ap (λ (z : ℤ). is_number z 0) e in absurd cc
+
+told_apart : (n k : ℕ) (code : ℤ) → code ≡ pos n → nat_eq n k ≡ false → code ≡ pos k → ⊥
+told_apart n k code a ne b = let same : n ≡ k = numbers n k (sym a ∙ b) in let yes : nat_eq n k ≡ true = eq-eqb n k same in let no_ : true ≡ false = sym yes ∙ ne in absurd cc
+  where
+    numbers : (n k : ℕ) → pos n ≡ pos k → n ≡ k
+    numbers n k e = cc
+
+-- of another code that what the location database told is no cause
+pub not_sought : (s : Script) (c : Node) (act : Going) (code : ℤ) (past : List Entry) (own : List Line) (n : ℕ) → code ≡ pos n → nat_eq n 103 ≡ false → nat_eq n 111 ≡ false → nat_eq n no_entry ≡ false → IsUnlisted s c act code past own ⊎ (IsUnheardOf s c act code past own ⊎ IsGone s c act code past own) → ⊥
+not_sought s c act code past own n e a b d (inl x) = told_apart n no_entry code e d x.is
+not_sought s c act code past own n e a b d (inr (inl x)) = let z : pos n ≡ negsuc 0 = sym e ∙ x.is in absurd cc
+not_sought s c act code past own n e a b d (inr (inr x)) = elim x.is [ inl y ↦ elim x.refused.gone [ inl z ↦ told_apart n 103 code e a (y ∙ z) | inr z ↦ told_apart n 111 code e b (y ∙ z) ] | inr y ↦ told_apart n no_entry code e d y.0 ]
+
+no_gone : (code : ℤ) → code ≡ pos 103 → code ≡ pos 0 → ⊥
+no_gone code a b = let e : pos 103 ≡ pos 0 = sym a ∙ b in absurd cc
+
+no_moved : (code : ℤ) → code ≡ pos 111 → code ≡ pos 0 → ⊥
+no_moved code a b = let e : pos 111 ≡ pos 0 = sym a ∙ b in absurd cc
 
 no_room : (code : ℤ) → code ≡ pos 108 → code ≡ pos 0 → ⊥
 no_room code a b = let e : pos 108 ≡ pos 0 = sym a ∙ b in absurd cc
@@ -217,7 +241,16 @@ made s c code past own act g runs is zero client =
         | inl x ↦ absurd (subst IsUndone x.by undone (answer_number code.0 x.number x.is zero))
         | inr z ↦ elim z [
           | inl x ↦ absurd (no_death code.0 x.is zero)
-          | inr x ↦ absurd (subst IsUndone x.by undone)
+          | inr u ↦ elim u [
+            | inl x ↦ absurd (subst IsUndone x.by undone)
+            | inr w ↦ elim w [
+              | inl x ↦ absurd (no_entry_zero code.0 x.is zero)
+              | inr t ↦ elim t [
+                | inl x ↦ absurd (no_death code.0 x.is zero)
+                | inr x ↦ absurd (elim x.is [ inl a ↦ elim x.refused.gone [ inl b ↦ no_gone code.0 (a ∙ b) zero | inr b ↦ no_moved code.0 (a ∙ b) zero ] | inr a ↦ no_entry_zero code.0 a.0 zero ])
+              ]
+            ]
+          ]
         ]
       ]
     ]

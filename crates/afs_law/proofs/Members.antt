@@ -16,13 +16,16 @@ use Rattle.afs_num.specs.declared.messages.Message.{Message}
 use Rattle.afs_num.specs.declared.types.Node.{Node}
 use Rattle.afs_num.specs.declared.types.Node.TheVariants.{Admin, Client, Loc, Server}
 use Rattle.afs_rows.specs.Callbacks.{put}
-use Rattle.afs_rows.specs.Going.{Going}
+use Rattle.afs_rows.specs.Going.{Going, Seek}
 use Rattle.afs_law.proofs.Steps.{calls_at}
 use Rattle.afs_rows.specs.Steps.{Begun}
-use Rattle.afs_rows.specs.Hosts.{sets, crashed, restarted, set_to_fail, set_to_stop, HostStep}
+use Rattle.afs_rows.specs.Hosts.{sets, crashed, restarted, set_to_fail, set_to_stop, HostStep, served}
 use Rattle.afs_rows.specs.ServerHosts.{can_start}
-use Rattle.afs_rows.specs.Runs.{Armed, Blow, Cell, Entry, Fall, Input, Leads, Luck, Moved, Outcome, RunsTo, back_timed, begins, begun_by, begun_by_disk, client_starts, client_stops, comes_up, fails_early, fails_midway, given_at, given_to, gives, has_client, has_host, is_away, is_full, message_at, moved, nothing, server_armed, server_ends, server_given, server_restarted, server_served, server_stopped, server_timed, server_waits, server_wakes, sets_fail, sets_stop, settled, start, starts_again, stops, struck, ticks, voided, waited_by, waits, wakes, loc_placed, loc_restarted, loc_up}
+use Rattle.afs_rows.specs.Runs.{Armed, Blow, Cell, Entry, Fall, Input, Leads, Luck, Moved, Outcome, RunsTo, back_timed, begins, begun_by, begun_by_disk, client_starts, client_stops, comes_up, fails_early, fails_midway, given_at, given_to, gives, has_client, has_host, is_away, is_full, message_at, moved, nothing, server_armed, server_ends, server_given, server_restarted, server_served, server_stopped, server_timed, server_waits, server_wakes, sets_fail, sets_stop, settled, start, starts_again, stops, struck, ticks, voided, waited_by, waits, wakes, loc_placed, loc_restarted, loc_up, sought_for}
 use Rattle.afs_rows.specs.States.{BackCall, ServerState}
+use Rattle.afs_rows.specs.ClientRow.{act_of}
+use Rattle.afs_rows.specs.LocRow.{LocState}
+use Rattle.afs_rows.specs.LocSteps.{loc_kind}
 use Rattle.std.proofs.Common.{zero, suc, ◌≡◌, ℕ, ◌<◌, ◌≤◌, arith, ltb-true, Bool, true, false, cond, List, [], ◌∷◌, Option, Some, None, refl, sym, subst, ◌∙◌}
 use Rattle.std.specs.Prelude.{not, ◌||◌}
 
@@ -98,7 +101,7 @@ loc_restarted_stays s c after out (Some fall) H = loc_stays s c (restarted loc_k
 to_stays : (s : Script) (c : Cell) (place : ℕ) (luck : Luck) (m : Message) (to : Node) → HasNodes s c → Stays s (given_to c place luck m to)
 to_stays s c place luck m (Server i) H = if_server s c i _ H (λ is. received_stays s c i place luck m (c.hosts i).down H is)
 to_stays s c place luck m (Client n) H = if_client s c n _ H (λ is up. record { of = is; nodes = kept s c _ refl refl refl H })
-to_stays s c place luck m Loc H = void_stays s c H
+to_stays s c place luck m Loc H = loc_up_stays s c (served loc_kind c.loc c.clock place luck m) c.loc.down H
 to_stays s c place luck m (Admin n) H = void_stays s c H
 
 at_stays : (s : Script) (c : Cell) (place : ℕ) (luck : Luck) (m : Option Message) → HasNodes s c → Stays s (given_at c place luck m)
@@ -109,8 +112,12 @@ begun_stays : (s : Script) (c : Cell) (n : ℕ) (act : Act) (g : Option Going) �
 begun_stays s c n act None H is = record { of = is; nodes = kept s c _ refl refl refl H }
 begun_stays s c n act (Some g) H is = void_stays s c H
 
+missed_stays : (s : Script) (c : Cell) (n : ℕ) (k : Option Seek) → HasNodes s c → (1 ≤ n) × (n ≤ s.clients) → Stays s (sought_for c n k)
+missed_stays s c n None H is = void_stays s c H
+missed_stays s c n (Some k) H is = record { of = is; nodes = kept s c _ refl refl refl H }
+
 waited_stays : (s : Script) (c : Cell) (n : ℕ) (g : Option Going) → HasNodes s c → (1 ≤ n) × (n ≤ s.clients) → Stays s (waited_by c n g)
-waited_stays s c n None H is = void_stays s c H
+waited_stays s c n None H is = missed_stays s c n (c.clients n).seeking H is
 waited_stays s c n (Some g) H is = record { of = is; nodes = kept s c _ refl refl refl H }
 
 turned_nodes : (s : Script) (c d : Cell) (n : ℕ) (t : Bool) → d.count ≡ c.count → d.host_count ≡ c.host_count → d.away ≡ put n t c.away → has_client c.count n ≡ true → HasNodes s c → HasNodes s d
@@ -152,7 +159,7 @@ woken_stays s c i (Some fall) H is = void_stays s c H
 
 moved_stays : (s : Script) (c : Cell) (x : Input) → HasNodes s c → Stays s (moved c x)
 unfolding moved
-moved_stays s c (begins n act) H = if_client s c n _ H (λ is up. begun_stays s c n act (c.clients n).running H is)
+moved_stays s c (begins n act) H = if_client s c n _ H (λ is up. begun_stays s c n act (act_of (c.clients n)) H is)
 moved_stays s c (gives place luck) H = at_stays s c place luck (message_at c.sent place) H
 moved_stays s c (waits n) H = if_client s c n _ H (λ is up. waited_stays s c n (c.clients n).running H is)
 moved_stays s c (ticks zero) H = void_stays s c H

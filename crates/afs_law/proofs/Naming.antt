@@ -196,7 +196,7 @@ added_fits n names h fit ok none room = (added_is_directory n names h.0 (room_fo
 removed_fits : (name : List ℕ) (names : List Name) → IsDirectory names × FitNames names → IsDirectory (without_name name names) × FitNames (without_name name names)
 removed_fits name names h = (removed_is_directory name names h.0, each_without FitsName name names h.1)
 
-bytes_itself : (a : List ℕ) → bytes_eq a a ≡ true
+pub bytes_itself : (a : List ℕ) → bytes_eq a a ≡ true
 bytes_itself [] = refl
 bytes_itself (x ∷ xs) = rw (eq-eqb x x refl, bytes_itself xs) refl
 

@@ -20,7 +20,7 @@ use Rattle.afs_num.specs.declared.histories.ReadBody.{ReadBody}
 use Rattle.afs_num.specs.declared.histories.ReadBody.TheVariants as seen
 use Rattle.afs_num.specs.declared.types.Fid.{Fid}
 use Rattle.afs_law.proofs.Basics.{same_fid-refl}
-use Rattle.afs_rows.specs.Going.{by_statuses, reading_statuses, statuses_in, named_first, call_for, Need, reads, reads_status, reads_statuses, reads_rights, asks_for, gives_back, answers, Shown, Taken, Going, Homes, Parted, act_needs, next, with_read, first_body, taken_body, by_body, reading, by_status, first_status, reading_rights, has_rights, has_rights_by, walk, step_to, looked_up, fid_of, root_of, is_last_name, is_even, to_object, to_parent, at_parent, parted, in_home, in_directory, by_kind, of_one, is_root, asked}
+use Rattle.afs_rows.specs.Going.{by_statuses, reading_statuses, statuses_in, named_first, call_for, Need, reads, reads_status, reads_statuses, reads_rights, asks_for, gives_back, locates, answers, Shown, Taken, Going, Homes, Parted, act_needs, next, with_read, first_body, taken_body, by_body, reading, by_status, first_status, reading_rights, has_rights, has_rights_by, walk, step_to, looked_up, fid_of, root_of, is_last_name, is_even, to_object, to_parent, at_parent, parted, in_home, in_directory, by_kind, of_one, is_root, asked}
 
 -- the text of rights that were read of this fid
 abbrev pub got : Fid → List ℕ → Shown
@@ -76,13 +76,13 @@ walk_ends g text all more (name ∷ names) rs d w =
     reading_ends g d text rs (λ b rest. step_to (all || not (is_last_name names)) (walk all more names rest) d.volume (looked_up name b))
     (λ b rest. step_ends g (all || not (is_last_name names)) d.volume (looked_up name b) (walk all more names rest) (walk all more names (rest ++ got g text ∷ [])) (λ f. walk_ends g text all more names rest f w))
 
-home_ends : (g : Fid) (home : Option ℕ) (more later : ℕ → Need) → ((id : ℕ) → Ends g (more id) (later id)) → Ends g (in_home home more) (in_home home later)
-home_ends g None more later w = tt
-home_ends g (Some id) more later w = w id
+home_ends : (g : Fid) (o : Operand) (home : Option ℕ) (more later : ℕ → Need) → ((id : ℕ) → Ends g (more id) (later id)) → Ends g (in_home o home more) (in_home o home later)
+home_ends g o None more later w = tt
+home_ends g o (Some id) more later w = w id
 
 object_ends : (g : Fid) (text : List ℕ) (home : Option ℕ) (o : Operand) (rs : List Shown) (more : Fid → List Shown → Need) → Walks' g text more → Ends g (to_object home o rs more) (to_object home o (rs ++ got g text ∷ []) more)
-object_ends g text home (operands.Fid f) rs more w = home_ends g home _ _ (λ id. w f rs)
-object_ends g text home (operands.Path p) rs more w = home_ends g home _ _ (λ id. walk_ends g text false more p.names rs (root_of id) w)
+object_ends g text home (operands.Fid f) rs more w = home_ends g (operands.Fid f) home _ _ (λ id. w f rs)
+object_ends g text home (operands.Path p) rs more w = home_ends g (operands.Path p) home _ _ (λ id. walk_ends g text false more p.names rs (root_of id) w)
 
 directory_ends : (g : Fid) (b : Body) (x y : Need) → Ends g x y → Ends g (in_directory x b) (in_directory y b)
 directory_ends g (bodies.File k) x y h = tt
@@ -93,12 +93,12 @@ directory_ends g bodies.Gone x y h = tt
 abbrev Walks'' : Fid → List ℕ → (Fid → List ℕ → List Shown → Need) → Type 0
 Walks'' g text more = (f : Fid) (name : List ℕ) (rest : List Shown) → Ends g (more f name rest) (more f name (rest ++ got g text ∷ []))
 
-parent_by : (g : Fid) (text : List ℕ) (home : Option ℕ) (o : Option Parted) (rs : List Shown) (more : Fid → List ℕ → List Shown → Need) → Walks'' g text more → Ends g (at_parent home rs more o) (at_parent home (rs ++ got g text ∷ []) more o)
-parent_by g text home None rs more w = tt
-parent_by g text home (Some p) rs more w = home_ends g home _ _ (λ id. walk_ends g text true (λ d rest. reading d rest (λ b later. in_directory (more d p.last later) b)) p.front rs (root_of id) (λ d rest. reading_ends g d text rest (λ b later. in_directory (more d p.last later) b) (λ b later. directory_ends g b (more d p.last later) (more d p.last (later ++ got g text ∷ [])) (w d p.last later))))
+parent_by : (g : Fid) (text : List ℕ) (a : Operand) (home : Option ℕ) (o : Option Parted) (rs : List Shown) (more : Fid → List ℕ → List Shown → Need) → Walks'' g text more → Ends g (at_parent a home rs more o) (at_parent a home (rs ++ got g text ∷ []) more o)
+parent_by g text a home None rs more w = tt
+parent_by g text a home (Some p) rs more w = home_ends g a home _ _ (λ id. walk_ends g text true (λ d rest. reading d rest (λ b later. in_directory (more d p.last later) b)) p.front rs (root_of id) (λ d rest. reading_ends g d text rest (λ b later. in_directory (more d p.last later) b) (λ b later. directory_ends g b (more d p.last later) (more d p.last (later ++ got g text ∷ [])) (w d p.last later))))
 
 parent_ends : (g : Fid) (text : List ℕ) (home : Option ℕ) (p : Path) (rs : List Shown) (more : Fid → List ℕ → List Shown → Need) → Walks'' g text more → Ends g (to_parent home p rs more) (to_parent home p (rs ++ got g text ∷ []) more)
-parent_ends g text home p rs more w = parent_by g text home (parted p.names) rs more w
+parent_ends g text home p rs more w = parent_by g text (operands.Path p) home (parted p.names) rs more w
 
 kind_ends : (g : Fid) (b : Body) (x y z : ℕ) (later : Need) → Ends g (by_kind x y z b) later
 kind_ends g (bodies.File k) x y z later = tt
@@ -204,6 +204,7 @@ by_need gifts (reads_statuses fs) w = refl
 by_need gifts (reads_rights f) w = refl
 by_need gifts (asks_for call) w = changing_as call (w call refl)
 by_need gifts gives_back w = refl
+by_need gifts (locates o) w = refl
 by_need gifts (answers code) w = refl
 
 pub asks_is : (gifts : List Gift) (act : Going) → as_asked (call_by gifts (next act)) ≡ asked act

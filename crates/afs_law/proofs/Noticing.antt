@@ -1,15 +1,16 @@
 -- A notice of a client tells its epoch, however many servers a cell has.
+use Rattle.afs_law.proofs.Origins.{quietly}
 use Rattle.afs_history.specs.declared.lines.Line.{Line}
 use Rattle.afs_history.specs.declared.lines.Line.TheVariants as lines
 use Rattle.afs_history.specs.declared.scripts.Script.{Script}
 use Rattle.afs_law.proofs.Basics.{Each, OfNotice}
-use Rattle.afs_law.proofs.Calling.{AreReplies, IsAnswer, IsCallOf, Tame, answer_over, any_call, begins_tame, caller_at, given_tame, waits_tame}
+use Rattle.afs_law.proofs.Calling.{AreReplies, IsAnswer, IsCallOf, Tame, answer_over, any_call, begins_tame, caller_at, given_tame, waits_tame, missed_tame, sought_tame}
 use Rattle.afs_law.proofs.Changing.{run_each}
 use Rattle.afs_law.proofs.KeysOnce.{IsKnown, any_told, by_key}
 use Rattle.afs_law.proofs.Knowing.{Known, any_given}
-use Rattle.afs_law.proofs.Lives.{Alive, Lived, alive_epoch, begun_alive, lived_first, lived_kept, told_alive, waited_alive}
+use Rattle.afs_law.proofs.Lives.{Alive, Lived, alive_epoch, begun_alive, lived_first, lived_kept, told_alive, waited_alive, missed_alive}
 use Rattle.afs_law.proofs.Moving.{EachMove, each_moved}
-use Rattle.afs_law.proofs.Seating.{AreSeated}
+use Rattle.afs_law.proofs.Seated.{AreSeated}
 use Rattle.afs_law.specs.Ideal.{set_up}
 use Rattle.afs_law.specs.Lives.{epoch_after}
 use Rattle.afs_law.specs.Parts.{EachEntry, EachSent}
@@ -22,7 +23,7 @@ use Rattle.afs_num.specs.declared.messages.Received.TheVariants.{Whole}
 use Rattle.afs_num.specs.declared.types.Head.{Head}
 use Rattle.afs_num.specs.declared.types.Node.{Node}
 use Rattle.afs_num.specs.declared.types.Node.TheVariants.{Client, Server}
-use Rattle.afs_rows.specs.ClientRow.{begin_row, client_row, timeout_row}
+use Rattle.afs_rows.specs.ClientRow.{begin_row, client_row, timeout_row, seek_timeout_row, sought_by}
 use Rattle.afs_rows.specs.Going.{ClientState}
 use Rattle.afs_rows.specs.Runs.{Cell, Entry, Moved, RunsTo, message_at, start}
 use Rattle.afs_rows.specs.States.{Seat}
@@ -96,12 +97,15 @@ notice_moves : (s : Script) → EachMove (Lived s) NoticeStep
 notice_moves s = record {
   void = λ c past h j is. tt;
   ticked = λ c past n h j is. tt;
-  begun = λ c past n act h r. client_told s c past n None (begin_row (Client n) (c.clients n) c.clock act) h (begun_alive (Client n) (c.clients n) c.clock act) (begins_tame any_told (OfEpoch (c.clients n).epoch) AnyBoot n (c.clients n) c.clock act (seated s c past n h));
+  begun = λ c past n act h r z0. client_told s c past n None (begin_row (Client n) (c.clients n) c.clock act) h (begun_alive (Client n) (c.clients n) c.clock act) (begins_tame any_told (OfEpoch (c.clients n).epoch) AnyBoot n (c.clients n) c.clock act (seated s c past n h));
   told = λ c past n place m h at to. given_told s c past n place m h at;
+  sought = λ c past n place m k h at to z e. client_told s c past n (Some place) (sought_by (Client n) (c.clients n) c.clock place k m.head m.carried) h (quietly s c past n place m k (λ st. Alive st.lines) h.0.0.1 at z e (λ code. refl) refl refl)
+      (sought_tame any_told (OfEpoch (c.clients n).epoch) AnyBoot n (c.clients n) c.clock place k m.head m.carried (λ b. tt) (seated s c past n h));
+  missed = λ c past n k h r z. client_told s c past n None (seek_timeout_row (Client n) (c.clients n) k) h (missed_alive (Client n) (c.clients n) k) (missed_tame any_told (OfEpoch (c.clients n).epoch) AnyBoot n (c.clients n) k (seated s c past n h));
+  loc = λ c past l ls ms h st j is. absurd cc;
   waited = λ c past n act h r. client_told s c past n None (timeout_row (Client n) (c.clients n) act) h (waited_alive (Client n) (c.clients n) act) (waits_tame any_told (OfEpoch (c.clients n).epoch) AnyBoot n (c.clients n) act r (seated s c past n h));
   fallen = λ c past n h j is. tt;
   risen = λ c past n h j is. tt;
-  loc = λ c past l ls h st j is. absurd cc;
   served = λ c past i place m armed h up at to j is. absurd cc;
   cut = λ c past i place m t h up at to j is. tt;
   stopped = λ c past i h up j is. tt;
@@ -117,4 +121,4 @@ notice_moves s = record {
 
 pub run_noticed : (s : Script) (h : List Entry) (end : Cell) → RunsTo h s end → EachEntry OfClients (set_up s ∷ []) h
 run_noticed s h end r =
-    run_each (Lived s) OfClients (lived_kept s) (λ c past x k. each_moved (Lived s) NoticeStep (notice_moves s) c past x k) r.inputs (start s) (set_up s ∷ []) h end (lived_first s) r.leads
+    run_each (Lived s) OfClients (lived_kept s) (λ c past x so k. each_moved (Lived s) NoticeStep (notice_moves s) c past x so k) r.inputs s (set_up s ∷ []) h end (lived_first s) r.leads

@@ -155,7 +155,7 @@ other_calls : (me other : Node) (d : Option Fall) (calls : Node → Option BackC
 other_calls me other d calls last boot head (carried.Call user (ask.File call)) ne from h =
     server_any head.from (BackIn me d calls last boot head user call) (record { client = head.to; to = refl; booted = λ own. absurd (ne (sym from ∙ own)); below = λ own. absurd (ne (sym from ∙ own)); is = λ c own. absurd (ne (sym from ∙ own)) })
 other_calls me other d calls last boot head (carried.Call user (ask.Volume call)) ne from h = absurd h
-other_calls me other d calls last boot head (carried.Call user (ask.Location call)) ne from h = absurd h
+other_calls me other d calls last boot head (carried.Call user (ask.Location call)) ne from h = h
 other_calls me other d calls last boot head (carried.Refusal code) ne from h = tt
 other_calls me other d calls last boot head (carried.Reply reply) ne from h = tt
 other_calls me other d calls last boot head carried.Notice ne from h = tt

@@ -1,4 +1,10 @@
 -- What a client keeps is of servers of its cell; so an act that gives promises back, and has none to give, drops none.
+use Rattle.std.specs.Str.{bytes_eq}
+use Rattle.afs_law.specs.LocLaws.{IsToldIn}
+use Rattle.afs_law.proofs.Acting.{IsPlaced, by_quiet, sought_quiet}
+use Rattle.afs_num.specs.declared.types.Code.{Code}
+use Rattle.afs_history.specs.declared.acts.Operand.{Operand}
+use Rattle.afs_history.specs.declared.acts.Operand.TheVariants as operands
 use Rattle.afs_history.specs.declared.acts.Act.{Act}
 use Rattle.afs_history.specs.declared.lines.Line.{Line}
 use Rattle.afs_history.specs.declared.lines.Line.TheVariants as lines
@@ -35,8 +41,8 @@ use Rattle.afs_num.specs.declared.types.Fid.{Fid}
 use Rattle.afs_num.specs.declared.types.Head.{Head}
 use Rattle.afs_num.specs.declared.types.Node.{Node}
 use Rattle.afs_num.specs.declared.types.Node.TheVariants.{Admin, Client, Loc, Server}
-use Rattle.afs_rows.specs.ClientRow.{Walked, admits_call, asking, awaits, begin_row, begins_by, behind_batch, body_told, breaks, call_by, call_of, callee_by, client_row, counts, dropped, ended, entries_told, entry_told, find_cached, gift_of, gifts_to, given, gives_by, goes_by, hears, in_order, is_awaited, is_below, is_busy_code, is_older, is_spent, is_trusted, joined, left_after, left_in, look_at, looked, most_busy, most_reads, put_entries, put_entry, read_lines, refreshed, runs_carried, server_at, home_of, server_or_first, status_told, status_look, takes, takes_bulk, takes_data, takes_entry, takes_given, takes_list, takes_set, takes_shown, takes_status, timeout_row, trusted_in, untrusted_in, used_first, volume_asked, walked, walks_on, whole, with_statuses}
-use Rattle.afs_rows.specs.Going.{ClientState, Going, Need, answers, began, call_for, gives_back, next, with_read}
+use Rattle.afs_rows.specs.ClientRow.{Walked, admits_call, asking, awaits, begin_row, begins_by, behind_batch, body_told, breaks, call_by, call_of, callee_by, client_row, counts, dropped, ended, entries_told, entry_told, find_cached, gift_of, gifts_to, given, gives_by, goes_by, hears, in_order, is_awaited, is_below, is_busy_code, is_older, is_spent, is_trusted, joined, left_after, left_in, look_at, looked, most_busy, most_reads, put_entries, put_entry, read_lines, refreshed, runs_carried, home_of, server_or_first, status_told, status_look, takes, takes_bulk, takes_data, takes_entry, takes_given, takes_list, takes_set, takes_shown, takes_status, timeout_row, trusted_in, untrusted_in, used_first, volume_asked, walked, walks_on, whole, with_statuses, asks_where, seeking_for, is_gone_code, most_moved, sought_by, seek_timeout_row, server_for}
+use Rattle.afs_rows.specs.Going.{ClientState, Going, Need, answers, began, call_for, gives_back, next, with_read, operand_in, Seek, locates, has_number, base_of}
 use Rattle.afs_rows.specs.Runs.{counts_later, location_by, locations, locations_in}
 use Rattle.afs_rows.specs.Scopes.{is_in_scope}
 use Rattle.afs_rows.specs.States.{CacheEntry, Gift, Location}
@@ -56,7 +62,7 @@ AreOurs (e ∷ es) = IsOurs e.server × AreOurs es
 
 -- each volume that the client knows is at one
 abbrev pub AreNear : ClientState → Type 0
-AreNear c = (id : ℕ) → IsOurs (Server (server_at c.table id))
+AreNear c = (o : Option Operand) → IsOurs (Server (server_for c.table o))
 
 pub record Ours (c : ClientState) : Type 0 where
   pub cache : AreOurs c.cache
@@ -118,21 +124,26 @@ walked_ours k clock act cache h = walked_keeps AreOurs (λ f u es found x. ours_
 
 -- ---- ways of a step
 
-callee_ours : (y : ClientState) (need : Need) → AreNear y → (need ≡ gives_back → ⊥) → IsOurs (callee_by y need)
-callee_ours y gives_back t k = absurd (k refl)
-callee_ours y need t k = t (volume_asked (call_for need))
+callee_ours : (y : ClientState) (act : Going) (need : Need) → AreNear y → (need ≡ gives_back → ⊥) → IsOurs (callee_by y act need)
+callee_ours y act gives_back t k = absurd (k refl)
+callee_ours y act need t k = t (operand_in act (volume_asked (call_for need)))
 
 asks_ours : (y : ClientState) (act : Going) → AreNear y → AreOurs y.cache → Ours (asking y act)
-asks_ours y act t h = record { cache = h; callee = λ a r k. callee_ours y (next act) t (λ z. k (ap next (sym (some_of act a r)) ∙ z)) }
+asks_ours y act t h = record { cache = h; callee = λ a r k. callee_ours y act (next act) t (λ z. k (ap next (sym (some_of act a r)) ∙ z)) }
 
 ends_ours : (y : ClientState) (cache : List CacheEntry) → AreOurs cache → Ours (ended y cache)
 ends_ours y cache h = record { cache = h; callee = λ a r. absurd cc }
+
+-- it waits for no server
+seeks_ours : (y : ClientState) (k : Seek) (cache : List CacheEntry) → AreOurs cache → Ours (seeking_for y k cache)
+seeks_ours y k cache h = record { cache = h; callee = λ a r. absurd cc }
 
 same_ours : (c y : ClientState) → Ours c → y.running ≡ c.running → y.callee ≡ c.callee → AreOurs y.cache → Ours y
 same_ours c y h r q k = record { cache = k; callee = λ a e z. subst IsOurs (sym q) (h.callee a (sym r ∙ e) z) }
 
 goes_ours : (n : ℕ) (y : ClientState) (front : List Line → List Line) (w : Walked) (need : Need) → AreNear y → AreOurs w.cache → Ours (goes_by (Client n) y front w need).state
 goes_ours n y front w (answers k) t h = ends_ours y w.cache h
+goes_ours n y front w (locates o) t h = seeks_ours y _ w.cache h
 goes_ours n y front w need t h = asks_ours (record y { cache = w.cache }) w.act t h
 
 walks_ours : (n clock : ℕ) (y : ClientState) (front : List Line → List Line) (act : Going) (cache : List CacheEntry) → AreNear y → AreOurs cache → Ours (walks_on (Client n) y clock front act cache).state
@@ -207,10 +218,14 @@ takes_ours n clock place c act call (replies.BulkStatus statuses callbacks sync)
 takes_ours n clock place c act call replies.GiveUpCallBacks t h r same = given_ours n place c act call t h
 takes_ours n clock place c act call reply t h r same = plain_ours c call h
 
+where_ours : (n place : ℕ) (c : ClientState) (act : Going) (code : Code) (o : Option Operand) → Ours c → Ours (asks_where (Client n) c place act code o).state
+where_ours n place c act code None h = ends_ours c c.cache h.cache
+where_ours n place c act code (Some o) h = seeks_ours (record c { moved = c.moved + 1 }) _ c.cache h.cache
+
 counts_ours : (n clock place : ℕ) (c : ClientState) (act : Going) (head : Head) (x : Carried) → AreNear c → Ours c → c.running ≡ Some act → Ours (counts (Client n) c clock place act head x).state
 counts_ours n clock place c act head (carried.Call user call) t h r = h
 counts_ours n clock place c act head (carried.Refusal code) t h r =
-    either_state (is_spent c act) _ _ (asks_ours c act t h.cache) (either_state (is_busy_code code && nat_lt c.busy most_busy) _ _ (asks_ours (record c { busy = c.busy + 1 }) act t h.cache) (ends_ours c c.cache h.cache))
+    either_state (is_spent c act) _ _ (asks_ours c act t h.cache) (either_state (is_busy_code code && nat_lt c.busy most_busy) _ _ (asks_ours (record c { busy = c.busy + 1 }) act t h.cache) (either_state (is_gone_code code && nat_lt c.moved most_moved) _ _ (where_ours n place c act code (operand_in act (volume_asked (call_of c act))) h) (ends_ours c c.cache h.cache)))
 counts_ours n clock place c act head (carried.Reply (tell.File reply)) t h r = either_state (is_spent c act) _ _ (asks_ours c act t h.cache) (takes_ours n clock place c act (call_of c act) reply t h r refl)
 counts_ours n clock place c act head (carried.Reply reply) t h r = h
 counts_ours n clock place c act head carried.Notice t h r = record { cache = h.cache; callee = h.callee }
@@ -255,7 +270,15 @@ first_ours n clock y front act need t h = walks_ours n clock y front act y.cache
 
 pub begins_our : (n clock : ℕ) (c : ClientState) (act : Act) → AreNear c → Ours c → Ours (begin_row (Client n) c clock act).state
 unfolding begin_row
-begins_our n clock c act t h = first_ours n clock (record c { busy = 0 }) (λ ls. lines.Begin (Client n) act ∷ ls) (began c.table act) (next (began c.table act)) t h.cache
+begins_our n clock c act t h = first_ours n clock (record c { busy = 0; moved = 0 }) (λ ls. lines.Begin (Client n) act ∷ ls) (began c.table act) (next (began c.table act)) t h.cache
+
+pub sought_our : (S : Script) (n clock place : ℕ) (c : ClientState) (k : Seek) (m : Message) → IsPlaced S c k → IsToldIn S m.carried → Ours c → Ours (sought_by (Client n) c clock place k m.head m.carried).state
+sought_our S n clock place c k m p w h =
+    by_quiet (λ st. Ours st.state) n c place k m.head m.carried (sought_by (Client n) c clock place k m.head m.carried) (sought_quiet S n c clock place k m.head m.carried p w)
+    (λ code y z. record { cache = h.cache; callee = h.callee }) h (record { cache = h.cache; callee = h.callee })
+
+pub missed_our : (n : ℕ) (c : ClientState) (k : Seek) → Ours c → Ours (seek_timeout_row (Client n) c k).state
+missed_our n c k h = either_state (nat_lt c.tries 2) _ _ (record { cache = h.cache; callee = h.callee }) (record { cache = h.cache; callee = h.callee })
 
 pub waits_our : (n : ℕ) (c : ClientState) (act : Going) → Ours c → Ours (timeout_row (Client n) c act).state
 waits_our n c act h = either_state (nat_lt c.tries 2) _ _ (record { cache = h.cache; callee = h.callee }) (ends_ours c _ (ours_left (volume_changed (call_of c act)) c.cache h.cache))
@@ -320,9 +343,14 @@ near_by : (t : Bool) (l : Location) (o : Option Location) → IsOurs (Server (ho
 near_by true l o h k = h
 near_by false l o h k = k
 
-near_in : (ls : List Location) (id : ℕ) → AreAt ls → IsOurs (Server (server_at ls id))
-near_in [] id h = (omega arith, omega arith)
-near_in (l ∷ ls) id h = near_by (nat_eq l.read_write id) l (find (λ x. nat_eq x.read_write id) ls) h.0 (near_in ls id h.1)
+near_in : (test : Location → Bool) (ls : List Location) → AreAt ls → IsOurs (Server (server_or_first (find test ls)))
+near_in test [] h = (omega arith, omega arith)
+near_in test (l ∷ ls) h = near_by (test l) l (find test ls) h.0 (near_in test ls h.1)
 
-pub near_all : (s : Script) → IsOfCell s → (id : ℕ) → IsOurs (Server (server_at (locations s) id))
-near_all s h id = near_in (locations s) id (all_located s.servers s.volumes h.servers h.volumes)
+near_for : (ls : List Location) (o : Option Operand) → AreAt ls → IsOurs (Server (server_for ls o))
+near_for ls None h = (omega arith, omega arith)
+near_for ls (Some (operands.Path p)) h = near_in (λ l. bytes_eq l.name (base_of p.volume)) ls h
+near_for ls (Some (operands.Fid f)) h = near_in (has_number f.volume) ls h
+
+pub near_all : (s : Script) → IsOfCell s → (o : Option Operand) → IsOurs (Server (server_for (locations s) o))
+near_all s h o = near_for (locations s) o (all_located s.servers s.volumes h.servers h.volumes)

@@ -1,5 +1,7 @@
 -- The breaks of each server of a run are good, and its replies wait for them, however many servers a cell has.
+use Rattle.afs_rows.specs.Hosts.{Host}
 use Rattle.afs_law.proofs.LocLines.{is_of_loc, all_of_loc}
+use Rattle.afs_law.proofs.Listing.{IsBackTo, IsLocStep, loc_own, loc_unchanging, no_server_loc}
 use Rattle.afs_law.proofs.Loading.{clock_back, IsHit, alls_good, all_hits, down_later, filtered, has_owe, hits_hit, is_tickless, numbers_good, quits_good, rise_loaded, IsReplied, settles_good, touched_hit, two_all, owes_tickless, onto_both}
 use Rattle.afs_breaks.specs.declared.types.Promise.{Promise}
 use Rattle.afs_breaks.specs.Promises.{owes_from}
@@ -8,9 +10,9 @@ use Rattle.afs_history.specs.declared.lines.Line.TheVariants as lines
 use Rattle.afs_history.specs.declared.scripts.Script.{Script}
 use Rattle.afs_ideal.specs.Operations.{Found}
 use Rattle.afs_ideal.specs.Tables.{Table}
-use Rattle.afs_law.proofs.Acting.{Acts, begins_acts, falls_acts, given_acts, is_of, rises_acts, waits_acts, who_at, Who, IsTheCall}
+use Rattle.afs_law.proofs.Acting.{Acts, begins_acts, falls_acts, given_acts, is_of, rises_acts, waits_acts, who_at, Who, IsTheCall, missed_acts}
 use Rattle.afs_law.proofs.Backing.{Plain, all_lines, backed_fall, backed_plain, change_back, is_oweless, is_still, is_unchanging, plain_step, seated_over, before_own, live_back, live_given, no_owe, rising_back, zero_back, is_up}
-use Rattle.afs_law.proofs.Basics.{Above, Below, ByServer, Each, IfBack, IfCall, IfDone, IfReply, LastSeat, OfCall, OfClient, OfReply, OfServer, at_put, both, by_client, by_server, each_at, each_map, each_more, node_apart, of_call, runs_admitted, same_node-refl, same_node-true}
+use Rattle.afs_law.proofs.Basics.{Above, Below, ByServer, Each, IfBack, IfCall, IfDone, IfReply, LastSeat, OfCall, OfClient, OfReply, OfServer, at_put, both, by_client, by_server, each_at, each_map, each_more, node_apart, of_call, runs_admitted, same_node-refl, same_node-true, not_loc}
 use Rattle.afs_law.proofs.Booting.{HasFront, all_same, disk_front, serves_standing, times_standing, owes_standing}
 use Rattle.afs_law.proofs.Breaking.{Facing, IsKept, IsMessage, Loads, Runtime, answered_loads, does_loads, none_loads, noticed_loads, of_server, repeated_lines, timed_loads, saves_lines}
 use Rattle.afs_law.proofs.Changing.{run_each}
@@ -21,15 +23,16 @@ use Rattle.afs_law.proofs.Edits.{on_top}
 use Rattle.afs_law.proofs.Ideals.{of_this, own_from}
 use Rattle.afs_law.proofs.KeysOnce.{HasRun, IsKnown, any_told, by_key, new_key, not_run, HasCut, IsCutOf, server_number}
 use Rattle.afs_law.proofs.Moving.{Behind, EachMove, IsKept as IsKeptBy, each_moved}
-use Rattle.afs_law.proofs.Origins.{of_client}
+use Rattle.afs_law.proofs.Origins.{of_client, sought_acts_in, placed_in, told_in, handed_same}
 use Rattle.afs_law.proofs.Others.{KeepsKey, apart_backed, is_apart, other_calm, pumped_own}
 use Rattle.afs_law.proofs.Owing.{AllOf, BackIn, BackedIn, DoneIn, HeldWaits, IsClient, IsDone, IsGranted, SeatedIn, all_map, Numbered}
 use Rattle.afs_law.proofs.Promised.{is_file, was_given, over_stopped, blow_still}
 use Rattle.afs_law.proofs.Promising.{Owed, hits, risen_as, risen_is, saves_turn, saves_turn_is}
 use Rattle.afs_law.proofs.Reasons.{IsFile, Runs, Why, why_hears}
 use Rattle.afs_law.proofs.Saving.{first_on, on_changed, onto_versioned, granted_others, granted_stopped, on_others}
-use Rattle.afs_law.proofs.Seating.{IsReplyOf, SitsIn, sits_moves}
-use Rattle.afs_law.proofs.Speaking.{Tells, begun_speaks, kept_at, of_plain, old_seated, speaks_tells, told_leaves, waits_speaks, Speaks}
+use Rattle.afs_law.proofs.Seated.{IsReplyOf}
+use Rattle.afs_law.proofs.Seating.{SitsIn, sits_moves}
+use Rattle.afs_law.proofs.Speaking.{Tells, begun_speaks, kept_at, of_plain, old_seated, speaks_tells, told_leaves, waits_speaks, Speaks, sought_speaks, missed_speaks}
 use Rattle.afs_law.proofs.Ticking.{HeldTicks, ticks_first, ticks_kept, works_lines, AnyCall, works_stand, lines_told}
 use Rattle.afs_law.proofs.Turning.{Pumps, expired_backed, pumps}
 use Rattle.afs_law.specs.Breaks.{HasOwe, HasStopped, last_number, live_grant, lines_at}
@@ -37,7 +40,7 @@ use Rattle.afs_law.specs.Ideal.{clock_of, set_up, first_lines}
 use Rattle.afs_law.specs.Grants.{IsChangedByOther}
 use Rattle.afs_law.specs.Legal.{AreGood, AreGoodSent, GoodReply, HasChange, IsChanged, IsGood, IsNew, IsUnbroken, versions_first}
 use Rattle.afs_law.specs.Parts.{EachLine, EachSent}
-use Rattle.afs_law.specs.Past.{HasCode, given_message, lines_of, onto, server_boot, answered_key, risen, sent_of}
+use Rattle.afs_law.specs.Past.{HasCode, given_message, lines_of, onto, server_boot, answered_key, risen, sent_of, IsCall}
 use Rattle.afs_law.specs.ServerParts.{BreaksAreGood, IsBreakGood, RepliesWait}
 use Rattle.afs_model.specs.Calls as pairs
 use Rattle.afs_model.specs.Calls.{admitted, call_seat}
@@ -55,23 +58,25 @@ use Rattle.afs_num.specs.declared.types.Fid.{Fid}
 use Rattle.afs_num.specs.declared.types.Head.{Head}
 use Rattle.afs_num.specs.declared.types.Key.{Key}
 use Rattle.afs_num.specs.declared.types.Node.{Node}
-use Rattle.afs_num.specs.declared.types.Node.TheVariants.{Client, Server, Loc}
+use Rattle.afs_num.specs.declared.types.Node.TheVariants.{Client, Server, Loc, Admin}
 use Rattle.afs_records.specs.Durable.{Stored}
 use Rattle.afs_rows.specs.Callbacks.{Turn, expired, is_back_awaited, is_seat_of, key_answered, no_turn, owe_line, pumped, put, quits, replies_of, retries, settles, settles_by, still_owed, turn_for, turned_by, held_under, if_to, quit_line, renews, renews_by, settle_line}
-use Rattle.afs_rows.specs.ClientRow.{begin_row, client_row, reborn, timeout_row}
+use Rattle.afs_rows.specs.ClientRow.{begin_row, client_row, reborn, timeout_row, sought_by, seek_timeout_row}
 use Rattle.afs_rows.specs.Going.{ClientState}
 use Rattle.afs_law.proofs.Steps.{blow_line, server_falls, server_moves, server_set, server_stays, loc_becomes}
 use Rattle.afs_rows.specs.Runs.{Armed, Cell, Entry, Fall, Moved, at_rest, begun_by_disk, client_moves, in_boot, in_step, message_at, start, unarmed, first_client, first_host, ServerHost}
-use Rattle.afs_rows.specs.ServerRow.{Change, Decision, begun_after, decides, does, drops, granted, granted_in, hears, key_of, made, promise_ticks, refuses, repeats, saves, shows, tells_boot, versioned}
+use Rattle.afs_rows.specs.LocSteps.{LocHost}
+use Rattle.afs_law.proofs.Steps.{loc_becomes}
+use Rattle.afs_rows.specs.ServerRow.{Change, Decision, begun_after, decides, does, drops, granted, granted_in, hears, key_of, made, promise_ticks, refuses, repeats, saves, shows, tells_boot, versioned, is_client}
 use Rattle.afs_rows.specs.ServerSteps.{back_timeout_row, server_row, start_row, wake_row}
 use Rattle.afs_rows.specs.States.{BackCall, Backs, Gift, Held, Seat, ServerState}
 use Rattle.afs_rows.specs.Steps.{Step, Begun}
-use Rattle.afs_law.proofs.Calling.{IsAnswer}
+use Rattle.afs_law.proofs.Calling.{IsAnswer, IsUncalled, placed}
 use Rattle.afs_law.proofs.Words.{IsOne, up_boot}
 use Rattle.afs_law.proofs.Firm.{IsSentBy}
 use Rattle.afs_law.proofs.Hearing.{HearsIn, no_server}
 use Rattle.afs_law.proofs.SettingUp.{AreVersions, all_versions, first_oweless, first_still, lines_none}
-use Rattle.std.proofs.Common.{suc, ◌≡◌, ℕ, ◌+◌, ◌<◌, ◌≤◌, ◌⊎◌, inl, inr, Bool, true, false, cond, nat_eq, nat_lt, List, [], ◌∷◌, ◌++◌, map, length, Option, Some, None, refl, sym, ap, subst, ◌∙◌, arith, append-nil, le_of_eq, ltb-true, eqb-true}
+use Rattle.std.proofs.Common.{suc, ◌≡◌, ℕ, ◌+◌, ◌<◌, ◌≤◌, ◌⊎◌, inl, inr, Bool, true, false, cond, nat_eq, nat_lt, List, [], ◌∷◌, ◌++◌, map, length, Option, Some, None, refl, sym, ap, subst, ◌∙◌, arith, append-nil, le_of_eq, ltb-true, eqb-true, not}
 use Rattle.std.proofs.Math.Nat.{le_refl}
 use Rattle.std.proofs.lemmas.List.{append_assoc}
 use Rattle.std.specs.Prelude.{⊤, not}
@@ -158,18 +163,23 @@ client_good : (n : ℕ) (past : List Entry) (ms : List Message) → Each (λ m. 
 client_good n past [] h = tt
 client_good n past (m ∷ ms) h = ((λ is nought i from. absurd (no_server n i (sym h.0 ∙ from))), client_good n past ms h.1)
 
+-- nor does the location database
+loc_good : (past : List Entry) (ms : List Message) → Each (IsSentBy Loc) ms → EachSent GoodReply past ms
+loc_good past [] h = tt
+loc_good past (m ∷ ms) h = ((λ is nought i from. absurd (no_server_loc m.head i h.0.from from)), loc_good past ms h.1)
+
 -- ---- a client's step
 
 acts_file : (n : ℕ) (x : Who) (gs : List Gift) (st : Step ClientState) → Acts n x gs st → Each IsFile st.sent
 acts_file n x gs st a = elim a.goes [
   | inl r ↦ each_map (IfCall (IsTheCall n st.state)) IsFile (is_file (IsTheCall n st.state)) st.sent r.sent
-  | inr q ↦ elim q [ inl k ↦ subst (Each IsFile) (sym k.sent) (tt, tt) | inr k ↦ subst (Each IsFile) (sym k.sent) tt ]
+  | inr q ↦ elim q [ inl k ↦ subst (Each IsFile) (sym k.sent) (tt, tt) | inr k ↦ each_map IsUncalled IsFile (is_file (λ h user call. ⊥)) st.sent k.sent ]
 ]
 
 client_back : (P : Head → List ℕ → FsCall → Type 0) (n : ℕ) (head : Head) (c : Carried) → head.from ≡ Client n → OfCall (λ h user call. ⊤) head c → OfCall (ByServer P) head c
 client_back P n head (carried.Call user (ask.File call)) from h = subst (λ (q : Node). OfServer q (P head user call)) (sym from) tt
 client_back P n head (carried.Call user (ask.Volume call)) from h = absurd h
-client_back P n head (carried.Call user (ask.Location call)) from h = absurd h
+client_back P n head (carried.Call user (ask.Location call)) from h = h
 client_back P n head (carried.Refusal code) from h = tt
 client_back P n head (carried.Reply reply) from h = tt
 client_back P n head carried.Notice from h = tt
@@ -177,7 +187,7 @@ client_back P n head carried.Notice from h = tt
 fair_of : (n : ℕ) (head : Head) (c : Carried) → head.from ≡ Client n → OfCall (λ h user call. ⊤) head c → OfCall IsFair head c
 fair_of n head (carried.Call user (ask.File call)) from h = inl (n, from)
 fair_of n head (carried.Call user (ask.Volume call)) from h = absurd h
-fair_of n head (carried.Call user (ask.Location call)) from h = absurd h
+fair_of n head (carried.Call user (ask.Location call)) from h = h
 fair_of n head (carried.Refusal code) from h = tt
 fair_of n head (carried.Reply reply) from h = tt
 fair_of n head carried.Notice from h = tt
@@ -216,7 +226,7 @@ speaks_all s c past n st B a h i =
     (old_seated (Server i) x.down x.state.backs x.state.lasting.boot x.state.seats (λ j. call_seat (Server i) (c.clients j).seats) c.clock c.sent (of_client n st) past n (of_plain n i st.lines a.of) (B.all i))
 
 -- a client that stops keeps nothing
-falls_all : (c : Cell) (past : List Entry) (n : ℕ) → TellsAll c past n (record { state = reborn (c.clients n); lines = lines.Crash (Client n) ∷ []; sent = [] })
+falls_all : (c : Cell) (past : List Entry) (n : ℕ) → TellsAll c past n (record { state = reborn c.handed (c.clients n); lines = lines.Crash (Client n) ∷ []; sent = [] })
 falls_all c past n i = record { dones = tt; seated = λ seat m x y. absurd cc }
 
 -- ---- a step of a server, for the others
@@ -252,11 +262,11 @@ works_key c callees i x b ls o k (inr S) ne z =
       | inr old ↦ change_back k S.front o (all_unchanging (Server i) S.front S.before) old
     ]
 
-held_keys : (s : Script) (c : Cell) (past : List Entry) (callees : Key → Node) (i j : ℕ) (seats : List Seat) (clock : ℕ) (hs : List Held) (ls : List Line) → (i ≡ j → ⊥) → AllOf (HeldWaits (Server j) seats clock past) hs → Each (IfReply (λ r. IsKnown callees c.clients r.head.from (answered_key r.head))) (replies_of hs)
+held_keys : (s : Script) (c : Cell) (past : List Entry) (callees : Key → Node) (i j : ℕ) (seats : List Seat) (clock : ℕ) (hs : List Held) (ls : List Line) → (i ≡ j → ⊥) → AllOf (HeldWaits (Server j) seats clock past) hs → Each (IfReply (λ r. by_key (IsKnown callees c.clients) r.head)) (replies_of hs)
     → ((k : Key) → (callees k ≡ Server i → ⊥) → HasChange k (onto (lines_of past) ls) → HasChange k (lines_of past)) → (sent : List Message) → AllOf (KeepsKey (of_server (Server i) ls sent) past) hs
 held_keys s c past callees i j seats clock [] ls ne w k key sent = tt
 held_keys s c past callees i j seats clock (h ∷ hs) ls ne w k key sent = (
-  λ z. key (key_answered h.reply) (λ e. ne (server_number i j (sym e ∙ (sym (reply_of _ h.reply.head.to h.reply.carried w.0.client w.0.is_reply w.0.to k.0).called ∙ w.0.from)))) z,
+  λ z. key (key_answered h.reply) (λ e. ne (server_number i j (sym e ∙ (sym (reply_of (by_key (IsKnown callees c.clients) h.reply.head) h.reply.head.to h.reply.carried w.0.client w.0.is_reply w.0.to k.0 j w.0.from).called ∙ w.0.from)))) z,
   held_keys s c past callees i j seats clock hs ls ne w.1 k.1 key sent,
 )
 
@@ -273,7 +283,7 @@ host_all s c past i h ls ms B w own mine j =
     apart_backed (Server j) (Server i) x.down x.state.backs x.state.lasting.boot x.state.seats (λ k. call_seat (Server j) (c.clients k).seats) c.clock c.sent ms e past (λ q. other (server_number i j q)) (works_lines (KnownIn c callees) (Server i) (c.hosts i).state h.state.lasting.volumes ls (is_apart (Server j)) (other_calm i j other) w)
     (node_apart (Server i) (Server j) (λ q. other (server_number i j q)))
     (λ up. held_keys s c past callees i j x.state.seats c.clock x.state.backs.held ls other (old.waiting up)
-    (each_map (IsAnswer (by_key (IsKnown callees c.clients)) any_told) (IfReply (λ r. IsKnown callees c.clients r.head.from (answered_key r.head))) (λ m a. a.1.0) (replies_of x.state.backs.held) (B.held.0.0.0.keys.held j))
+    (each_map (IsAnswer (by_key (IsKnown callees c.clients)) any_told) (IfReply (λ r. by_key (IsKnown callees c.clients) r.head)) (λ m a. a.1.0) (replies_of x.state.backs.held) (B.held.0.0.0.keys.held j))
     (λ k ne. works_key c callees i (c.hosts i).state h.state.lasting.volumes ls (lines_of past) k w ne) ms) own old)
 
 fair_own : (me : Node) (ms : List Message) → Each (IsMessage me) ms → Each FairCall ms
@@ -335,7 +345,7 @@ kept_reply s c past i m j reply B from e =
     let l : LastSeat m.head.epoch m.head.number (call_seat m.head.from x.seats) reply = kept_at (nat_eq m.head.boot x.lasting.boot) x.lasting.boot m.head.epoch m.head.number (call_seat m.head.from x.seats) reply e in
     let at : call_seat (Client j) x.seats ≡ Some l.seat = ap (λ (n : Node). call_seat n x.seats) (sym from) ∙ l.at in
     let is : IsReplyOf (Server i) (Client j) l.seat reply = (B.sits i).seats (Client j) l.seat reply at l.reply in
-    let answer : IsKnown callees c.clients reply.head.from (answered_key reply.head) = reply_of _ reply.head.to reply.carried j (code_answers reply.carried is.reply.1) is.to ((B.held.0.0.0.keys.sound i).seats (Client j) l.seat reply at l.reply).1.0 in
+    let answer : IsKnown callees c.clients reply.head.from (answered_key reply.head) = reply_of (by_key (IsKnown callees c.clients) reply.head) reply.head.to reply.carried j (code_answers reply.carried is.reply.1) is.to ((B.held.0.0.0.keys.sound i).seats (Client j) l.seat reply at l.reply).1.0 i is.from in
     let kept : IsKept (Server i) x reply = record { client = j; seat = l.seat; at = at; kept = l.reply; is = is; answers = code_answers reply.carried is.reply.1 } in (
       kept,
       λ t. fresh_key s c past i (key_answered reply) B (subst (λ (q : Node). IsKnown callees c.clients q (answered_key reply.head)) is.from answer)
@@ -370,9 +380,9 @@ GivenLoads c past i place m y =
 given_loads : (s : Script) (c : Cell) (past : List Entry) (i place : ℕ) (m : Message) (y : Carried) → (B : Breaks s c past) → (c.hosts i).down ≡ None → message_at c.sent place ≡ Some m → m.head.to ≡ Server i → m.carried ≡ y → OfCall (λ h user call. ⊤) m.head y → GivenLoads c past i place m y
 given_loads s c past i place m (carried.Call user (ask.File call)) B up at to is f =
     let x : ServerState = (c.hosts i).state in
-    does_loads (Server i) x m c.clock place (hears (Server i) x c.clock m.head (carried.Call user (ask.File call))) (λ j. call_seat (Server i) (c.clients j).seats) c.sent past (up_at s c past i B.backed up) (facing s c past i place m user call B up at to is) (why_hears (Server i) x c.clock m (carried.Call user (ask.File call)) is f)
+    does_loads (Server i) x m c.clock place (hears (Server i) x c.clock m.head (carried.Call user (ask.File call))) (λ j. call_seat (Server i) (c.clients j).seats) c.sent past (up_at s c past i B.backed up) (facing s c past i place m user call B up at to is) (why_hears (Server i) x c.clock m (carried.Call user (ask.File call)) refl is f)
 given_loads s c past i place m (carried.Call user (ask.Volume call)) B up at to is f = absurd f
-given_loads s c past i place m (carried.Call user (ask.Location call)) B up at to is f = absurd f
+given_loads s c past i place m (carried.Call user (ask.Location call)) B up at to is f = not_loc m.head (Server i) _ to refl f.0
 given_loads s c past i place m (carried.Refusal code) B up at to is f = answered_loads (Server i) (c.hosts i).state.lasting.boot (expired c.clock (c.hosts i).state.backs) (c.hosts i).state.seats (λ j. call_seat (Server i) (c.clients j).seats) c.clock place c.sent _ past m.head (up_at s c past i B.backed up)
 given_loads s c past i place m (carried.Reply reply) B up at to is f = answered_loads (Server i) (c.hosts i).state.lasting.boot (expired c.clock (c.hosts i).state.backs) (c.hosts i).state.seats (λ j. call_seat (Server i) (c.clients j).seats) c.clock place c.sent _ past m.head (up_at s c past i B.backed up)
 given_loads s c past i place m carried.Notice B up at to is f = noticed_loads (Server i) refl (c.hosts i).state.lasting.boot (expired c.clock (c.hosts i).state.backs) (c.hosts i).state.seats (λ j. call_seat (Server i) (c.clients j).seats) c.clock place c.sent _ past m.head (up_at s c past i B.backed up)
@@ -672,9 +682,9 @@ done_of i P m carried.Notice is answers to h = absurd (answers tt)
 
 given_rules : (s : Script) (c : Cell) (past : List Entry) (i place : ℕ) (m : Message) (y : Carried) → (B : Breaks s c past) → (c.hosts i).down ≡ None → message_at c.sent place ≡ Some m → m.head.to ≡ Server i → m.carried ≡ y → OfCall (λ h user call. ⊤) m.head y
     → DoesRules s c past i place (hears (Server i) (c.hosts i).state c.clock m.head y) (given_step c i place m y).lines
-given_rules s c past i place m (carried.Call user (ask.File call)) B up at to is f = does_rules s c past i place m (hears (Server i) (c.hosts i).state c.clock m.head (carried.Call user (ask.File call))) B up (why_hears (Server i) (c.hosts i).state c.clock m (carried.Call user (ask.File call)) is f)
+given_rules s c past i place m (carried.Call user (ask.File call)) B up at to is f = does_rules s c past i place m (hears (Server i) (c.hosts i).state c.clock m.head (carried.Call user (ask.File call))) B up (why_hears (Server i) (c.hosts i).state c.clock m (carried.Call user (ask.File call)) refl is f)
 given_rules s c past i place m (carried.Call user (ask.Volume call)) B up at to is f = absurd f
-given_rules s c past i place m (carried.Call user (ask.Location call)) B up at to is f = absurd f
+given_rules s c past i place m (carried.Call user (ask.Location call)) B up at to is f = not_loc m.head (Server i) _ to refl f.0
 given_rules s c past i place m (carried.Refusal code) B up at to is f =
     let P : Message → Type 0 = DoneIn (Server i) (c.hosts i).down (c.hosts i).state.backs.calls (c.hosts i).state.backs.last_call (c.hosts i).state.lasting.boot past in
     (tt, answered_rules s c past i place m.head B up to m refl (subst HasCode (sym is) tt) at (done_of i P m (carried.Refusal code) is (λ z. z) to (each_at (IfDone P) c.sent place m at (B.backed.all i).dones)))
@@ -842,6 +852,8 @@ server_steps : (s : Script) (c : Cell) (past : List Entry) (i : ℕ) (armed : Ar
     → EachLine (IsBreakGood s) (actors.Node (Server i)) past [] st.lines → Steps s c past (server_moves c i armed st)
 server_steps s c past i armed st B w h r = record { backed = moves_backed s c past i armed st B w h.0; rules = r; replies = replies_good (of_server (Server i) st.lines st.sent ∷ past) st.sent h.1 }
 
+-- ---- a step of the location database: it answers clients alone
+
 loc_up : (i : ℕ) (l : Line) → is_of_loc l ≡ true → is_up (Server i) l ≡ true
 loc_up i (lines.Crash n) h = subst (λ (q : Node). not (same_node q (Server i)) ≡ true) (sym (same_node-true n Loc h)) refl
 loc_up i (lines.Fault n) h = subst (λ (q : Node). not (same_node q (Server i)) ≡ true) (sym (same_node-true n Loc h)) refl
@@ -855,10 +867,6 @@ loc_oweless : (l : Line) → is_of_loc l ≡ true → is_oweless l ≡ true
 loc_oweless (lines.Owe s c what n) h = absurd cc
 loc_oweless l h = refl
 
-loc_changes : (l : Line) → is_of_loc l ≡ true → is_unchanging l ≡ true
-loc_changes (lines.Change server k count) h = absurd cc
-loc_changes l h = refl
-
 loc_free : (l : Line) → is_of_loc l ≡ true → is_free l ≡ true
 loc_free (lines.Change server k count) h = absurd cc
 loc_free (lines.Owe server c what n) h = absurd cc
@@ -867,27 +875,97 @@ loc_free (lines.Quit server c n) h = absurd cc
 loc_free l h = refl
 
 loc_plain : (i : ℕ) (ls : List Line) → all_lines is_of_loc ls ≡ true → Plain (Server i) ls
-loc_plain i ls h = record {
-  up = all_of_loc (is_up (Server i)) (loc_up i) ls h;
-  still = all_of_loc is_still loc_still ls h;
-  oweless = all_of_loc is_oweless loc_oweless ls h;
-  unchanging = all_of_loc is_unchanging loc_changes ls h;
-}
+loc_plain i ls h = record { up = all_of_loc (is_up (Server i)) (loc_up i) ls h; still = all_of_loc is_still loc_still ls h; oweless = all_of_loc is_oweless loc_oweless ls h; unchanging = loc_unchanging ls h }
+
+no_call : (P : Head → List ℕ → FsCall → Type 0) (head : Head) (x : Carried) → (IsCall x → ⊥) → OfCall P head x
+no_call P head (carried.Call user call) h = absurd (h tt)
+no_call P head (carried.Refusal code) h = tt
+no_call P head (carried.Reply reply) h = tt
+no_call P head carried.Notice h = tt
+
+named_client : (n : Node) → is_client n ≡ true → (j : ℕ) × (n ≡ Client j)
+named_client (Client j) e = (j, refl)
+named_client (Server i) e = absurd cc
+named_client (Admin i) e = absurd cc
+named_client Loc e = absurd cc
+
+is_loc_client : (n : Node) → n ≡ Loc → IsClient n → ⊥
+is_loc_client (Client j) e h = let no_ : Client j ≡ Loc = e in absurd cc
+is_loc_client (Server i) e h = h
+is_loc_client (Admin i) e h = h
+is_loc_client Loc e h = h
+
+caller_is : (head : Head) (x : Carried) → OfCall IsFair head x → IsCall x → head.to ≡ Loc → (j : ℕ) × (head.from ≡ Client j)
+caller_is head (carried.Call user (ask.File call)) (inl q) is to = q
+caller_is head (carried.Call user (ask.File call)) (inr q) is to = absurd (is_loc_client head.to to q)
+caller_is head (carried.Call user (ask.Volume call)) q is to = absurd q
+caller_is head (carried.Call user (ask.Location call)) q is to = named_client head.from q.1.0
+caller_is head (carried.Refusal code) q is to = absurd is
+caller_is head (carried.Reply reply) q is to = absurd is
+caller_is head carried.Notice q is to = absurd is
+
+client_done : (j : ℕ) (n : Node) (X : Type 0) (x : Carried) → n ≡ Client j → OfReply (OfServer n X) x
+client_done j n X (carried.Call user call) e = tt
+client_done j n X (carried.Refusal code) e = subst (λ (q : Node). OfServer q X) (sym e) tt
+client_done j n X (carried.Reply reply) e = subst (λ (q : Node). OfServer q X) (sym e) tt
+client_done j n X carried.Notice e = tt
+
+-- what it sends
+record IsAside (m : Message) : Type 0 where
+  calls : IsCall m.carried → ⊥
+  client : (j : ℕ) × (m.head.to ≡ Client j)
+
+loc_aside : (s : Script) (c : Cell) (past : List Entry) (l : LocHost) (ls : List Line) (ms : List Message) (o : Option Message) → Breaks s c past → (st : IsLocStep c l ls ms) → placed st.place c.sent ≡ o → Each IsAside ms
+loc_aside s c past l ls ms None B st e = subst (Each IsAside) (sym (st.none e)) tt
+loc_aside s c past l ls ms (Some k) B st e = each_map (IsBackTo k.head k.carried) IsAside
+    (λ m x. record { calls = x.0; client = let q = caller_is k.head k.carried (fair_at st.place e) x.1.1 (st.to k e) in (q.0, x.1.0 ∙ q.1) }) ms (st.back k e)
+  where
+    fair_at : (p : Option ℕ) → placed p c.sent ≡ Some k → FairCall k
+    fair_at None z = absurd cc
+    fair_at (Some p) z = each_at FairCall c.sent p k z B.backed.fair
+
+loc_steps : (s : Script) (c : Cell) (past : List Entry) (l : LocHost) (ls : List Line) (ms : List Message) → Breaks s c past → IsLocStep c l ls ms → Steps s c past (loc_becomes c l ls ms)
+loc_steps s c past l ls ms B st =
+    let e : Entry = (loc_becomes c l ls ms).entry in
+    let aside : Each IsAside ms = loc_aside s c past l ls ms (placed st.place c.sent) B st refl in
+    record {
+      backed = record {
+        count = B.backed.count;
+        fair = each_more FairCall c.sent ms B.backed.fair (each_map IsAside FairCall (λ m x. no_call IsFair m.head m.carried x.calls) ms aside);
+        all = λ i.
+            let h : ServerHost = c.hosts i in
+            let b : Backs = h.state.backs in
+            let boot : ℕ = h.state.lasting.boot in
+            let cs : ℕ → Option Seat = λ j. call_seat (Server i) (c.clients j).seats in
+            let p : Plain (Server i) ls = loc_plain i ls st.lines in
+            let P : Head → List ℕ → FsCall → Type 0 = BackIn (Server i) h.down b.calls b.last_call boot in
+            let D : Message → Type 0 = DoneIn (Server i) h.down b.calls b.last_call boot (e ∷ past) in
+            backed_plain (Server i) h.down b boot h.state.seats cs cs c.clock c.clock c.sent ms e past p (le_refl _) (B.backed.all i)
+            (each_map IsAside (IfBack P) (λ m x. no_call (ByServer P) m.head m.carried x.calls) ms aside)
+            (each_map IsAside (IfDone D) (λ m x. client_done x.client.0 m.head.to (D m) m.carried x.client.1) ms aside)
+            (λ j seat m x y. old_seated (Server i) h.down b boot h.state.seats cs c.clock c.sent e past j p (B.backed.all i) seat m x y);
+      };
+      rules = free_rules s (actors.Node Loc) past [] ls (all_of_loc is_free loc_free ls st.lines);
+      replies = loc_good (e ∷ past) ms (loc_own c l ls ms st);
+    }
 
 break_moves : (s : Script) → EachMove (Breaks s) (Steps s)
 break_moves s = record {
   void = λ c past B. record { backed = record { count = B.backed.count; fair = B.backed.fair; all = still_all s c past _ c.clock (λ i. record { up = refl; still = refl; oweless = refl; unchanging = refl }) (le_refl _) B.backed }; rules = (tt, tt); replies = tt };
   ticked = λ c past n B. record { backed = record { count = B.backed.count; fair = B.backed.fair; all = still_all s c past _ (c.clock + suc n) (λ i. record { up = refl; still = refl; oweless = refl; unchanging = refl }) (omega arith) B.backed }; rules = (tt, tt); replies = tt };
-  begun = λ c past n act B r. speaks_steps s c past n (begin_row (Client n) (c.clients n) c.clock act) B (begins_acts n (c.clients n) c.clock act r) (begun_speaks (Client n) (c.clients n) c.clock act);
+  begun = λ c past n act B r z. speaks_steps s c past n (begin_row (Client n) (c.clients n) c.clock act) B (begins_acts n (c.clients n) c.clock act r z) (begun_speaks (Client n) (c.clients n) c.clock act);
   told = λ c past n place m B at to.
       let a : Acts n (who_at (c.clients n)) (c.clients n).gifts (client_row (Client n) (c.clients n) c.clock place (Whole m)) = given_acts (by_key (IsKnown B.held.0.0.0.keys.callees c.clients)) any_told n (c.clients n) c.clock place m (B.held.0.0.0.keys.replies n) (B.held.0.0.1.seats n) in
       client_steps s c past n (client_row (Client n) (c.clients n) c.clock place (Whole m)) B a (λ i.
       let x : ServerHost = c.hosts i in
       told_leaves i x.down x.state.backs x.state.lasting.boot x.state.seats (λ j. call_seat (Server i) (c.clients j).seats) c.clock c.sent past n (c.clients n) place m (B.backed.all i) refl (B.held.0.0.1.seats n) (each_at (IfBack (BackIn (Server i) x.down x.state.backs.calls x.state.backs.last_call x.state.lasting.boot)) c.sent place m at (B.backed.all i).calls) (of_plain n i _ a.of));
+  sought = λ c past n place m k B at to z e. speaks_steps s c past n (sought_by (Client n) (c.clients n) c.clock place k m.head m.carried) B (sought_acts_in s c past n place m k B.held.0.0.1 at z e)
+      (sought_speaks s n (c.clients n) c.clock place k m.head m.carried (placed_in s c past n k B.held.0.0.1 z) (told_in s c past n place m k B.held.0.0.1 at e));
+  missed = λ c past n k B r z. speaks_steps s c past n (seek_timeout_row (Client n) (c.clients n) k) B (missed_acts n (c.clients n) k r z) (missed_speaks (Client n) (c.clients n) k);
+  loc = λ c past l ls ms B st. loc_steps s c past l ls ms B st;
   waited = λ c past n act B r. speaks_steps s c past n (timeout_row (Client n) (c.clients n) act) B (waits_acts n (c.clients n) act r) (waits_speaks (Client n) (c.clients n) act);
-  fallen = λ c past n B. let k = client_steps s c past n (record { state = reborn (c.clients n); lines = lines.Crash (Client n) ∷ []; sent = [] }) B (falls_acts n (c.clients n)) (falls_all c past n) in record { backed = record { count = k.backed.count; fair = k.backed.fair; all = k.backed.all }; rules = k.rules; replies = k.replies };
+  fallen = λ c past n B. let k = client_steps s c past n (record { state = reborn c.handed (c.clients n); lines = lines.Crash (Client n) ∷ []; sent = [] }) B (falls_acts n c.handed (c.clients n) (handed_same s c past B.held.0.0.1 n)) (falls_all c past n) in record { backed = record { count = k.backed.count; fair = k.backed.fair; all = k.backed.all }; rules = k.rules; replies = k.replies };
   risen = λ c past n B. let k = speaks_steps s c past n (record { state = c.clients n; lines = lines.Restart (Client n) (c.clients n).epoch ∷ []; sent = [] }) B (rises_acts n (c.clients n)) (record { calls = tt; seats' = refl }) in record { backed = record { count = k.backed.count; fair = k.backed.fair; all = k.backed.all }; rules = k.rules; replies = k.replies };
-  loc = λ c past l ls B st. record { backed = record { count = B.backed.count; fair = B.backed.fair; all = still_all s c past (loc_becomes c l ls).entry c.clock (λ i. loc_plain i ls st.lines) (le_refl _) B.backed }; rules = free_rules s (actors.Node Loc) past [] ls (all_of_loc is_free loc_free ls st.lines); replies = tt };
   served = λ c past i place m armed B up at to. server_steps s c past i armed (server_row (Server i) (c.hosts i).state c.clock place (Whole m)) B (serves_works (KnownIn c B.held.0.0.0.keys.callees) (Server i) (c.hosts i).state c.clock place m (λ rest. each_at (KnownBy c B.held.0.0.0.keys.callees) c.sent place m at B.held.0.0.0.keys.calls)) (served_step s c past i place m B up at to) (served_rules s c past i place m B up at to);
   cut = λ c past i place m t B up at to. falls_steps s c past i (lines.Given place ∷ blow_line i t.stops ∷ []) (in_step m c.clock t) B (blow_from i place t.stops) (blow_free i place t.stops) (blow_oweless i place t.stops) (blow_still i place t.stops) (blow_stopped i place t.stops);
   stopped = λ c past i B up. falls_steps s c past i (lines.Crash (Server i) ∷ []) at_rest B (rw (own_from i) refl) refl refl refl (λ o. inl refl);
@@ -906,7 +984,7 @@ break_moves s = record {
 }
 
 pub breaks_kept : (s : Script) → IsKeptBy (Breaks s)
-breaks_kept s c past x B = record { held = ticks_kept s c past x B.held; sits = each_moved SitsIn (Behind SitsIn) sits_moves c past x B.sits; backed = (each_moved (Breaks s) (Steps s) (break_moves s) c past x B).backed }
+breaks_kept s c past x so B = record { held = ticks_kept s c past x so B.held; sits = each_moved SitsIn (Behind SitsIn) sits_moves c past x so B.sits; backed = (each_moved (Breaks s) (Steps s) (break_moves s) c past x so B).backed }
 
 -- ---- the set-up
 
@@ -939,8 +1017,8 @@ breaks_first s = record { held = ticks_first s; sits = λ i. record { seats = λ
 
 pub run_breaks : BreaksAreGood
 run_breaks s h end r =
-    run_each (Breaks s) (λ past e. EachLine (IsBreakGood s) e.actor past [] e.lines) (breaks_kept s) (λ c past x k. (each_moved (Breaks s) (Steps s) (break_moves s) c past x k).rules) r.inputs (start s) (set_up s ∷ []) h end (breaks_first s) r.leads
+    run_each (Breaks s) (λ past e. EachLine (IsBreakGood s) e.actor past [] e.lines) (breaks_kept s) (λ c past x so k. (each_moved (Breaks s) (Steps s) (break_moves s) c past x so k).rules) r.inputs s (set_up s ∷ []) h end (breaks_first s) r.leads
 
 pub run_waits : RepliesWait
 run_waits s h end r =
-    run_each (Breaks s) (λ past e. EachSent GoodReply (e ∷ past) e.sent) (breaks_kept s) (λ c past x k. (each_moved (Breaks s) (Steps s) (break_moves s) c past x k).replies) r.inputs (start s) (set_up s ∷ []) h end (breaks_first s) r.leads
+    run_each (Breaks s) (λ past e. EachSent GoodReply (e ∷ past) e.sent) (breaks_kept s) (λ c past x so k. (each_moved (Breaks s) (Steps s) (break_moves s) c past x so k).replies) r.inputs s (set_up s ∷ []) h end (breaks_first s) r.leads

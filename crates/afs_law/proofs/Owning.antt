@@ -22,7 +22,7 @@ use Rattle.std.proofs.Common.{◌≡◌, ℕ, inl, inr, List, [], ◌∷◌, Opt
 use Rattle.std.specs.List.{AllByRecursion}
 
 backs_at : (s : Script) (h : List Entry) (end : Cell) → RunsTo h s end → Breaks s end (past_of (set_up s ∷ []) h)
-backs_at s h end r = run_keeps (Breaks s) (breaks_kept s) r.inputs (start s) (set_up s ∷ []) h end (breaks_first s) r.leads
+backs_at s h end r = run_keeps (Breaks s) (breaks_kept s) r.inputs s (set_up s ∷ []) h end (breaks_first s) r.leads
 
 kept_promise : (p : Promise) (ps : List Promise) → IsPromised p ps → IsPromisedIn p ps
 kept_promise p [] h = h

@@ -18,12 +18,12 @@ use Rattle.afs_num.specs.declared.messages.Message.{Message}
 use Rattle.afs_ideal.specs.Operations.{volume_changed, changes}
 use Rattle.afs_law.proofs.Basics.{UpTo, Each, IfCall, ByClient, OfClient, both, OfCall}
 use Rattle.afs_rows.specs.ClientRow.{batch, batch_to, most_given, call_by}
-use Rattle.afs_rows.specs.Going.{Need, next, reads, reads_status, reads_statuses, reads_rights, asks_for, gives_back, answers, Going}
+use Rattle.afs_rows.specs.Going.{Need, next, reads, reads_status, reads_statuses, reads_rights, asks_for, gives_back, locates, answers, Going}
 use Rattle.afs_law.specs.Grants.{is_promised, has_fetched, GrantOf}
 use Rattle.afs_law.specs.Ideal.{Unless, HasVersion, change_in, call_in, call_under}
 use Rattle.afs_law.specs.Legal.{IsNew, IsNot, AreDropped, HasDropped, GoodGift, IsKey, HasChange}
 use Rattle.afs_history.specs.declared.lines.Line.{Line}
-use Rattle.afs_law.specs.Past.{IsCallUnder, IsCallFrom, IsToCome, IsUnheard, is_new_to_act, begins_act, onto, lines_of, sent_of, given_message, has_begun, Ran, called_key, same_key, is_called, has_sent, is_sent_since}
+use Rattle.afs_law.specs.Past.{IsCallUnder, IsCallFrom, IsToCome, IsUnheard, is_new_to_act, begins_act, onto, lines_of, sent_of, given_message, has_begun, Ran, called_key, same_key, is_called, has_sent, is_sent_since, is_by_key, has_called}
 use Rattle.afs_rows.specs.Runs.{Entry}
 use Rattle.afs_rows.specs.States.{Gift}
 use Rattle.afs_num.specs.declared.histories.Body.{Body}
@@ -138,6 +138,7 @@ gift_by (reads_rights f) gs head user ls w h = tt
 gift_by (asks_for (calls.GiveUpCallBacks fids callbacks)) gs head user ls w h = absurd (w (calls.GiveUpCallBacks fids callbacks) refl refl)
 gift_by (asks_for call) gs head user ls w h = tt
 gift_by gives_back gs head user ls w h = dropped_batch head.from gs ls h
+gift_by (locates o) gs head user ls w h = tt
 gift_by (answers code) gs head user ls w h = tt
 
 pub own_gift : (act : Going) (gs : List Gift) (head : Head) (user : List ℕ) (ls : List Line) → AreDropped head.from (fids_of_gifts gs) ls → GoodGift head (carried.Call user (ask.File (call_by gs (next act)))) ls
@@ -173,7 +174,7 @@ pub late_kept : (t a b : Bool) → t ≡ false → b ≡ true → cond t a b ≡
 late_kept t a b e h = rw e h
 
 pub late_over : (n : Node) (k : Key) (e : Entry) (past : List Entry) → has_begun n e.lines ≡ false → is_new_to_act n k past ≡ true → is_new_to_act n k (e ∷ past) ≡ true
-late_over n k e past none h = late_kept (has_begun n e.lines) (not (has_sent k (sent_of past))) (is_new_to_act n k past) none h
+late_over n k e past none h = late_kept (has_begun n e.lines) (not (has_called k (sent_of past))) (is_new_to_act n k past) none h
 
 -- ---- calls of the act that began last
 
@@ -192,7 +193,7 @@ among_key k P head user call rest false t e h w = w e
 among_by : (k : Key) (P : Head → List ℕ → FsCall → Type 0) (head : Head) (c : Carried) (rest : Bool) → cond (is_called k head c) true rest ≡ true → OfCall P head c → (rest ≡ true → IsAmong k P) → IsAmong k P
 among_by k P head (carried.Call user (ask.File call)) rest e h w = among_key k P head user call rest (same_key (called_key head) k) refl e h w
 among_by k P head (carried.Call user (ask.Volume call)) rest e h w = absurd h
-among_by k P head (carried.Call user (ask.Location call)) rest e h w = absurd h
+among_by k P head (carried.Call user (ask.Location call)) rest e h w = w e
 among_by k P head (carried.Refusal code) rest e h w = w e
 among_by k P head (carried.Reply reply) rest e h w = w e
 among_by k P head carried.Notice rest e h w = w e
@@ -216,7 +217,7 @@ both_client Loc X Y Z w x y = tt
 call_both : (P Q : Head → List ℕ → FsCall → Type 0) (head : Head) (c : Carried) → OfCall (ByClient P) head c → OfCall (ByClient Q) head c → OfCall (ByClient (λ hd us cl. P hd us cl × Q hd us cl)) head c
 call_both P Q head (carried.Call user (ask.File call)) h k = both_client head.from _ _ _ (λ x y. (x, y)) h k
 call_both P Q head (carried.Call user (ask.Volume call)) h k = absurd h
-call_both P Q head (carried.Call user (ask.Location call)) h k = absurd h
+call_both P Q head (carried.Call user (ask.Location call)) h k = h
 call_both P Q head (carried.Refusal code) h k = tt
 call_both P Q head (carried.Reply reply) h k = tt
 call_both P Q head carried.Notice h k = tt
@@ -255,6 +256,31 @@ sent_right k (m ∷ a) b h = sent_either (is_called k m.head m.carried) (has_sen
 pub sent_left : (k : Key) (a b : List Message) → has_sent k a ≡ true → has_sent k (a ++ b) ≡ true
 sent_left k [] b h = absurd cc
 sent_left k (m ∷ a) b h = sent_more (is_called k m.head m.carried) (has_sent k a) (has_sent k (a ++ b)) h (λ y. sent_left k a b y)
+
+-- the same of calls of every interface
+pub called_right : (k : Key) (a b : List Message) → has_called k b ≡ true → has_called k (a ++ b) ≡ true
+called_right k [] b h = h
+called_right k (m ∷ a) b h = sent_either (is_by_key k m.head m.carried) (has_called k (a ++ b)) (called_right k a b h)
+
+pub called_left : (k : Key) (a b : List Message) → has_called k a ≡ true → has_called k (a ++ b) ≡ true
+called_left k [] b h = absurd cc
+called_left k (m ∷ a) b h = sent_more (is_by_key k m.head m.carried) (has_called k a) (has_called k (a ++ b)) h (λ y. called_left k a b y)
+
+file_by_key : (k : Key) (head : Head) (x : Carried) → is_called k head x ≡ true → is_by_key k head x ≡ true
+file_by_key k head (carried.Call user (ask.File call)) h = h
+file_by_key k head (carried.Call user call) h = absurd cc
+file_by_key k head (carried.Refusal code) h = absurd cc
+file_by_key k head (carried.Reply reply) h = absurd cc
+file_by_key k head carried.Notice h = absurd cc
+
+called_by : (t u x y : Bool) → (t ≡ true → u ≡ true) → (x ≡ true → y ≡ true) → cond t true x ≡ true → cond u true y ≡ true
+called_by true u x y w v h = ap (λ (b : Bool). cond b true y) (w refl)
+called_by false true x y w v h = refl
+called_by false false x y w v h = v h
+
+pub sent_called : (k : Key) (ms : List Message) → has_sent k ms ≡ true → has_called k ms ≡ true
+sent_called k [] h = absurd cc
+sent_called k (m ∷ ms) h = called_by (is_called k m.head m.carried) (is_by_key k m.head m.carried) (has_sent k ms) (has_called k ms) (file_by_key k m.head m.carried) (sent_called k ms) h
 
 -- a key of the act was sent
 pub was_sent : (n : Node) (k : Key) (past : List Entry) → is_sent_since n k past ≡ true → has_sent k (sent_of past) ≡ true

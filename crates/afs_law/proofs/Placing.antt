@@ -1,17 +1,18 @@
 -- Each line of a run stands where it may, however many servers a cell has.
+use Rattle.afs_law.proofs.Listing.{}
 use Rattle.afs_breaks.specs.declared.types.OwedBreak.{OwedBreak}
 use Rattle.afs_history.specs.declared.lines.Line.{Line}
 use Rattle.afs_history.specs.declared.lines.Line.TheVariants as lines
 use Rattle.afs_history.specs.declared.scripts.Script.{Script}
 use Rattle.afs_ideal.specs.Operations.{Found}
-use Rattle.afs_law.proofs.Acting.{begins_acts, falls_acts, given_acts, rises_acts, waits_acts}
+use Rattle.afs_law.proofs.Acting.{begins_acts, falls_acts, given_acts, rises_acts, waits_acts, missed_acts}
 use Rattle.afs_law.proofs.Backing.{all_lines}
 use Rattle.afs_law.proofs.Basics.{both, same_node-true}
 use Rattle.afs_law.proofs.Changing.{run_each}
 use Rattle.afs_law.proofs.Choosing.{risen_lines, one_from}
 use Rattle.afs_law.proofs.KeysOnce.{IsKnown, any_told, by_key}
 use Rattle.afs_law.proofs.Moving.{Behind, EachMove, IsKept, each_moved}
-use Rattle.afs_law.proofs.Origins.{KnownAsked, asked_first, asked_kept}
+use Rattle.afs_law.proofs.Origins.{KnownAsked, asked_first, asked_kept, sought_acts_in, handed_same}
 use Rattle.afs_law.proofs.Promising.{owes_all, risen_is}
 use Rattle.afs_law.specs.Breaks.{HasOwe}
 use Rattle.afs_law.specs.Ideal.{set_up}
@@ -213,12 +214,14 @@ counts_moves : (s : Script) → EachMove (Counts s) (Behind (Counts s))
 counts_moves s = record {
   void = λ c past h. h;
   ticked = λ c past n h. h;
-  begun = λ c past n act h r. h;
+  begun = λ c past n act h r z. h;
   told = λ c past n place m h at to. h;
+  sought = λ c past n place m k h at to z e. h;
+  missed = λ c past n k h r z. h;
   waited = λ c past n act h r. h;
   fallen = λ c past n h. h;
   risen = λ c past n h. h;
-  loc = λ c past l ls h st. h;
+  loc = λ c past l ls ms h st. h;
   served = λ c past i place m armed h up at to. h;
   cut = λ c past i place m t h up at to. h;
   stopped = λ c past i h up. h;
@@ -236,7 +239,7 @@ abbrev pub Placed : Script → Cell → List Entry → Type 0
 Placed s c past = KnownAsked s c past × Counts s c past
 
 pub placed_kept : (s : Script) → IsKept (Placed s)
-placed_kept s c past x h = (asked_kept s c past x h.0, each_moved (Counts s) (Behind (Counts s)) (counts_moves s) c past x h.1)
+placed_kept s c past x so h = (asked_kept s c past x so h.0, each_moved (Counts s) (Behind (Counts s)) (counts_moves s) c past x so h.1)
 
 abbrev pub PlacedStep : Script → Cell → List Entry → Moved → Type 0
 PlacedStep s c past m = EachLine (IsInPlace s) m.entry.actor past [] m.entry.lines
@@ -252,12 +255,14 @@ pub placed_moves : (s : Script) → EachMove (Placed s) (PlacedStep s)
 placed_moves s = record {
   void = λ c past h. (refl, tt);
   ticked = λ c past n h. ((refl, (omega arith, (refl, refl))), tt);
-  begun = λ c past n act h r. (begins_acts n (c.clients n) c.clock act r).each s past (h.0.1.table n) (h.0.1.acts n);
+  begun = λ c past n act h r z. (begins_acts n (c.clients n) c.clock act r z).each s past (h.0.1.table n) (h.0.1.acts n);
   told = λ c past n place m h at to. (given_acts (by_key (IsKnown h.0.0.keys.callees c.clients)) any_told n (c.clients n) c.clock place m (h.0.0.keys.replies n) (h.0.1.seats n)).each s past (h.0.1.table n) (h.0.1.acts n);
+  sought = λ c past n place m k h at to z e. (sought_acts_in s c past n place m k h.0.1 at z e).each s past (h.0.1.table n) (h.0.1.acts n);
+  missed = λ c past n k h r z. (missed_acts n (c.clients n) k r z).each s past (h.0.1.table n) (h.0.1.acts n);
   waited = λ c past n act h r. (waits_acts n (c.clients n) act r).each s past (h.0.1.table n) (h.0.1.acts n);
-  fallen = λ c past n h. (falls_acts n (c.clients n)).each s past (h.0.1.table n) (h.0.1.acts n);
+  fallen = λ c past n h. (falls_acts n c.handed (c.clients n) (handed_same s c past (h.0.1) n)).each s past (h.0.1.table n) (h.0.1.acts n);
   risen = λ c past n h. (rises_acts n (c.clients n)).each s past (h.0.1.table n) (h.0.1.acts n);
-  loc = λ c past l ls h st. st.places s past;
+  loc = λ c past l ls ms h st. st.places s past;
   served = λ c past i place m armed h up at to. serves_each s i past (c.hosts i).state c.clock place m;
   cut = λ c past i place m t h up at to. blow_each s i place past t.stops;
   stopped = λ c past i h up. (refl, tt);
@@ -276,4 +281,4 @@ placed_first s = (asked_first s, refl)
 
 pub run_placed : LinesAreInPlace
 run_placed s h end r =
-    run_each (Placed s) (λ past e. EachLine (IsInPlace s) e.actor past [] e.lines) (placed_kept s) (λ c past x k. each_moved (Placed s) (PlacedStep s) (placed_moves s) c past x k) r.inputs (start s) (set_up s ∷ []) h end (placed_first s) r.leads
+    run_each (Placed s) (λ past e. EachLine (IsInPlace s) e.actor past [] e.lines) (placed_kept s) (λ c past x so k. each_moved (Placed s) (PlacedStep s) (placed_moves s) c past x so k) r.inputs s (set_up s ∷ []) h end (placed_first s) r.leads

@@ -34,7 +34,7 @@ use Rattle.afs_num.specs.declared.types.Key.{Key}
 use Rattle.afs_num.specs.declared.types.Node.{Node}
 use Rattle.afs_num.specs.declared.types.Node.TheVariants.{Admin, Client, Loc, Server}
 use Rattle.afs_rows.specs.Callbacks.{Started, put, replies_of, risen_turn, starts, starts_by}
-use Rattle.afs_rows.specs.ClientRow.{begin_row, client_row, timeout_row}
+use Rattle.afs_rows.specs.ClientRow.{begin_row, client_row, timeout_row, seek_timeout_row, sought_by}
 use Rattle.afs_law.proofs.Steps.{blow_line, server_falls, server_moves, server_rises, server_set, server_stays, loc_becomes}
 use Rattle.afs_rows.specs.Runs.{Armed, Cell, Entry, Fall, Moved, RunsTo, at_rest, begun_by_disk, client_falls, client_moves, client_rises, in_boot, in_step, message_at, moved, start, ticked, unarmed, voided, ServerHost}
 use Rattle.afs_rows.specs.ServerRow.{reply_head}
@@ -78,7 +78,7 @@ abbrev KnownSits : Cell → List Entry → Type 0
 KnownSits c past = Known c past × SitsIn c past
 
 known_sits_kept : IsKept KnownSits
-known_sits_kept c past x h = (known_kept c past x h.0, each_moved SitsIn (Behind SitsIn) sits_moves c past x h.1)
+known_sits_kept c past x so h = (known_kept c past x so h.0, each_moved SitsIn (Behind SitsIn) sits_moves c past x so h.1)
 
 abbrev KnownCurrent : Cell → List Entry → Type 0
 KnownCurrent c past = KnownSits c past × CurrentIn c past
@@ -211,7 +211,7 @@ serves_now c past i place m h up at =
     let L : Head → Type 0 = OfBoot x.lasting.boot in
     let sound : IsSound K L (memory_of x) = sound_now c past i ls h.0 (h.1 i up) in
     let call : IfCall (λ y user z. K (reply_head x.lasting.boot y)) m = if_call (λ y user z. IsHad c.hosts y.to y.boot) (λ y user z. K (reply_head x.lasting.boot y)) (λ y user z had. inl refl) m (each_at (IfCall (λ y user z. IsHad c.hosts y.to y.boot)) c.sent place m at h.0.0.hears.calls) in
-    serves_step K L i x c.clock place m sound (held_now c past i ls (h.1 i up)) (decides_due K L (Server i) x c.clock m sound.seats (any_call K x.lasting.boot x.seats m.head m.carried call) (λ to. refl))
+    serves_step K L i x c.clock place m sound (held_now c past i ls (h.1 i up)) (decides_due K L (Server i) x c.clock m refl sound.seats (any_call K x.lasting.boot x.seats m.head m.carried call) (λ to. refl))
 
 -- ---- one that begins again
 
@@ -256,12 +256,14 @@ present_moves : EachMove KnownCurrent PresentStep
 present_moves = record {
   void = λ c past h K. besides_present c past (voided c) h (λ i e. absurd cc) refl;
   ticked = λ c past n h K. besides_present c past (ticked c (suc n)) h (λ i e. absurd cc) refl;
-  begun = λ c past n act h r K. besides_present c past (client_moves c n (begin_row (Client n) (c.clients n) c.clock act)) h (λ i e. absurd cc) refl;
+  begun = λ c past n act h r z0 K. besides_present c past (client_moves c n (begin_row (Client n) (c.clients n) c.clock act)) h (λ i e. absurd cc) refl;
   told = λ c past n place m h at to K. besides_present c past (client_moves c n (client_row (Client n) (c.clients n) c.clock place (Whole m))) h (λ i e. absurd cc) refl;
+  sought = λ c past n place m k h at to z e K. besides_present c past (client_moves c n (sought_by (Client n) (c.clients n) c.clock place k m.head m.carried)) h (λ i e'. absurd cc) refl;
+  missed = λ c past n k h r z K. besides_present c past (client_moves c n (seek_timeout_row (Client n) (c.clients n) k)) h (λ i e'. absurd cc) refl;
+  loc = λ c past l ls ms h st K. besides_present c past (loc_becomes c l ls ms) h (λ i e'. absurd cc) refl;
   waited = λ c past n act h r K. besides_present c past (client_moves c n (timeout_row (Client n) (c.clients n) act)) h (λ i e. absurd cc) refl;
   fallen = λ c past n h K. besides_present c past (client_falls c n) h (λ i e. absurd cc) refl;
   risen = λ c past n h K. besides_present c past (client_rises c n) h (λ i e. absurd cc) refl;
-  loc = λ c past l ls h st K. besides_present c past (loc_becomes c l ls) h (λ i e'. absurd cc) refl;
   served = λ c past i place m armed h up at to K. up_present c past i (Some place) armed (server_row (Server i) (c.hosts i).state c.clock place (Whole m)) h (served_boot i (c.hosts i).state c.clock place m) (serves_now c past i place m h up at) K;
   cut = λ c past i place m t h up at to K. quiet_present c past i (record (c.hosts i) { down = Some (in_step m c.clock t); armed = unarmed }) (server_falls c i (lines.Given place ∷ blow_line i t.stops ∷ []) (in_step m c.clock t)) h refl refl (no_fall (in_step m c.clock t) _);
   stopped = λ c past i h up K. quiet_present c past i (record (c.hosts i) { down = Some at_rest; armed = unarmed }) (server_falls c i (lines.Crash (Server i) ∷ []) at_rest) h refl refl (no_fall at_rest _);
@@ -278,7 +280,7 @@ present_moves = record {
 }
 
 current_kept : IsKept KnownCurrent
-current_kept c past x h = let K : Behind KnownSits c past (moved c x) = known_sits_kept c past x h.0 in (K, (each_moved KnownCurrent PresentStep present_moves c past x h K).current)
+current_kept c past x so h = let K : Behind KnownSits c past (moved c x) = known_sits_kept c past x so h.0 in (K, (each_moved KnownCurrent PresentStep present_moves c past x so h K).current)
 
 current_first : (s : Script) → KnownCurrent (start s) (set_up s ∷ [])
 current_first s = ((known_first s, λ i. record { seats = λ n seat m e. absurd cc; kept = λ n seat m e. absurd cc }), λ i up. record { seats = λ n seat m e. absurd cc; held = tt })
@@ -289,7 +291,7 @@ abbrev OfServers : List Entry → Entry → Type 0
 OfServers past e = (i : ℕ) → e.actor ≡ actors.Node (Server i) → EachSent (IsOfNow i) (e ∷ past) e.sent
 
 run_now : (s : Script) (h : List Entry) (end : Cell) → RunsTo h s end → EachEntry OfServers (set_up s ∷ []) h
-run_now s h end r = run_each KnownCurrent OfServers current_kept (λ c past x k. (each_moved KnownCurrent PresentStep present_moves c past x k (known_sits_kept c past x k.0)).sent) r.inputs (start s) (set_up s ∷ []) h end (current_first s) r.leads
+run_now s h end r = run_each KnownCurrent OfServers current_kept (λ c past x so k. (each_moved KnownCurrent PresentStep present_moves c past x so k (known_sits_kept c past x so k.0)).sent) r.inputs s (set_up s ∷ []) h end (current_first s) r.leads
 
 -- a server's reply to a client is of its boot, or to what it changed
 abbrev pub IsOfBoot : List Entry → Message → Type 0

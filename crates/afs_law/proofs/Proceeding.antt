@@ -80,7 +80,7 @@ Kind s n x clock st past f e = IsOld s n x clock st past f e ⊎ (IsNew s n x cl
 pub record Result (s : Script) (n : ℕ) (x : ClientState) (clock : ℕ) (past : List Entry) (st : Step ClientState) : Type 0 where
   pub shown : EachLine (IsShown s) (actors.Node (Client n)) past [] st.lines
   pub up : (f : Fid) → ReadsUpTo (Client n) f (index_in (last_version f (lines_of past))) st.lines
-  pub quiet : has_begun (Client n) st.lines ≡ false → st.state.running ≡ x.running → st.state.last ≡ x.last → is_silent st.lines ≡ true
+  pub quiet : has_begun (Client n) st.lines ≡ false → (act : Going) → st.state.running ≡ Some act → st.state.running ≡ x.running → st.state.last ≡ x.last → is_silent st.lines ≡ true
   pub zero' : (act : Going) → st.state.running ≡ Some act → (st.state.last ≡ x.last → ⊥) → (f : Fid) → (reach (Client n) f (of_client n st ∷ past)).made ≡ 0
   pub entries : (f : Fid) (e : CacheEntry) → find_cached f st.state.cache ≡ Some e → Kind s n x clock st past f e
 
@@ -172,15 +172,18 @@ trusts_own s c past n st B T a R =
     elim a.goes [
       | inl r ↦ elim r.act [
         | inl none ↦ idle none
-        | inr same ↦
-            (let q : IsStill n x st.state = record { running = same.0; key = same_key_at n x st.state r.epoch r.last; call = λ act. ap (λ (gs : List Gift). call_by gs (next act)) same.1.0 } in
-            let silent : is_silent st.lines ≡ true = R.quiet same.1.1 same.0 r.last in
-            let equal : (f : Fid) → reach (Client n) f (of_client n st ∷ past) ≡ reach (Client n) f past = λ f. silent_reach (Client n) f past false (reach (Client n) f past) st.lines U.blank silent in
-            record {
-              entries = λ f e found. still_entry s c past n st f e T U q r.last silent (R.entries f e found);
-              waits = λ act run. waits_still n x st past act U q (λ f. ap (λ (z : Reach). z.seen) (equal f)) (λ f. ap (λ (z : Reach). z.made) (equal f)) T.reached (T.waits act (sym same.0 ∙ run));
-              reached = reached;
-            })
+        | inr same ↦ elim (ran_or st.state.running) [
+          | inl none ↦ idle none
+          | inr now ↦
+              (let q : IsStill n x st.state = record { running = same.0; key = same_key_at n x st.state r.epoch r.last; call = λ act. ap (λ (gs : List Gift). call_by gs (next act)) same.1.0 } in
+              let silent : is_silent st.lines ≡ true = R.quiet same.1.1 now.0 now.1 same.0 r.last in
+              let equal : (f : Fid) → reach (Client n) f (of_client n st ∷ past) ≡ reach (Client n) f past = λ f. silent_reach (Client n) f past false (reach (Client n) f past) st.lines U.blank silent in
+              record {
+                entries = λ f e found. still_entry s c past n st f e T U q r.last silent (R.entries f e found);
+                waits = λ act run. waits_still n x st past act U q (λ f. ap (λ (z : Reach). z.seen) (equal f)) (λ f. ap (λ (z : Reach). z.made) (equal f)) T.reached (T.waits act (sym same.0 ∙ run));
+                reached = reached;
+              })
+        ]
       ]
       | inr y ↦ elim y [
         | inl z ↦

@@ -1,12 +1,13 @@
 -- Each promise of a run is good, however many servers a cell has: it is made where a call runs whose reply promises that.
 use Rattle.afs_law.proofs.LocLines.{is_of_loc, all_of_loc}
+use Rattle.afs_law.proofs.Origins.{sought_acts_in}
 use Rattle.afs_breaks.specs.declared.types.OwedBreak.{OwedBreak}
 use Rattle.afs_history.specs.declared.lines.Line.{Line}
 use Rattle.afs_history.specs.declared.lines.Line.TheVariants as lines
 use Rattle.afs_history.specs.declared.scripts.Script.{Script}
 use Rattle.afs_ideal.specs.Operations.{Found, Result, changes, the_user}
 use Rattle.afs_ideal.specs.Volumes.{Volume, Vnode, version_at, vnode_of}
-use Rattle.afs_law.proofs.Acting.{begins_acts, given_acts, is_of, waits_acts}
+use Rattle.afs_law.proofs.Acting.{begins_acts, given_acts, is_of, waits_acts, missed_acts}
 use Rattle.afs_law.proofs.Backing.{all_lines, is_still}
 use Rattle.afs_law.proofs.Basics.{ByClient, IfCall, OfCall, both, each_at, runs_admitted}
 use Rattle.afs_law.proofs.Choosing.{risen_lines}
@@ -43,7 +44,7 @@ use Rattle.afs_num.specs.declared.types.Key.{Key}
 use Rattle.afs_num.specs.declared.types.Node.{Node}
 use Rattle.afs_num.specs.declared.types.Node.TheVariants.{Client, Server, Loc}
 use Rattle.afs_rows.specs.Callbacks.{Turn, expired, held_under, is_back_awaited, is_ready, is_seat_of, key_answered, new_owes, owe_line, quit_line, renews_by, repeats_by, risen_turn, settle_line, settles_by, still_owed, turn_for, turned_by}
-use Rattle.afs_rows.specs.ClientRow.{begin_row, client_row, timeout_row}
+use Rattle.afs_rows.specs.ClientRow.{begin_row, client_row, timeout_row, sought_by, seek_timeout_row}
 use Rattle.afs_law.proofs.Steps.{blow_line}
 use Rattle.afs_rows.specs.Runs.{Cell, Entry, Fall, Moved, at_rest, begun_by_disk, in_boot, in_step, message_at, start}
 use Rattle.afs_rows.specs.ServerRow.{Change, Decision, Reading, begun_after, decides, does, drops, granted, granted_in, key_of, made, promise_ticks, refuses, repeats, saves, shows, tells_boot, versioned}
@@ -59,6 +60,10 @@ use Rattle.std.specs.Prelude.{⊤, ◌&&◌}
 still_rule : (who : Actor) (l : Line) (past : List Entry) (own next : List Line) → is_still l ≡ true → IsGrantGood who l past own next
 still_rule who (lines.Grant s c f index expiry) past own next h = absurd cc
 still_rule who l past own next h = tt
+
+loc_still : (l : Line) → is_of_loc l ≡ true → is_still l ≡ true
+loc_still (lines.Grant s c f index expiry) h = absurd cc
+loc_still l h = refl
 
 all_still : (who : Actor) (past : List Entry) (own ls : List Line) → all_lines is_still ls ≡ true → EachLine IsGrantGood who past own ls
 all_still who past own [] h = tt
@@ -294,7 +299,7 @@ does_rules s c past i place m (saves head ch) tail h up at y t =
 file_of : (P : Head → List ℕ → FsCall → Type 0) (head : Head) (c : Carried) → OfCall (ByClient P) head c → OfCall (λ h user call. ⊤) head c
 file_of P head (carried.Call user (ask.File call)) h = tt
 file_of P head (carried.Call user (ask.Volume call)) h = absurd h
-file_of P head (carried.Call user (ask.Location call)) h = absurd h
+file_of P head (carried.Call user (ask.Location call)) h = h
 file_of P head (carried.Refusal code) h = tt
 file_of P head (carried.Reply reply) h = tt
 file_of P head carried.Notice h = tt
@@ -310,7 +315,7 @@ unfolding server_row
 served_rules s c past i place m h up at =
     let x : ServerState = (c.hosts i).state in
     let d : Decision = decides (Server i) x c.clock (Whole m) in
-    does_rules s c past i place m d (turned_by (Server i) x c.clock (expired c.clock x.backs) d m.head m.carried).lines h up at (why (Server i) x c.clock m (is_file (IsOne c.sent) m (each_at (IfCall (IsOne c.sent)) c.sent place m at h.0.0.1.ones))) (turned_still (Server i) x c.clock (expired c.clock x.backs) d m.head m.carried)
+    does_rules s c past i place m d (turned_by (Server i) x c.clock (expired c.clock x.backs) d m.head m.carried).lines h up at (why (Server i) x c.clock m refl (is_file (IsOne c.sent) m (each_at (IfCall (IsOne c.sent)) c.sent place m at h.0.0.1.ones))) (turned_still (Server i) x c.clock (expired c.clock x.backs) d m.head m.carried)
 
 timed_rules : (me : Node) (who : Actor) (x : ServerState) (clock : ℕ) (past : List Entry) (n : Node) (b : BackCall) → EachLine IsGrantGood who past [] (back_timeout_row me x clock n b).lines
 unfolding back_timeout_row
@@ -327,20 +332,18 @@ started_rules me who x clock count past after fall = all_still who past [] _ (di
 acts_rules : (past : List Entry) (n : ℕ) (ls : List Line) → all_lines (is_of n) ls ≡ true → EachLine IsGrantGood (actors.Node (Client n)) past [] ls
 acts_rules past n ls h = all_still (actors.Node (Client n)) past [] ls (of_still n ls h)
 
-loc_still : (l : Line) → is_of_loc l ≡ true → is_still l ≡ true
-loc_still (lines.Grant s c f index expiry) h = absurd cc
-loc_still l h = refl
-
 grant_moves : (s : Script) → EachMove (HeldTicks s) GrantStep
 grant_moves s = record {
   void = λ c past h. (tt, tt);
   ticked = λ c past n h. (tt, tt);
-  begun = λ c past n act h r. acts_rules past n (begin_row (Client n) (c.clients n) c.clock act).lines (begins_acts n (c.clients n) c.clock act r).of;
+  begun = λ c past n act h r z. acts_rules past n (begin_row (Client n) (c.clients n) c.clock act).lines (begins_acts n (c.clients n) c.clock act r z).of;
   told = λ c past n place m h at to. acts_rules past n (client_row (Client n) (c.clients n) c.clock place (Whole m)).lines (given_acts (by_key (IsKnown h.0.0.0.keys.callees c.clients)) any_told n (c.clients n) c.clock place m (h.0.0.0.keys.replies n) (h.0.0.1.seats n)).of;
+  sought = λ c past n place m k h at to z e. acts_rules past n (sought_by (Client n) (c.clients n) c.clock place k m.head m.carried).lines (sought_acts_in s c past n place m k h.0.0.1 at z e).of;
+  missed = λ c past n k h r z. acts_rules past n (seek_timeout_row (Client n) (c.clients n) k).lines (missed_acts n (c.clients n) k r z).of;
   waited = λ c past n act h r. acts_rules past n (timeout_row (Client n) (c.clients n) act).lines (waits_acts n (c.clients n) act r).of;
   fallen = λ c past n h. (tt, tt);
   risen = λ c past n h. (tt, tt);
-  loc = λ c past l ls h st. all_still (actors.Node Loc) past [] ls (all_of_loc is_still loc_still ls st.lines);
+  loc = λ c past l ls ms h st. all_still (actors.Node Loc) past [] ls (all_of_loc is_still loc_still ls st.lines);
   served = λ c past i place m armed h up at to. served_rules s c past i place m h up at;
   cut = λ c past i place m t h up at to. all_still (actors.Node (Server i)) past [] (lines.Given place ∷ blow_line i t.stops ∷ []) (blow_still i place t.stops);
   stopped = λ c past i h up. (tt, tt);
@@ -356,4 +359,4 @@ grant_moves s = record {
 
 pub run_grants : GrantsAreGood
 run_grants s h end r =
-    run_each (HeldTicks s) (λ past e. EachLine IsGrantGood e.actor past [] e.lines) (ticks_kept s) (λ c past x k. each_moved (HeldTicks s) GrantStep (grant_moves s) c past x k) r.inputs (start s) (set_up s ∷ []) h end (ticks_first s) r.leads
+    run_each (HeldTicks s) (λ past e. EachLine IsGrantGood e.actor past [] e.lines) (ticks_kept s) (λ c past x so k. each_moved (HeldTicks s) GrantStep (grant_moves s) c past x so k) r.inputs s (set_up s ∷ []) h end (ticks_first s) r.leads

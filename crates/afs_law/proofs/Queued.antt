@@ -1,15 +1,16 @@
 -- A client's calls are sent in the order of their keys, and at every moment of a run what is known of its servers holds, however many
 -- servers a cell has.
+use Rattle.afs_law.proofs.Listing.{loc_uncalled}
 use Rattle.afs_history.specs.declared.scripts.Script.{Script}
-use Rattle.afs_law.proofs.Acting.{Acts, IsTheCall, begins_acts, falls_acts, given_acts, rises_acts, waits_acts, who_at}
-use Rattle.afs_law.proofs.Basics.{Below, Each, IfCall, OfCall, OfClient, UpTo, below_not, by_client, client_number, up_to_next}
+use Rattle.afs_law.proofs.Acting.{Acts, IsTheCall, begins_acts, falls_acts, given_acts, rises_acts, waits_acts, who_at, missed_acts}
+use Rattle.afs_law.proofs.Basics.{Below, Each, IfCall, OfCall, OfClient, UpTo, below_not, by_client, client_number, up_to_next, below_up_to, up_to_below}
 use Rattle.afs_law.proofs.Calling.{IsUncalled}
 use Rattle.afs_law.proofs.Hearing.{HearsIn}
 use Rattle.afs_law.proofs.Heard.{GivenHeard, heard_first, heard_kept}
 use Rattle.afs_law.proofs.KeysOnce.{IsKnown, any_told, by_key}
 use Rattle.afs_law.proofs.Knowing.{Known, served_uncalled, started_uncalled, timed_uncalled, woken_uncalled}
 use Rattle.afs_law.proofs.Moving.{Behind, EachMove, IsKept, each_moved}
-use Rattle.afs_law.proofs.Origins.{of_client, the_calls}
+use Rattle.afs_law.proofs.Origins.{of_client, the_calls, sought_acts_in, handed_same, later_pair}
 use Rattle.afs_law.specs.Ideal.{set_up}
 use Rattle.afs_law.specs.Past.{sent_of}
 use Rattle.afs_num.specs.declared.calls.FsCall.{FsCall}
@@ -26,6 +27,7 @@ use Rattle.afs_rows.specs.ServerSteps.{back_timeout_row, server_row, wake_row}
 use Rattle.afs_rows.specs.Going.{ClientState}
 use Rattle.afs_law.proofs.Steps.{blow_line, server_falls, server_moves, server_rises, server_set, server_stays, loc_becomes}
 use Rattle.afs_rows.specs.Runs.{Cell, Entry, at_rest, begun_by_disk, in_boot, in_step, message_at, start, ticked, voided}
+use Rattle.afs_law.proofs.Steps.{loc_becomes}
 use Rattle.afs_rows.specs.ServerRow.{key_of}
 use Rattle.afs_rows.specs.Steps.{Step}
 use Rattle.std.proofs.Common.{zero, suc, ◌≡◌, ◌<◌, ℕ, ◌+◌, ◌⊎◌, inl, inr, List, [], ◌∷◌, ◌++◌, Some, refl, sym, ap, subst, ◌∙◌, arith}
@@ -124,20 +126,6 @@ quiet_queued past e none h j = ((λ x y i own k mine. absurd (subst (IsIn x) non
 served_queued : (past : List Entry) (e : Entry) → Each IsUncalled e.sent → ((j : ℕ) → AreQueued j past) → (j : ℕ) → AreQueued j (e ∷ past)
 served_queued past e none h j = ((λ x y i own k mine. absurd (own_fact (λ head user call. ⊥) j x own (each_in IsUncalled e.sent x none i)).holds), h j)
 
--- a later pair of a client is none below
-pub later_pair : (n : ℕ) (c : ClientState) (st : Step ClientState) → Acts n (who_at c) c.gifts st → (e k : ℕ) → UpTo e k c.epoch c.last → UpTo e k st.state.epoch st.state.last
-later_pair n c st a e k h = elim a.goes [
-  | inl r ↦ subst (λ (x : ℕ). UpTo e k x st.state.last) (sym r.epoch) (subst (λ (x : ℕ). UpTo e k c.epoch x) (sym r.last) h)
-  | inr y ↦ elim y [
-    | inl z ↦ subst (λ (x : ℕ). UpTo e k x st.state.last) (sym z.epoch) (subst (λ (x : ℕ). UpTo e k c.epoch x) (sym z.last) (up_to_next e k c.epoch c.last h))
-    | inr z ↦ inl (above_epoch e c.epoch st.state.epoch z.epoch h)
-  ]
-]
-  where
-    above_epoch : (e d b : ℕ) → b ≡ d + 1 → UpTo e k d c.last → e < b
-    above_epoch e d b q (inl x) = omega (arith, q, x)
-    above_epoch e d b q (inr x) = omega (arith, q, x.0)
-
 client_queued : (s : Script) (c : Cell) (past : List Entry) (n : ℕ) (st : Step ClientState) → GivenQueued s c past → Acts n (who_at (c.clients n)) (c.clients n).gifts st → (j : ℕ) → AreQueued j (of_client n st ∷ past)
 client_queued s c past n st h a j =
     let K : Known c past = known_of s c past h in (
@@ -155,12 +143,14 @@ queued_moves : (s : Script) → EachMove (GivenQueued s) (Behind QueuedIn)
 queued_moves s = record {
   void = λ c past h. quiet_queued past (voided c).entry refl h.1.0;
   ticked = λ c past n h. quiet_queued past (ticked c (suc n)).entry refl h.1.0;
-  begun = λ c past n act h r. client_queued s c past n _ h (begins_acts n (c.clients n) c.clock act r);
+  begun = λ c past n act h r z. client_queued s c past n _ h (begins_acts n (c.clients n) c.clock act r z);
   told = λ c past n place m h at to. client_queued s c past n _ h (given_acts (by_key (IsKnown h.0.0.0.0.0.0.keys.callees c.clients)) any_told n (c.clients n) c.clock place m (h.0.0.0.0.0.0.keys.replies n) (h.0.0.0.0.0.1.seats n));
+  sought = λ c past n place m k h at to z e. client_queued s c past n _ h (sought_acts_in s c past n place m k h.0.0.0.0.0.1 at z e);
+  missed = λ c past n k h r z. client_queued s c past n _ h (missed_acts n (c.clients n) k r z);
   waited = λ c past n act h r. client_queued s c past n _ h (waits_acts n (c.clients n) act r);
-  fallen = λ c past n h. client_queued s c past n _ h (falls_acts n (c.clients n));
+  fallen = λ c past n h. client_queued s c past n _ h (falls_acts n c.handed (c.clients n) (handed_same s c past (h.0.0.0.0.0.1) n));
   risen = λ c past n h. client_queued s c past n _ h (rises_acts n (c.clients n));
-  loc = λ c past l ls h st. quiet_queued past (loc_becomes c l ls).entry refl h.1.0;
+  loc = λ c past l ls ms h st. served_queued past (loc_becomes c l ls ms).entry (loc_uncalled c l ls ms st) h.1.0;
   served = λ c past i place m armed h up at to. served_queued past (server_moves c i armed (server_row (Server i) (c.hosts i).state c.clock place (Whole m))).entry (served_uncalled c past i place m (known_of s c past h) at) h.1.0;
   cut = λ c past i place m t h up at to. quiet_queued past (server_falls c i (lines.Given place ∷ blow_line i t.stops ∷ []) (in_step m c.clock t)).entry refl h.1.0;
   stopped = λ c past i h up. quiet_queued past (server_falls c i (lines.Crash (Server i) ∷ []) at_rest).entry refl h.1.0;
@@ -175,7 +165,7 @@ queued_moves s = record {
 }
 
 pub queued_kept : (s : Script) → IsKept (GivenQueued s)
-queued_kept s c past x h = (heard_kept s c past x h.0, (each_moved (GivenQueued s) (Behind QueuedIn) (queued_moves s) c past x h, (state_of c past (known_of s c past h).hears, h.1.1)))
+queued_kept s c past x so h = (heard_kept s c past x so h.0, (each_moved (GivenQueued s) (Behind QueuedIn) (queued_moves s) c past x so h, (state_of c past (known_of s c past h).hears, h.1.1)))
 
 pub queued_first : (s : Script) → GivenQueued s (start s) (set_up s ∷ [])
 queued_first s = (heard_first s, ((λ j. ((λ x y i own k mine. absurd i), tt)), (tt, tt)))

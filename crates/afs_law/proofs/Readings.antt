@@ -52,7 +52,7 @@ CauseFor s false c f source body past own u = (cause : Cause u.used.reply (pos 0
 rights_of_client : (s : Script) (x : Cell) (past : List Entry) (own : List Line) (who : Actor) (c : Node) (f : Fid) (source : ReadSource) (body : ReadBody) → Truthful s x past → IsOfClient who c → (u : AreAskedFor s c f source past own) → CauseFor s false c f source body past own u
 rights_of_client s x past own who (Client j) f source body h of u =
     let e : asked u.act ≡ calls.FetchAcl f = ap call_for u.needs in
-    cause_by s x past own j u.act u.used.reply (pos 0) u.used.call h u.used.by u.used.is_reply u.used.told u.used.to u.used.called (ap as_asked (u.asks ∙ e) ∙ sym e)
+    cause_by s x past own j u.act u.used.reply (pos 0) u.used.call h u.used.by u.used.is_reply u.used.told u.used.to u.used.from u.used.called (ap as_asked (u.asks ∙ e) ∙ sym e)
 rights_of_client s x past own who (Server i) f source body h of u = absurd of
 rights_of_client s x past own who (Admin i) f source body h of u = absurd of
 rights_of_client s x past own who Loc f source body h of u = absurd of
@@ -116,16 +116,16 @@ entries_good s past (e ∷ es) h p a b q = (lines_good s h.0.0 e.actor past [] e
 
 pub run_reads : ReadsAreGood
 run_reads s h end r =
-    entries_good s (set_up s ∷ []) h (run_each (Truthful s) (TrueBefore s) (truthful_kept s) (λ c past x k. (c, k)) r.inputs (start s) (set_up s ∷ []) h end (truthful_first s) r.leads) (run_placed s h end r)
-    (run_each (Watched s) (λ past e. EachLine (IsShown s) e.actor past [] e.lines) (watched_kept s) (λ c past x W. shown_now s c past x W) r.inputs (start s) (set_up s ∷ []) h end (watched_first s) r.leads) (run_due s h end r) (run_brought s h end r)
+    entries_good s (set_up s ∷ []) h (run_each (Truthful s) (TrueBefore s) (truthful_kept s) (λ c past x so k. (c, k)) r.inputs s (set_up s ∷ []) h end (truthful_first s) r.leads) (run_placed s h end r)
+    (run_each (Watched s) (λ past e. EachLine (IsShown s) e.actor past [] e.lines) (watched_kept s) (λ c past x so W. shown_now s c past x so W) r.inputs s (set_up s ∷ []) h end (watched_first s) r.leads) (run_due s h end r) (run_brought s h end r)
 
 -- ---- what an idle client trusts
 
 run_trusts : (s : Script) (h : List Entry) (end : Cell) → RunsTo h s end → (j : ℕ) → Trusts s j (end.clients j) end.clock (past_of (set_up s ∷ []) h)
-run_trusts s h end r j = (run_keeps (Watched s) (watched_kept s) r.inputs (start s) (set_up s ∷ []) h end (watched_first s) r.leads).1 j
+run_trusts s h end r j = (run_keeps (Watched s) (watched_kept s) r.inputs s (set_up s ∷ []) h end (watched_first s) r.leads).1 j
 
 pub run_trusted : TrustedIsGood
 run_trusted s h end r j idle f e found lasts =
-    let ticks = (run_keeps (HeldTicks s) (ticks_kept s) r.inputs (start s) (set_up s ∷ []) h end (ticks_first s) r.leads).1 in
+    let ticks = (run_keeps (HeldTicks s) (ticks_kept s) r.inputs s (set_up s ∷ []) h end (ticks_first s) r.leads).1 in
     trusted_good s j (end.clients j) end.clock (past_of (set_up s ∷ []) h) f e ticks (run_trusts s h end r j) (λ g u at. run_kept s h end r j g u at) idle found lasts
-    ((run_keeps (GivenBrought s) (brought_kept s) r.inputs (start s) (set_up s ∷ []) h end (brought_first s) r.leads).1 j)
+    ((run_keeps (GivenBrought s) (brought_kept s) r.inputs s (set_up s ∷ []) h end (brought_first s) r.leads).1 j)

@@ -2,7 +2,7 @@
 use Rattle.afs_ideal.specs.Operations.{Caller, Found, Result, Shown, changes, no_operation, op, reads, refused, shows_acl, shows_body, shows_status, shows_statuses, shows_volume, the_user, volume_called}
 use Rattle.afs_ideal.specs.Tables.{get}
 use Rattle.afs_ideal.specs.Volumes.{Volume, a_directory, vnode_of}
-use Rattle.afs_law.proofs.Basics.{OfCall, same_node-true, some_of}
+use Rattle.afs_law.proofs.Basics.{OfCall, same_node-true, some_of, not_loc}
 use Rattle.afs_law.proofs.Words.{is_passing}
 use Rattle.afs_law.proofs.Ops.{IsFoundAs, IsShown, changes_is, op_code, op_is, reads_is, rights_of_directory}
 use Rattle.afs_law.proofs.Finding.{IsAmong, IsTime}
@@ -22,7 +22,7 @@ use Rattle.afs_num.specs.declared.messages.Received.TheVariants.{Whole}
 use Rattle.afs_num.specs.declared.types.Fid.{Fid}
 use Rattle.afs_num.specs.declared.types.Head.{Head}
 use Rattle.afs_num.specs.declared.types.Node.{Node}
-use Rattle.afs_num.specs.declared.types.Node.TheVariants.{Client}
+use Rattle.afs_num.specs.declared.types.Node.TheVariants.{Client, Loc}
 use Rattle.afs_records.specs.Durable.{Stored, has_room}
 use Rattle.afs_rows.specs.Runs.{Entry}
 use Rattle.afs_rows.specs.ServerRow.{Change, Decision, Reading, Sight, admits, decided, decides, drops, given_up_read, hears, in_volume, is_client, no_room, no_volume, not_served, reading_in, record_of, refuses, repeats, saves, serves_call, several, shows, sight_by, sight_in, sights, statuses_read, tells_boot, whole, with_volume}
@@ -460,13 +460,18 @@ why_called : (t : Bool) (me : Node) (x : ServerState) (clock : ℕ) (m : Message
 why_called true me x clock m user call e is = why_admits me x clock m user call (admitted x.lasting.boot x.seats m.head) (same_node-true m.head.to me e) refl is
 why_called false me x clock m user call e is = tt
 
-pub why_hears : (me : Node) (x : ServerState) (clock : ℕ) (m : Message) (y : Carried) → m.carried ≡ y → OfCall (λ head user call. ⊤) m.head y → Why me x m (hears me x clock m.head y)
-why_hears me x clock m (carried.Call user (ask.File call)) is h = why_called (same_node m.head.to me) me x clock m user call refl is
-why_hears me x clock m (carried.Call user (ask.Volume call)) is h = absurd h
-why_hears me x clock m (carried.Call user (ask.Location call)) is h = absurd h
-why_hears me x clock m (carried.Refusal code) is h = tt
-why_hears me x clock m (carried.Reply reply) is h = tt
-why_hears me x clock m carried.Notice is h = tt
+-- what is asked of the location database alone no server decides
+why_asked : (t : Bool) (me : Node) (x : ServerState) (m : Message) (d : Decision) → same_node m.head.to me ≡ t → same_node me Loc ≡ false → m.head.to ≡ Loc → Why me x m (cond t d drops)
+why_asked true me x m d e ne to = not_loc m.head me _ (same_node-true m.head.to me e) ne to
+why_asked false me x m d e ne to = tt
 
-pub why : (me : Node) (x : ServerState) (clock : ℕ) (m : Message) → IsFile m → Why me x m (decides me x clock (Whole m))
-why me x clock m h = why_hears me x clock m m.carried refl h
+pub why_hears : (me : Node) (x : ServerState) (clock : ℕ) (m : Message) (y : Carried) → same_node me Loc ≡ false → m.carried ≡ y → OfCall (λ head user call. ⊤) m.head y → Why me x m (hears me x clock m.head y)
+why_hears me x clock m (carried.Call user (ask.File call)) ne is h = why_called (same_node m.head.to me) me x clock m user call refl is
+why_hears me x clock m (carried.Call user (ask.Volume call)) ne is h = absurd h
+why_hears me x clock m (carried.Call user (ask.Location call)) ne is h = why_asked (same_node m.head.to me) me x m (admits x clock m.head (whole m.head (carried.Call user (ask.Location call))) (admitted x.lasting.boot x.seats m.head)) refl ne h.0
+why_hears me x clock m (carried.Refusal code) ne is h = tt
+why_hears me x clock m (carried.Reply reply) ne is h = tt
+why_hears me x clock m carried.Notice ne is h = tt
+
+pub why : (me : Node) (x : ServerState) (clock : ℕ) (m : Message) → same_node me Loc ≡ false → IsFile m → Why me x m (decides me x clock (Whole m))
+why me x clock m ne h = why_hears me x clock m m.carried ne refl h

@@ -1,11 +1,13 @@
 -- Each step of a client tells what is asked of it of its cache and its reads.
+use Rattle.afs_law.proofs.Origins.{AskedIn, IsSeeking, placed_in, told_in}
+use Rattle.afs_history.specs.declared.acts.Operand.{Operand}
 use Rattle.afs_law.proofs.Following.{none_runs, more_not, none_read}
 use Rattle.afs_history.specs.declared.acts.Act.{Act}
 use Rattle.afs_history.specs.declared.lines.Line.{Line}
 use Rattle.afs_history.specs.declared.lines.Line.TheVariants as lines
 use Rattle.afs_history.specs.declared.scripts.Script.{Script}
 use Rattle.afs_ideal.specs.Operations.{is_number, the_user, volume_changed}
-use Rattle.afs_law.proofs.Acting.{last_key}
+use Rattle.afs_law.proofs.Acting.{last_key, IsEnd, by_quiet, sought_quiet}
 use Rattle.afs_law.proofs.Apart.{found_filter}
 use Rattle.afs_law.proofs.Arriving.{Arrives, index_is, Based, around, arrives, brings_of, by_of, fetched, told_sent, zero_told}
 use Rattle.afs_law.proofs.Ascending.{Ascend}
@@ -24,7 +26,7 @@ use Rattle.afs_law.proofs.Ops.{changes_is, stored_fid}
 use Rattle.afs_law.proofs.Proceeding.{Kind, Result, idle_done}
 use Rattle.afs_law.proofs.Resolving.{done_apart, done_reading, done_refused, done_scope}
 use Rattle.afs_law.proofs.Storing.{IsStore, done_of, status_in, store_of}
-use Rattle.afs_law.proofs.Taking.{AreUnread, IsFront, dropped_blank, dropped_unread, dropped_zero, drops_blank, drops_silent, drops_unread, drops_zero, moved_result, quiet_result, unread_shown, unread_up, walks_result}
+use Rattle.afs_law.proofs.Taking.{AreUnread, IsFront, dropped_blank, dropped_unread, dropped_zero, drops_blank, drops_silent, drops_unread, drops_zero, moved_result, quiet_result, unread_shown, unread_up, walks_result, rest_result}
 use Rattle.afs_law.proofs.Telling.{TellsNo, made_well}
 use Rattle.afs_law.proofs.Trusting.{Trusts}
 use Rattle.afs_law.specs.Breaks.{IsNamedIn}
@@ -60,15 +62,15 @@ use Rattle.afs_num.specs.declared.types.Fid.{Fid}
 use Rattle.afs_num.specs.declared.types.Head.{Head}
 use Rattle.afs_num.specs.declared.types.Node.{Node}
 use Rattle.afs_num.specs.declared.types.Node.TheVariants.{Client}
-use Rattle.afs_rows.specs.ClientRow.{admits_call, answers_step, awaits, booted, is_reading, look_at, looked, put_entries, put_entry, read_lines, refuses, status_look, takes_plain, walks_on, with_statuses, begin_row, begins_by, behind_batch, body_told, breaks, call_of, calls_again, client_row, counts, dead_code, drop_line, dropped, dropped_after, ended, entries_told, entry_told, find_cached, gift_of, given, given_up_in, gives_by, hears, ignores, in_order, is_awaited, is_below, is_named, is_spent, is_trusted, left_after, left_in, most_busy, names_call, reborn, refreshed, replies_step, runs_carried, status_told, takes, takes_bulk, takes_data, takes_given, takes_list, takes_set, takes_shown, takes_stored, timeout_line, timeout_row, trusted_in, untrusted_in, whole, without_fids, without_server, zero_code}
-use Rattle.afs_rows.specs.Going.{ClientState, Going, Need, began, gives_back, next, with_read}
+use Rattle.afs_rows.specs.ClientRow.{admits_call, answers_step, awaits, booted, is_reading, look_at, looked, put_entries, put_entry, read_lines, refuses, status_look, takes_plain, walks_on, with_statuses, begin_row, begins_by, behind_batch, body_told, breaks, call_of, calls_again, client_row, counts, dead_code, drop_line, dropped, dropped_after, ended, entries_told, entry_told, find_cached, gift_of, given, given_up_in, gives_by, hears, ignores, in_order, is_awaited, is_below, is_named, is_spent, is_trusted, left_after, left_in, most_busy, names_call, reborn, refreshed, replies_step, runs_carried, status_told, takes, takes_bulk, takes_data, takes_given, takes_list, takes_set, takes_shown, takes_stored, timeout_line, timeout_row, trusted_in, untrusted_in, whole, without_fids, without_server, zero_code, asks_where, refuses_for_good, is_gone_code, most_moved, volume_asked, sought_by, sought_ends, seek_timeout_row, seeks_on, is_sought}
+use Rattle.afs_rows.specs.Going.{ClientState, Going, Need, began, gives_back, next, with_read, operand_in, Seek, Left}
 use Rattle.afs_rows.specs.Runs.{Cell, Entry, message_at}
 use Rattle.afs_rows.specs.Scopes.{is_in_scope}
 use Rattle.afs_records.specs.Durable.{time_in}
 use Rattle.afs_rows.specs.ServerRow.{carried_by, promise_ticks, result, stored_by}
 use Rattle.afs_rows.specs.States.{CacheEntry, Gift}
 use Rattle.afs_rows.specs.Steps.{Step}
-use Rattle.std.proofs.Common.{◌≡◌, ◌≤◌, ◌<◌, ◌+◌, ℕ, inl, inr, Bool, true, false, cond, not, eq-eqb, eqb-true, nat_eq, ltb-true, lt-ltb, ℤ, List, [], ◌∷◌, ◌++◌, map, Option, Some, None, pos, refl, sym, ap, subst, ◌∙◌, arith}
+use Rattle.std.proofs.Common.{◌≡◌, ◌≤◌, ◌<◌, ◌+◌, ℕ, inl, inr, Bool, true, false, cond, not, eq-eqb, eqb-true, nat_eq, ltb-true, lt-ltb, ℤ, List, [], ◌∷◌, ◌++◌, map, Option, Some, None, pos, refl, sym, ap, subst, ◌∙◌, arith, suc, zero, negsuc}
 use Rattle.std.specs.List.{list_any}
 use Rattle.std.specs.Prelude.{⊤, ◌&&◌, ◌||◌, nat_lt}
 
@@ -129,6 +131,19 @@ refuse_result s c past n place act m code E a is none =
       found = found;
       done' = λ lasts S. done_refused s c past n act m f e E.0 a (refused_tells s c past n act m code a is none) S;
       low = λ lasts. seen_up (Client n) f past false (reach (Client n) f past) st.lines e.index refl (and_off (same_node (Client n) (Client n)) (is_zero_code code) none, tt) ((E.1.entries f e found).low lasts) tt;
+    })
+
+-- it asks where the volume is
+where_result : (s : Script) (c : Cell) (past : List Entry) (n place : ℕ) (act : Going) (m : Message) (code : Code) (o : Option Operand) → Env s c past n → (a : Arrives s c past n act m) → m.carried ≡ carried.Refusal code → is_zero_code code ≡ false → Result s n (c.clients n) c.clock past (asks_where (Client n) (c.clients n) place act code o)
+where_result s c past n place act m code None E a is none = refuse_result s c past n place act m code E a is none
+where_result s c past n place act m code (Some o) E a is none =
+    let x : ClientState = c.clients n in
+    let st : Step ClientState = asks_where (Client n) x place act code (Some o) in
+    moved_result s n x c.clock past st refl (λ z run l. none_runs st.state.running act refl (run ∙ a.runs)) (λ b run f. absurd (none_runs st.state.running b refl run))
+    (λ f e found. record {
+      found = found;
+      done' = λ lasts S. done_refused s c past n act m f e E.0 a (refused_tells s c past n act m code a is none) S;
+      low = λ lasts. seen_up (Client n) f past false (reach (Client n) f past) st.lines e.index refl tt ((E.1.entries f e found).low lasts) tt;
     })
 
 -- the third timeout
@@ -272,7 +287,7 @@ stored_result s c past n place act m r call g status made E a file same scope S 
     record {
       shown = unread_shown s (actors.Node (Client n)) past [] st.lines refl;
       up = λ f. tt;
-      quiet = λ z run l. absurd (none_runs st.state.running act refl (run ∙ a.runs));
+      quiet = λ z b now run l. absurd (none_runs st.state.running act refl (run ∙ a.runs));
       zero' = λ b run l f. absurd (none_runs st.state.running b refl run);
       entries = λ f e found.
           let u = mapped (find_cached f x.cache) (refreshed c.clock g status.sync_counter (status_told status) made) e (sym (found-refreshed c.clock g f status.sync_counter (status_told status) made x.cache) ∙ found) in
@@ -463,8 +478,8 @@ refusal_result : (t : Bool) (s : Script) (c : Cell) (past : List Entry) (n place
 refusal_result true s c past n place act m code E a is firm t = again_result s c past n place (c.clients n) act E a.runs (spent_reads (c.clients n) act t) refl refl
 refusal_result false s c past n place act m code E a is firm t =
     let p = either_parts (is_number code.0 0) (is_number code.0 106 || is_number code.0 110) firm in
-    subst (λ (b : Bool). Result s n (c.clients n) c.clock past (cond (b && nat_lt (c.clients n).busy most_busy) (calls_again (Client n) (record (c.clients n) { busy = (c.clients n).busy + 1 }) place act) (answers_step (Client n) (c.clients n) place code))) (sym p.1)
-    (refuse_result s c past n place act m code E a is p.0)
+    subst (λ (b : Bool). Result s n (c.clients n) c.clock past (cond (b && nat_lt (c.clients n).busy most_busy) (calls_again (Client n) (record (c.clients n) { busy = (c.clients n).busy + 1 }) place act) (refuses_for_good (Client n) (c.clients n) place act code))) (sym p.1)
+    (either_result (is_gone_code code && nat_lt (c.clients n).moved most_moved) s n (c.clients n) c.clock past _ _ (where_result s c past n place act m code (operand_in act (volume_asked (call_of (c.clients n) act))) E a is p.0) (refuse_result s c past n place act m code E a is p.0))
 
 counts_result : (s : Script) (c : Cell) (past : List Entry) (n place : ℕ) (act : Going) (head : Head) (x : Carried) → Env s c past n → IsHeard s c past n place head x → (c.clients n).running ≡ Some act → is_awaited (c.clients n) act head ≡ true → Result s n (c.clients n) c.clock past (counts (Client n) (c.clients n) c.clock place act head x)
 counts_result s c past n place act head (carried.Call user call) E h r w = told_result s c past n place (c.clients n) [] E refl refl refl
@@ -537,7 +552,7 @@ giving_result s c past n act st end E none is cache b u nb =
     record { found = p.0; done' = λ lasts S. absurd (out lasts); low = λ lasts. absurd (out lasts) })
 
 gives_result : (s : Script) (c : Cell) (past : List Entry) (n : ℕ) (act : Act) (g : Going) (gs : List Gift) → Env s c past n → (c.clients n).running ≡ None
-    → Result s n (c.clients n) c.clock past (gives_by (Client n) (record (c.clients n) { busy = 0; cache = untrusted_in c.clock (c.clients n).cache }) (λ ls. lines.Begin (Client n) act ∷ dropped (Client n) (trusted_in c.clock (c.clients n).cache) ls) g gs)
+    → Result s n (c.clients n) c.clock past (gives_by (Client n) (record (c.clients n) { busy = 0; moved = 0; cache = untrusted_in c.clock (c.clients n).cache }) (λ ls. lines.Begin (Client n) act ∷ dropped (Client n) (trusted_in c.clock (c.clients n).cache) ls) g gs)
 gives_result s c past n act g [] E none = giving_result s c past n act _ (lines.Answer (Client n) zero_code ∷ []) E none refl refl refl refl refl
 gives_result s c past n act g (x ∷ gs) E none = giving_result s c past n act _ [] E none refl refl refl refl refl
 
@@ -553,10 +568,10 @@ begin_front s c past n act E none = record {
   done' = λ f server. idle_done n (c.clients n) f server past none;
 }
 
-first_result : (s : Script) (c : Cell) (past : List Entry) (n : ℕ) (act : Act) (g : Going) (need : Need) → Env s c past n → (c.clients n).running ≡ None → Result s n (c.clients n) c.clock past (begins_by (Client n) (record (c.clients n) { busy = 0 }) c.clock (λ ls. lines.Begin (Client n) act ∷ ls) g need)
+first_result : (s : Script) (c : Cell) (past : List Entry) (n : ℕ) (act : Act) (g : Going) (need : Need) → Env s c past n → (c.clients n).running ≡ None → Result s n (c.clients n) c.clock past (begins_by (Client n) (record (c.clients n) { busy = 0; moved = 0 }) c.clock (λ ls. lines.Begin (Client n) act ∷ ls) g need)
 first_result s c past n act g gives_back E none = gives_result s c past n act g (in_order (map gift_of (trusted_in c.clock (c.clients n).cache))) E none
 first_result s c past n act g need E none =
-    walks_result s n (c.clients n) (record (c.clients n) { busy = 0 }) c.clock past (λ ls. lines.Begin (Client n) act ∷ ls) (lines.Begin (Client n) act ∷ []) g (c.clients n).cache refl (begin_front s c past n act E none) E.1 (around s c past n E.0).agreed (λ f e found. (E.0.kept.1 n).1 f e found)
+    walks_result s n (c.clients n) (record (c.clients n) { busy = 0; moved = 0 }) c.clock past (λ ls. lines.Begin (Client n) act ∷ ls) (lines.Begin (Client n) act ∷ []) g (c.clients n).cache refl (begin_front s c past n act E none) E.1 (around s c past n E.0).agreed (λ f e found. (E.0.kept.1 n).1 f e found)
     (inl (λ tail. ap (λ (t : Bool). cond t true (has_begun (Client n) tail)) (same_node-refl (Client n))))
 
 pub begin_result : (s : Script) (c : Cell) (past : List Entry) (n : ℕ) (act : Act) → Env s c past n → (c.clients n).running ≡ None → Result s n (c.clients n) c.clock past (begin_row (Client n) (c.clients n) c.clock act)
@@ -568,11 +583,42 @@ wait_result s c past n act E r = either_result (nat_lt (c.clients n).tries 2) s 
     (quiet_result s n (c.clients n) c.clock past _ E.1 refl refl tt refl refl refl (λ f e found. found))
     (dead_result s c past n act E r (volume_changed (call_of (c.clients n) act)) refl)
 
-pub fall_result : (s : Script) (c : Cell) (past : List Entry) (n : ℕ) → Env s c past n → Result s n (c.clients n) c.clock past (record { state = reborn (c.clients n); lines = lines.Crash (Client n) ∷ []; sent = [] })
+-- an act that waits for the location database
+no_zero : (code : Code) → is_zero_code code ≡ false → (n : ℕ) → (same_node (Client n) (Client n) && is_zero_code code) ≡ false
+no_zero code none n = and_off (same_node (Client n) (Client n)) (is_zero_code code) none
+
+gone_by : (z : ℤ) (t : Bool) → is_number z 0 ≡ t → (is_number z 103 || is_number z 111) ≡ true → t ≡ false
+gone_by (pos zero) t e g = absurd cc
+gone_by (pos (suc k)) true e g = let z : suc k ≡ 0 = eqb-true (suc k) 0 e in absurd cc
+gone_by (pos (suc k)) false e g = refl
+gone_by (negsuc k) t e g = sym e
+
+gone_not : (code : Code) → is_gone_code code ≡ true → is_zero_code code ≡ false
+gone_not code g = gone_by code.0 (is_zero_code code) refl g
+
+sought_none : (k : Seek) (x : Carried) (code : Code) → ((left : Left) → k.left ≡ Some left → is_gone_code left.code ≡ true) → IsEnd k x code → is_zero_code code ≡ false
+sought_none k x code gone (inl a) = ap (λ (z : ℤ). is_number z 0) a.1.1
+sought_none k x code gone (inr (inl a)) = ap (λ (z : ℤ). is_number z 0) a.1.1.1
+sought_none k x code gone (inr (inr a)) = ap is_zero_code a.1.1 ∙ gone_not a.0.code (gone a.0 a.1.0)
+
+pub sought_result : (s : Script) (c : Cell) (past : List Entry) (n place : ℕ) (m : Message) (k : Seek) → Env s c past n → AskedIn s c past → message_at c.sent place ≡ Some m → (c.clients n).seeking ≡ Some k → is_sought (Client n) (c.clients n) k m.head m.carried ≡ true → Result s n (c.clients n) c.clock past (sought_by (Client n) (c.clients n) c.clock place k m.head m.carried)
+sought_result s c past n place m k E A at z e =
+    let x : ClientState = c.clients n in
+    let q : IsSeeking s n x k past = A.seeks n k z in
+    by_quiet (Result s n x c.clock past) n x place k m.head m.carried (sought_by (Client n) x c.clock place k m.head m.carried) (sought_quiet s n x c.clock place k m.head m.carried (placed_in s c past n k A z) (told_in s c past n place m k A at e))
+    (λ code y has. rest_result s n x c.clock past (sought_ends (Client n) x (given place) code) E.1 refl refl (no_zero code (sought_none k m.carried code q.gone y) n, tt) q.idle q.idle refl (λ f u found. found))
+    (told_result s c past n place x [] E refl refl refl) (told_result s c past n place _ _ E refl refl refl)
+
+pub missed_result : (s : Script) (c : Cell) (past : List Entry) (n : ℕ) (k : Seek) → Env s c past n → (c.clients n).running ≡ None → Result s n (c.clients n) c.clock past (seek_timeout_row (Client n) (c.clients n) k)
+missed_result s c past n k E none = either_result (nat_lt (c.clients n).tries 2) s n (c.clients n) c.clock past _ _
+    (rest_result s n (c.clients n) c.clock past (seeks_on (Client n) (c.clients n) k) E.1 refl refl tt none none refl (λ f u found. found))
+    (rest_result s n (c.clients n) c.clock past (sought_ends (Client n) (c.clients n) (λ ls. timeout_line (Client n) (c.clients n) 3 ∷ ls) dead_code) E.1 refl refl (no_zero dead_code refl n, tt) none none refl (λ f u found. found))
+
+pub fall_result : (s : Script) (c : Cell) (past : List Entry) (n : ℕ) → Env s c past n → Result s n (c.clients n) c.clock past (record { state = reborn c.handed (c.clients n); lines = lines.Crash (Client n) ∷ []; sent = [] })
 fall_result s c past n E = record {
   shown = (tt, tt);
   up = λ f. tt;
-  quiet = λ nb run last. refl;
+  quiet = λ nb act now run last. refl;
   zero' = λ act r. absurd cc;
   entries = λ f e found. absurd cc;
 }

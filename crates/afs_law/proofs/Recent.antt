@@ -5,12 +5,12 @@ use Rattle.afs_history.specs.declared.lines.Line.{Line}
 use Rattle.afs_history.specs.declared.lines.Line.TheVariants as lines
 use Rattle.afs_history.specs.declared.scripts.Script.{Script}
 use Rattle.afs_law.proofs.Basics.{same_key-refl}
-use Rattle.afs_law.proofs.Passing.{late_over, sent_either, sent_left}
+use Rattle.afs_law.proofs.Passing.{late_over, sent_either, sent_left, called_left, sent_called}
 use Rattle.afs_law.specs.Ideal.{set_up}
 use Rattle.afs_law.specs.Laws.{AnswersAreRecent}
 use Rattle.afs_law.specs.Legal.{AreGoodSent, GoodCall, HasOwnKey, LegalAfter}
 use Rattle.afs_law.specs.Once.{past_of}
-use Rattle.afs_law.specs.Past.{AreWithin, CalledSince, Ran, Sends, answered_key, called_key, given_message, has_begun, has_sent, is_called, is_new_to_act, same_key, sent_of}
+use Rattle.afs_law.specs.Past.{AreWithin, CalledSince, Ran, Sends, answered_key, called_key, given_message, has_begun, has_sent, is_called, is_new_to_act, same_key, sent_of, has_called}
 use Rattle.afs_num.specs.declared.calls.FsCall.{FsCall}
 use Rattle.afs_num.specs.declared.messages.Call.TheVariants as ask
 use Rattle.afs_num.specs.declared.messages.Carried.{Carried}
@@ -32,12 +32,19 @@ behind_by : (t a b : Bool) → a ≡ true → cond t (not a) b ≡ true → (t �
 behind_by true a b h l = let no_ : true ≡ false = sym l ∙ ap not h in absurd cc
 behind_by false a b h l = (refl, l)
 
-pub late_within : (n : Node) (k : Key) (newer : List Entry) (at : Entry) (older : List Entry) → has_sent k (sent_of older) ≡ true → is_new_to_act n k (newer ++ (at ∷ older)) ≡ true → AreWithin n (newer ++ at ∷ [])
-late_within n k [] at older h l = ((behind_by (has_begun n at.lines) (has_sent k (sent_of older)) (is_new_to_act n k older) h l).0, tt)
-late_within n k (e ∷ newer) at older h l =
+called_before : (k : Key) (newer older : List Entry) → has_called k (sent_of older) ≡ true → has_called k (sent_of (newer ++ older)) ≡ true
+called_before k [] older h = h
+called_before k (e ∷ newer) older h = called_left k (sent_of (newer ++ older)) e.sent (called_before k newer older h)
+
+called_within : (n : Node) (k : Key) (newer : List Entry) (at : Entry) (older : List Entry) → has_called k (sent_of older) ≡ true → is_new_to_act n k (newer ++ (at ∷ older)) ≡ true → AreWithin n (newer ++ at ∷ [])
+called_within n k [] at older h l = ((behind_by (has_begun n at.lines) (has_called k (sent_of older)) (is_new_to_act n k older) h l).0, tt)
+called_within n k (e ∷ newer) at older h l =
     let rest : List Entry = newer ++ (at ∷ older) in
-    let x = behind_by (has_begun n e.lines) (has_sent k (sent_of rest)) (is_new_to_act n k rest) (sent_before k newer (at ∷ older) (sent_left k (sent_of older) at.sent h)) l in
-    (x.0, late_within n k newer at older h x.1)
+    let x = behind_by (has_begun n e.lines) (has_called k (sent_of rest)) (is_new_to_act n k rest) (called_before k newer (at ∷ older) (called_left k (sent_of older) at.sent h)) l in
+    (x.0, called_within n k newer at older h x.1)
+
+pub late_within : (n : Node) (k : Key) (newer : List Entry) (at : Entry) (older : List Entry) → has_sent k (sent_of older) ≡ true → is_new_to_act n k (newer ++ (at ∷ older)) ≡ true → AreWithin n (newer ++ at ∷ [])
+late_within n k newer at older h l = called_within n k newer at older (sent_called k (sent_of older) h) l
 
 sent_at : (k : Key) (sent : List Message) (place : ℕ) (m : Message) → message_at sent place ≡ Some m → is_called k m.head m.carried ≡ true → has_sent k sent ≡ true
 sent_at k [] place m e t = absurd cc

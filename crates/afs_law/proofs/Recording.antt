@@ -1,17 +1,19 @@
 -- What each entry of a run tells of versions: nothing, or one change, which is that of the ideal volume; however many servers a cell has.
+use Rattle.afs_law.proofs.Origins.{sought_acts_in}
+use Rattle.afs_law.proofs.Listing.{IsSoundLoc}
 use Rattle.afs_history.specs.declared.lines.Line.{Line}
 use Rattle.afs_history.specs.declared.lines.Line.TheVariants as lines
 use Rattle.afs_history.specs.declared.scripts.Script.{Script}
 use Rattle.afs_ideal.specs.Tables.{Table}
 use Rattle.afs_ideal.specs.Volumes.{Volume, counted, edited_all, versions_by}
-use Rattle.afs_law.proofs.Acting.{begins_acts, given_acts, is_of, waits_acts}
+use Rattle.afs_law.proofs.Acting.{begins_acts, given_acts, is_of, waits_acts, missed_acts}
 use Rattle.afs_law.proofs.Ascending.{Ascend, HeldAscend, ascend_first, ascend_kept}
 use Rattle.afs_law.proofs.Backing.{all_lines}
 use Rattle.afs_law.proofs.Changing.{HeldCuts, IsPlaced, change_ideal, cut_placed, cuts_first, cuts_kept, none_first}
 use Rattle.afs_law.proofs.Choosing.{AreFrom, Works, disk_works, is_from, risen_from, risen_lines, serves_works, starts_works, times_works, wakes_works}
 use Rattle.afs_law.proofs.Edits.{Grow, SoundIn, edits_told, sound_same}
 use Rattle.afs_law.proofs.Words.{IsFine}
-use Rattle.afs_law.proofs.Housed.{IsPlaced as IsPlaced', placed}
+use Rattle.afs_law.proofs.Housed.{IsPlaced as IsPlaced', placed, server_at}
 use Rattle.afs_law.proofs.Ideals.{AreBlank, Changes, Held, VolumesIn, blank_by, blank_last, blow_blank, changes_all, cut_by, from_blank, of_blank, own_from, loc_blank}
 use Rattle.afs_law.proofs.KeysOnce.{IsKnown, any_told, by_key}
 use Rattle.afs_law.proofs.Moving.{EachMove, IsKept, each_moved}
@@ -24,7 +26,6 @@ use Rattle.afs_num.specs.declared.histories.Version.{Version}
 use Rattle.afs_num.specs.declared.types.Key.{Key}
 use Rattle.afs_num.specs.declared.types.Node.TheVariants.{Server}
 use Rattle.afs_records.specs.Durable.{Stored}
-use Rattle.afs_rows.specs.ClientRow.{server_at}
 use Rattle.afs_law.proofs.Steps.{server_stays}
 use Rattle.afs_rows.specs.Steps.{Begun}
 use Rattle.afs_rows.specs.States.{ServerState}
@@ -128,12 +129,14 @@ told_moves : (s : Script) → EachMove (HeldCuts s) (ToldStep s)
 told_moves s = record {
   void = λ c past h. inl refl;
   ticked = λ c past n h. inl refl;
-  begun = λ c past n act h r. acts_told s past n _ (begins_acts n (c.clients n) c.clock act r).of;
+  begun = λ c past n act h r z. acts_told s past n _ (begins_acts n (c.clients n) c.clock act r z).of;
   told = λ c past n place m h at to. acts_told s past n _ (given_acts (by_key (IsKnown h.0.0.0.keys.callees c.clients)) any_told n (c.clients n) c.clock place m (h.0.0.0.keys.replies n) (h.0.0.1.seats n)).of;
+  sought = λ c past n place m k h at to z e. acts_told s past n _ (sought_acts_in s c past n place m k h.0.0.1 at z e).of;
+  missed = λ c past n k h r z. acts_told s past n _ (missed_acts n (c.clients n) k r z).of;
   waited = λ c past n act h r. acts_told s past n _ (waits_acts n (c.clients n) act r).of;
   fallen = λ c past n h. inl refl;
   risen = λ c past n h. inl refl;
-  loc = λ c past l ls h st. inl (loc_blank ls st.lines);
+  loc = λ c past l ls ms h st. inl (loc_blank ls st.lines);
   served = λ c past i place m armed h up at to. works_saved s c past i _ _ h.0 refl refl (serves_works (IsPlaced c past i) (Server i) (c.hosts i).state c.clock place m (λ rest. ((place, at), inl (record { place = place; front' = refl; at = at; up = up }))));
   cut = λ c past i place m t h up at to. inl (blow_blank i place t.stops);
   stopped = λ c past i h up. inl refl;
@@ -158,13 +161,13 @@ pub record Recorded (s : Script) (c : Cell) (past : List Entry) : Type 0 where
   pub ascends : HeldAscend s c past
   pub all : AreRecorded s past
 
-pub told_now : (s : Script) (c : Cell) (past : List Entry) (x : Input) → Recorded s c past → AreBlank (moved c x).entry.lines ⊎ IsSaved s past (moved c x).entry
-told_now s c past x h = each_moved (HeldCuts s) (ToldStep s) (told_moves s) c past x h.cuts
+pub told_now : (s : Script) (c : Cell) (past : List Entry) (x : Input) → IsSoundLoc c.loc.state → Recorded s c past → AreBlank (moved c x).entry.lines ⊎ IsSaved s past (moved c x).entry
+told_now s c past x so h = each_moved (HeldCuts s) (ToldStep s) (told_moves s) c past x so h.cuts
 
 pub recorded_kept : (s : Script) → IsKept (Recorded s)
-recorded_kept s c past x h =
-    let k : HeldAscend s (moved c x).cell ((moved c x).entry ∷ past) = ascend_kept s c past x h.ascends in
-    record { cuts = cuts_kept s c past x h.cuts; ascends = k; all = ((inl (told_now s c past x h), agreed s (moved c x).cell ((moved c x).entry ∷ past) k.0.1 k.1), h.all) }
+recorded_kept s c past x so h =
+    let k : HeldAscend s (moved c x).cell ((moved c x).entry ∷ past) = ascend_kept s c past x so h.ascends in
+    record { cuts = cuts_kept s c past x so h.cuts; ascends = k; all = ((inl (told_now s c past x so h), agreed s (moved c x).cell ((moved c x).entry ∷ past) k.0.1 k.1), h.all) }
 
 pub recorded_first : (s : Script) → Recorded s (start s) (set_up s ∷ [])
 recorded_first s = let k : HeldAscend s (start s) (set_up s ∷ []) = ascend_first s in record { cuts = cuts_first s; ascends = k; all = ((inr refl, agreed s (start s) (set_up s ∷ []) k.0.1 k.1), tt) }

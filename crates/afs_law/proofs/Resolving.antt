@@ -11,7 +11,7 @@ use Rattle.afs_law.proofs.Arriving.{Arrives, Based, around, is_its_call, lines_m
 use Rattle.afs_law.proofs.Backing.{stopped_onto}
 use Rattle.afs_law.proofs.Basics.{some_of, up_to_same}
 use Rattle.afs_law.proofs.Words.{InScope, scope_is}
-use Rattle.afs_law.proofs.Housed.{IsPlaced, placed}
+use Rattle.afs_law.proofs.Housed.{IsPlaced, placed, server_at}
 use Rattle.afs_law.proofs.Lasting.{stopped_or}
 use Rattle.afs_law.proofs.Later.{HasRunSince, later_key}
 use Rattle.afs_law.proofs.Minding.{HasDone, blank_change}
@@ -35,7 +35,7 @@ use Rattle.afs_num.specs.declared.types.Fid.{Fid}
 use Rattle.afs_num.specs.declared.types.Key.{Key}
 use Rattle.afs_num.specs.declared.types.Node.{Node}
 use Rattle.afs_num.specs.declared.types.Node.TheVariants.{Client, Server}
-use Rattle.afs_rows.specs.ClientRow.{call_of, server_at}
+use Rattle.afs_rows.specs.ClientRow.{call_of}
 use Rattle.afs_rows.specs.Going.{ClientState, Going}
 use Rattle.afs_rows.specs.Runs.{Cell, Entry, locations}
 use Rattle.afs_rows.specs.Scopes.{is_volume}

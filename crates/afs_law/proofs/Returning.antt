@@ -1,20 +1,21 @@
 -- An act that gives promises back is answered 0 only where its calls gave back all that its client gave up when it began.
+use Rattle.afs_history.specs.declared.acts.Operand.{Operand}
 use Rattle.afs_history.specs.declared.acts.Act.{Act}
 use Rattle.afs_history.specs.declared.acts.Act.TheVariants as acts
 use Rattle.afs_history.specs.declared.lines.Line.{Line}
 use Rattle.afs_history.specs.declared.lines.Line.TheVariants as lines
 use Rattle.afs_history.specs.declared.scripts.Script.{Script}
 use Rattle.afs_ideal.specs.Operations.{volume_changed}
-use Rattle.afs_law.proofs.Acting.{Acts, begins_acts, falls_acts, given_acts, is_of, last_key, rises_acts, waits_acts, who_at}
+use Rattle.afs_law.proofs.Acting.{Acts, begins_acts, falls_acts, given_acts, is_of, last_key, rises_acts, waits_acts, who_at, missed_acts}
 use Rattle.afs_law.proofs.Arriving.{Based, arrives, based_first, based_kept}
 use Rattle.afs_law.proofs.Backing.{all_lines}
-use Rattle.afs_law.proofs.Basics.{at_put, both, same_node-refl, same_node-true}
+use Rattle.afs_law.proofs.Basics.{at_put, both, same_node-refl, same_node-true, some_of}
 use Rattle.afs_law.proofs.Changing.{run_each}
 use Rattle.afs_law.proofs.Choosing.{disk_works, one_from, risen_from, risen_lines, serves_works, starts_works, times_works, wakes_works}
 use Rattle.afs_law.proofs.Due.{DueFacts, due_first, due_kept}
 use Rattle.afs_law.proofs.KeysOnce.{IsKnown, any_told, by_key}
 use Rattle.afs_law.proofs.Moving.{Behind, EachMove, IsKept, each_moved}
-use Rattle.afs_law.proofs.Origins.{any_cut, any_message, blow_idle, idle_leaves, idle_works, is_idle, of_client, other_leaves, loc_idle}
+use Rattle.afs_law.proofs.Origins.{any_cut, any_message, blow_idle, idle_leaves, idle_works, is_idle, of_client, other_leaves, loc_idle, handed_same, quietly, sought_acts_in, IsSeeking}
 use Rattle.afs_law.proofs.Ours.{AreOurs, IsOurs, trusted_ours'}
 use Rattle.afs_law.proofs.Silent.{GivenSilent}
 use Rattle.afs_law.proofs.Words.{fids_of_gifts}
@@ -55,8 +56,8 @@ use Rattle.afs_num.specs.declared.types.Head.{Head}
 use Rattle.afs_num.specs.declared.types.Node.{Node}
 use Rattle.afs_num.specs.declared.types.Node.TheVariants.{Admin, Client, Loc, Server}
 use Rattle.afs_rows.specs.Callbacks.{put}
-use Rattle.afs_rows.specs.ClientRow.{Look, Walked, admits_call, answers_step, awaits, batch, batch_to, begin_row, begins_by, behind_batch, body_told, breaks, call_by, call_of, calls_again, client_row, counts, dead_code, drop_line, dropped, dropped_after, entries_told, entry_told, find_cached, gift_call, gift_of, gifts_to, given, given_promise, given_up_in, gives_by, gives_up, goes_by, hears, ignores, in_order, is_awaited, is_below, is_busy_code, is_older, is_spent, is_trusted, look_at, looked, most_busy, most_given, most_reads, put_entries, put_entry, read_lines, reborn, refuses, runs_carried, status_look, status_told, takes, takes_bulk, takes_bytes, takes_data, takes_entries, takes_entry, takes_given, takes_list, takes_plain, takes_rights, takes_set, takes_shown, takes_status, takes_stored, timeout_row, tries_again, trusted_in, untrusted_in, walked, walked_at, walked_by, walked_with, walks_on, whole, with_statuses, zero_code}
-use Rattle.afs_rows.specs.Going.{ClientState, Going, Need, answers, began, gives_back, next, read_on, reads, reads_status, with_read}
+use Rattle.afs_rows.specs.ClientRow.{Look, Walked, admits_call, answers_step, awaits, batch, batch_to, begin_row, begins_by, behind_batch, body_told, breaks, call_by, call_of, calls_again, client_row, counts, dead_code, drop_line, dropped, dropped_after, entries_told, entry_told, find_cached, gift_call, gift_of, gifts_to, given, given_promise, given_up_in, gives_by, gives_up, goes_by, hears, ignores, in_order, is_awaited, is_below, is_busy_code, is_older, is_spent, is_trusted, look_at, looked, most_busy, most_given, most_reads, put_entries, put_entry, read_lines, reborn, refuses, runs_carried, status_look, status_told, takes, takes_bulk, takes_bytes, takes_data, takes_entries, takes_entry, takes_given, takes_list, takes_plain, takes_rights, takes_set, takes_shown, takes_status, takes_stored, timeout_row, tries_again, trusted_in, untrusted_in, walked, walked_at, walked_by, walked_with, walks_on, whole, with_statuses, zero_code, sought_ends, seek_timeout_row, sought_by, act_sought, seeks_on, timeout_line, act_by, is_gone_code, asks_where, refuses_for_good, volume_asked, most_moved}
+use Rattle.afs_rows.specs.Going.{locates, ClientState, Going, Need, answers, began, gives_back, next, read_on, reads, reads_status, with_read, Seek, operand_in}
 use Rattle.afs_law.proofs.Steps.{blow_line, server_falls, server_moves, server_rises, server_set, server_stays, loc_becomes}
 use Rattle.afs_rows.specs.Runs.{Cell, Entry, Moved, RunsTo, at_rest, begun_by_disk, in_boot, in_step, locations, message_at, start, ticked, voided}
 use Rattle.afs_rows.specs.ServerSteps.{back_timeout_row, server_row, wake_row}
@@ -190,6 +191,7 @@ either_keeps false n o gs a b h k = k
 
 goes_keeps : (o : Option Going) (n : ℕ) (c : ClientState) (front : List Line → List Line) (w : Walked) (need : Need) (a : Going) → Quiet n front → o ≡ Some a → w.act.act ≡ a.act → Keeps n o c.gifts (goes_by (Client n) c front w need)
 goes_keeps o n c front w (answers k) a q e same = none_keeps n o c.gifts _ refl (q (looked (Client n) w.looks (lines.Answer (Client n) (record { 0 = pos k }) ∷ [])) ∙ looked_begins n (Client n) w.looks (lines.Answer (Client n) (record { 0 = pos k }) ∷ []))
+goes_keeps o n c front w (locates x) a q e same = none_keeps n o c.gifts _ refl (q (looked (Client n) w.looks []) ∙ looked_begins n (Client n) w.looks [])
 goes_keeps o n c front w need a q e same = runs_keeps n o c.gifts _ a w.act e refl same (λ f h. inl h) (q (looked (Client n) w.looks []) ∙ looked_begins n (Client n) w.looks [])
 
 walks_keeps : (o : Option Going) (n : ℕ) (c : ClientState) (clock : ℕ) (front : List Line → List Line) (act : Going) (cache : List CacheEntry) (a : Going) → Quiet n front → o ≡ Some a → act.act ≡ a.act → Keeps n o c.gifts (walks_on (Client n) c clock front act cache)
@@ -258,8 +260,13 @@ takes_keeps n c clock place act call (replies.StoreStatus status sync) r = set_k
 takes_keeps n c clock place act call replies.GiveUpCallBacks r = given_keeps n c place act call r
 takes_keeps n c clock place act call reply r = plain_keeps n c place call
 
+where_keeps : (n : ℕ) (c : ClientState) (place : ℕ) (act : Going) (code : Code) (o : Option Operand) → Keeps n c.running c.gifts (asks_where (Client n) c place act code o)
+where_keeps n c place act code None = none_keeps n c.running c.gifts _ refl refl
+where_keeps n c place act code (Some o) = none_keeps n c.running c.gifts _ refl refl
+
 refuses_keeps : (n : ℕ) (c : ClientState) (place : ℕ) (act : Going) (code : Code) → c.running ≡ Some act → Keeps n c.running c.gifts (refuses (Client n) c place act code)
-refuses_keeps n c place act code r = either_keeps (is_busy_code code && nat_lt c.busy most_busy) n c.running c.gifts (calls_again (Client n) (record c { busy = c.busy + 1 }) place act) (answers_step (Client n) c place code) (runs_keeps n c.running c.gifts _ act act r refl refl (λ f h. inl h) refl) (none_keeps n c.running c.gifts _ refl refl)
+refuses_keeps n c place act code r = either_keeps (is_busy_code code && nat_lt c.busy most_busy) n c.running c.gifts (calls_again (Client n) (record c { busy = c.busy + 1 }) place act) (refuses_for_good (Client n) c place act code) (runs_keeps n c.running c.gifts _ act act r refl refl (λ f h. inl h) refl)
+    (either_keeps (is_gone_code code && nat_lt c.moved most_moved) n c.running c.gifts _ _ (where_keeps n c place act code (operand_in act (volume_asked (call_of c act)))) (none_keeps n c.running c.gifts _ refl refl))
 
 counts_keeps : (n : ℕ) (c : ClientState) (clock place : ℕ) (act : Going) (head : Head) (x : Carried) → c.running ≡ Some act → Keeps n c.running c.gifts (counts (Client n) c clock place act head x)
 counts_keeps n c clock place act head (carried.Call user call) r = same_keeps n c.running c.gifts _ refl refl refl
@@ -403,6 +410,7 @@ gives_some_case s n y act (u ∷ es) (g ∷ gs) past e is are b r give first =
 -- an act that begins is the one that runs
 goes_act : (n : ℕ) (c : ClientState) (front : List Line → List Line) (w : Walked) (need : Need) (b : Going) → (goes_by (Client n) c front w need).state.running ≡ Some b → b.act ≡ w.act.act
 goes_act n c front w (answers k) b e = let no_ : None ≡ Some b = e in absurd cc
+goes_act n c front w (locates x) b e = let no_ : None ≡ Some b = e in absurd cc
 goes_act n c front w need b e = sym (ap (λ (x : Going). x.act) (one_going w.act b e))
 
 gives_act : (n : ℕ) (c : ClientState) (front : List Line → List Line) (act : Going) (gs : List Gift) (b : Going) → (gives_by (Client n) c front act gs).state.running ≡ Some b → b.act ≡ act.act
@@ -423,11 +431,11 @@ not_give act h e = let no_ : true ≡ false = sym (ap is_give e) ∙ h in absurd
 begun_returns : (s : Script) (n clock : ℕ) (c : ClientState) (act : Act) (past : List Entry) (e : Entry) → AreOurs c.cache → e.lines ≡ (begin_row (Client n) c clock act).lines → Returns s n (begin_row (Client n) c clock act).state (e ∷ past)
 unfolding begin_row
 begun_returns s n clock c acts.GiveUp past e ours are =
-    let y : ClientState = record c { busy = 0; cache = untrusted_in clock c.cache } in
+    let y : ClientState = record c { busy = 0; moved = 0; cache = untrusted_in clock c.cache } in
     let es : List CacheEntry = trusted_in clock c.cache in
     (gives_all_case s n y (began c.table acts.GiveUp) es (in_order (map gift_of es)) past e (trusted_ours' clock c.cache ours) refl are, gives_some_case s n y (began c.table acts.GiveUp) es (in_order (map gift_of es)) past e refl are)
 begun_returns s n clock c act past e ours are =
-    let same : (b : Going) → (begins_by (Client n) (record c { busy = 0 }) clock (λ ls. lines.Begin (Client n) act ∷ ls) (began c.table act) (next (began c.table act))).state.running ≡ Some b → b.act ≡ acts.GiveUp → ⊥ = λ b r give. not_give act refl (sym (begins_act n (record c { busy = 0 }) clock (λ ls. lines.Begin (Client n) act ∷ ls) (began c.table act) (next (began c.table act)) b r) ∙ give) in
+    let same : (b : Going) → (begins_by (Client n) (record c { busy = 0; moved = 0 }) clock (λ ls. lines.Begin (Client n) act ∷ ls) (began c.table act) (next (began c.table act))).state.running ≡ Some b → b.act ≡ acts.GiveUp → ⊥ = λ b r give. not_give act refl (sym (begins_act n (record c { busy = 0; moved = 0 }) clock (λ ls. lines.Begin (Client n) act ∷ ls) (began c.table act) (next (began c.table act)) b r) ∙ give) in
     ((λ b r give f named. absurd (same b r give)), (λ b r give first. same b r give))
 
 ended_returns : (s : Script) (n : ℕ) (x : ClientState) (past : List Entry) → x.running ≡ None → Returns s n x past
@@ -458,16 +466,22 @@ silents s c past h = h.0.0.silent
 told_of : (s : Script) (c : Cell) (past : List Entry) (n place : ℕ) (m : Message) → GivenSilent s c past → Acts n (who_at (c.clients n)) (c.clients n).gifts (client_row (Client n) (c.clients n) c.clock place (Whole m))
 told_of s c past n place m h = given_acts (by_key (IsKnown h.0.0.0.0.0.keys.callees c.clients)) any_told n (c.clients n) c.clock place m (h.0.0.0.0.0.keys.replies n) (h.0.0.0.0.1.seats n)
 
+missed_idle : (n : ℕ) (c : ClientState) (k : Seek) (t : Bool) → c.running ≡ None → (cond t (seeks_on (Client n) c k) (sought_ends (Client n) c (λ ls. timeout_line (Client n) c 3 ∷ ls) dead_code)).state.running ≡ None
+missed_idle n c k true r = r
+missed_idle n c k false r = r
+
 returns_moves : (s : Script) → EachMove (Returned s) (Behind (ReturnsIn s))
 returns_moves s = record {
   void = λ c past h. idle_returns s c past (voided c).entry h refl;
   ticked = λ c past n h. idle_returns s c past (ticked c (suc n)).entry h refl;
-  begun = λ c past n act h r. client_returns s c past n _ h (begins_acts n (c.clients n) c.clock act r).of (λ cell. begun_returns s n c.clock (c.clients n) act past _ (h.0.1.1 cell n).cache refl);
+  begun = λ c past n act h r z0. client_returns s c past n _ h (begins_acts n (c.clients n) c.clock act r z0).of (λ cell. begun_returns s n c.clock (c.clients n) act past _ (h.0.1.1.0 cell n).cache refl);
   told = λ c past n place m h at to. client_returns s c past n _ h (told_of s c past n place m (silents s c past h)).of (λ cell. told_returns s n place (c.clients n) c.clock m past _ refl (λ a r. (silents s c past h).0.0.0.0.1.asked n a r) (h.1 cell n));
+  sought = λ c past n place m k h at to z e. client_returns s c past n _ h (sought_acts_in s c past n place m k (silents s c past h).0.0.0.0.1 at z e).of (λ cell. ended_returns s n (sought_by (Client n) (c.clients n) c.clock place k m.head m.carried).state _ (quietly s c past n place m k (λ st. st.state.running ≡ None) (silents s c past h).0.0.0.0.1 at z e (λ code. ((silents s c past h).0.0.0.0.1.seeks n k z).idle) ((silents s c past h).0.0.0.0.1.seeks n k z).idle ((silents s c past h).0.0.0.0.1.seeks n k z).idle));
+  missed = λ c past n k h r z. client_returns s c past n _ h (missed_acts n (c.clients n) k r z).of (λ cell. ended_returns s n (seek_timeout_row (Client n) (c.clients n) k).state _ (missed_idle n (c.clients n) k (nat_lt (c.clients n).tries 2) r));
+  loc = λ c past l ls ms h st. idle_returns s c past (loc_becomes c l ls ms).entry h (loc_idle ls st.lines);
   waited = λ c past n act h r. client_returns s c past n _ h (waits_acts n (c.clients n) act r).of (λ cell. waited_returns s n (c.clients n) act past _ (nat_lt (c.clients n).tries 2) (waited_begins n (c.clients n) act (nat_lt (c.clients n).tries 2)) (h.1 cell n));
-  fallen = λ c past n h. client_returns s c past n _ h (falls_acts n (c.clients n)).of (λ cell. ended_returns s n (reborn (c.clients n)) _ refl);
+  fallen = λ c past n h. client_returns s c past n _ h (falls_acts n c.handed (c.clients n) (handed_same s c past (silents s c past h).0.0.0.0.1 n)).of (λ cell. ended_returns s n (reborn c.handed (c.clients n)) _ refl);
   risen = λ c past n h. client_returns s c past n _ h (rises_acts n (c.clients n)).of (λ cell. other_returns s n (c.clients n) _ past refl (h.1 cell n));
-  loc = λ c past l ls h st. idle_returns s c past (loc_becomes c l ls).entry h (loc_idle ls st.lines);
   served = λ c past i place m armed h up at to. idle_returns s c past (server_moves c i armed (server_row (Server i) (c.hosts i).state c.clock place (Whole m))).entry h (idle_works any_message i (c.hosts i).state _ _ (serves_works any_message (Server i) (c.hosts i).state c.clock place m (λ rest. tt)));
   cut = λ c past i place m t h up at to. idle_returns s c past (server_falls c i (lines.Given place ∷ blow_line i t.stops ∷ []) (in_step m c.clock t)).entry h (blow_idle i t.stops);
   stopped = λ c past i h up. idle_returns s c past (server_falls c i (lines.Crash (Server i) ∷ []) at_rest).entry h refl;
@@ -482,7 +496,7 @@ returns_moves s = record {
 }
 
 returned_kept : (s : Script) → IsKept (Returned s)
-returned_kept s c past x h = ((based_kept s c past x h.0.0, due_kept s c past x h.0.1), each_moved (Returned s) (Behind (ReturnsIn s)) (returns_moves s) c past x h)
+returned_kept s c past x so h = ((based_kept s c past x so h.0.0, due_kept s c past x so h.0.1), each_moved (Returned s) (Behind (ReturnsIn s)) (returns_moves s) c past x so h)
 
 -- ---- the answers
 
@@ -549,8 +563,13 @@ takes_all : (n : ℕ) (c : ClientState) (clock place : ℕ) (act : Going) (code 
 takes_all n c clock place act code fids callbacks replies.GiveUpCallBacks kind = rest_all n c place act code (behind_batch c.gifts) (λ f h. batch_has c.gifts f h)
 takes_all n c clock place act code fids callbacks reply kind = λ h. absurd (differ (reply_number reply) 147 refl kind)
 
+where_all : (n : ℕ) (c : ClientState) (place : ℕ) (act : Going) (code k : Code) (o : Option Operand) → (k.0 ≡ pos 0 → ⊥) → code.0 ≡ pos 0 → IsAllBehind c code (asks_where (Client n) c place act k o).lines
+where_all n c place act code k None some zero_told = λ h. elim h [ inl e ↦ absurd (some (ap (λ (x : Code). x.0) e ∙ zero_told)) | inr x ↦ absurd x ]
+where_all n c place act code k (Some o) some zero_told = λ h. absurd h
+
 refuses_all : (n : ℕ) (c : ClientState) (place : ℕ) (act : Going) (code k : Code) → (k.0 ≡ pos 0 → ⊥) → code.0 ≡ pos 0 → IsAllBehind c code (refuses (Client n) c place act k).lines
-refuses_all n c place act code k some zero_told = either_all (is_busy_code k && nat_lt c.busy most_busy) c code (calls_again (Client n) (record c { busy = c.busy + 1 }) place act) (answers_step (Client n) c place k) (λ h. absurd h) (λ h. elim h [ inl e ↦ absurd (some (ap (λ (x : Code). x.0) e ∙ zero_told)) | inr x ↦ absurd x ])
+refuses_all n c place act code k some zero_told = either_all (is_busy_code k && nat_lt c.busy most_busy) c code (calls_again (Client n) (record c { busy = c.busy + 1 }) place act) (refuses_for_good (Client n) c place act k) (λ h. absurd h)
+    (either_all (is_gone_code k && nat_lt c.moved most_moved) c code _ _ (where_all n c place act code k (operand_in act (volume_asked (call_of c act))) some zero_told) (λ h. elim h [ inl e ↦ absurd (some (ap (λ (x : Code). x.0) e ∙ zero_told)) | inr x ↦ absurd x ]))
 
 abbrev IsGiftKind : Carried → Type 0
 IsGiftKind x = IsKind (calls.GiveUpCallBacks [] []) x
@@ -642,11 +661,28 @@ ReturnedIn s past e = IsOfCell s → (j : ℕ) → e.actor ≡ actors.Node (Clie
 abbrev ReturnedStep : Script → Cell → List Entry → Moved → Type 0
 ReturnedStep s c past m = ReturnedIn s past m.entry
 
+-- an act that waits for the location database gives nothing back
+seeks_keeps : (s : Script) (c : Cell) (past : List Entry) (n : ℕ) (k : Seek) → Returned s c past → (c.clients n).seeking ≡ Some k → Gives (running s (Client n) (lines_of past)) → ⊥
+seeks_keeps s c past n k h z give =
+    let A = (silents s c past h).0.0.0.0.1 in
+    let q : IsSeeking s n (c.clients n) k past = A.seeks n k z in
+    let runs : Some k.act ≡ Some give.0 = sym (A.acts n ∙ (ap (λ (a : Option Going). act_by a (c.clients n).seeking) q.idle ∙ ap act_sought z)) ∙ give.1.0 in
+    q.asks (ap (λ (g : Going). g.act) (some_of k.act give.0 runs) ∙ give.1.1)
+
+-- an act that runs is the one for which a server is waited
+gives_runs : (s : Script) (c : Cell) (past : List Entry) (n : ℕ) → Returned s c past → (give : Gives (running s (Client n) (lines_of past))) → (c.clients n).running ≡ Some give.0
+gives_runs s c past n h give = runs_by (c.clients n).running (c.clients n).seeking refl refl
+  where
+    runs_by : (r : Option Going) (o : Option Seek) → (c.clients n).running ≡ r → (c.clients n).seeking ≡ o → (c.clients n).running ≡ Some give.0
+    runs_by (Some a) o e z = e ∙ (sym (ap (λ (x : Option Going). act_by x (c.clients n).seeking) e) ∙ (sym ((silents s c past h).0.0.0.0.1.acts n) ∙ give.1.0))
+    runs_by None (Some k) e z = absurd (seeks_keeps s c past n k h z give)
+    runs_by None None e z = (let none : None ≡ Some give.0 = sym (ap (λ (x : Option Going). act_by x (c.clients n).seeking) e ∙ ap act_sought z) ∙ (sym ((silents s c past h).0.0.0.0.1.acts n) ∙ give.1.0) in absurd cc)
+
 told_back : (s : Script) (c : Cell) (past : List Entry) (n place : ℕ) (m : Message) → IsOfCell s → Returned s c past → message_at c.sent place ≡ Some m → m.head.to ≡ Client n → IsBackBehind s n past (client_row (Client n) (c.clients n) c.clock place (Whole m)).lines
 told_back s c past n place m cell h at to code has zero_told give f named =
     let a : Going = give.0 in
     let A = (silents s c past h).0.0.0.0.1 in
-    let runs : (c.clients n).running ≡ Some a = sym (A.acts n) ∙ give.1.0 in
+    let runs : (c.clients n).running ≡ Some a = gives_runs s c past n h give in
     elim ((h.1 cell n).0 a runs give.1.1 f named) [
       | inl y ↦
           batch_back s n (c.clients n) past a f (A.asked n a runs) give.1.1
@@ -656,7 +692,7 @@ told_back s c past n place m cell h at to code has zero_told give f named =
     ]
 
 some_back : (s : Script) (c : Cell) (past : List Entry) (n : ℕ) → IsOfCell s → Returned s c past → IsSomeBehind s n past
-some_back s c past n cell h give first = (h.1 cell n).1 give.0 (sym ((silents s c past h).0.0.0.0.1.acts n) ∙ give.1.0) give.1.1 first
+some_back s c past n cell h give first = (h.1 cell n).1 give.0 (gives_runs s c past n h give) give.1.1 first
 
 waited_answer : (n : ℕ) (c : ClientState) (act : Going) (t : Bool) (code : Code) → HasAnswer code (cond t (tries_again (Client n) c act) (gives_up (Client n) c (call_of c act))).lines → code.0 ≡ pos 0 → ⊥
 waited_answer n c act true code h z = h
@@ -672,12 +708,14 @@ answers_moves : (s : Script) → EachMove (Returned s) (ReturnedStep s)
 answers_moves s = record {
   void = λ c past h. server_apart s past (voided c).entry (λ j z. absurd cc);
   ticked = λ c past n h. server_apart s past (ticked c (suc n)).entry (λ j z. absurd cc);
-  begun = λ c past n act h r cell j z. back_lines s (actors.Node (Client n)) n past [] (begin_row (Client n) (c.clients n) c.clock act).lines (begins_acts n (c.clients n) c.clock act r).of (begun_back s c past n (begin_row (Client n) (c.clients n) c.clock act).lines ((silents s c past h).0.0.0.0.1.acts n ∙ r)) (some_back s c past n cell h);
+  begun = λ c past n act h r z0 cell j z. back_lines s (actors.Node (Client n)) n past [] (begin_row (Client n) (c.clients n) c.clock act).lines (begins_acts n (c.clients n) c.clock act r z0).of (begun_back s c past n (begin_row (Client n) (c.clients n) c.clock act).lines (((silents s c past h).0.0.0.0.1.acts n ∙ (ap (λ (a : Option Going). act_by a (c.clients n).seeking) r ∙ ap act_sought z0)))) (some_back s c past n cell h);
   told = λ c past n place m h at to cell j z. back_lines s (actors.Node (Client n)) n past [] (client_row (Client n) (c.clients n) c.clock place (Whole m)).lines (told_of s c past n place m (silents s c past h)).of (told_back s c past n place m cell h at to) (some_back s c past n cell h);
+  sought = λ c past n place m k h at to z e cell j w. back_lines s (actors.Node (Client n)) n past [] (sought_by (Client n) (c.clients n) c.clock place k m.head m.carried).lines (sought_acts_in s c past n place m k (silents s c past h).0.0.0.0.1 at z e).of (λ code has zero give f named. absurd (seeks_keeps s c past n k h z give)) (λ give first. seeks_keeps s c past n k h z give);
+  missed = λ c past n k h r z cell j w. back_lines s (actors.Node (Client n)) n past [] (seek_timeout_row (Client n) (c.clients n) k).lines (missed_acts n (c.clients n) k r z).of (λ code has zero give f named. absurd (seeks_keeps s c past n k h z give)) (λ give first. seeks_keeps s c past n k h z give);
+  loc = λ c past l ls ms h st. server_apart s past (loc_becomes c l ls ms).entry (λ j z. absurd cc);
   waited = λ c past n act h r cell j z. back_lines s (actors.Node (Client n)) n past [] (timeout_row (Client n) (c.clients n) act).lines (waits_acts n (c.clients n) act r).of (λ code has zero_told give f named. absurd (waited_answer n (c.clients n) act (nat_lt (c.clients n).tries 2) code has zero_told)) (some_back s c past n cell h);
   fallen = λ c past n h cell j z. (tt, tt);
   risen = λ c past n h cell j z. (tt, tt);
-  loc = λ c past l ls h st. server_apart s past (loc_becomes c l ls).entry (λ j z. absurd cc);
   served = λ c past i place m armed h up at to. server_apart s past (server_moves c i armed (server_row (Server i) (c.hosts i).state c.clock place (Whole m))).entry (λ j z. absurd cc);
   cut = λ c past i place m t h up at to. server_apart s past (server_falls c i (lines.Given place ∷ blow_line i t.stops ∷ []) (in_step m c.clock t)).entry (λ j z. absurd cc);
   stopped = λ c past i h up. server_apart s past (server_falls c i (lines.Crash (Server i) ∷ []) at_rest).entry (λ j z. absurd cc);
@@ -693,4 +731,4 @@ answers_moves s = record {
 
 pub run_returned : (s : Script) (h : List Entry) (end : Cell) → RunsTo h s end → EachEntry (ReturnedIn s) (set_up s ∷ []) h
 run_returned s h end r =
-    run_each (Returned s) (ReturnedIn s) (returned_kept s) (λ c past x k. each_moved (Returned s) (ReturnedStep s) (answers_moves s) c past x k) r.inputs (start s) (set_up s ∷ []) h end ((based_first s, due_first s), λ cell j. ended_returns s j ((start s).clients j) (set_up s ∷ []) refl) r.leads
+    run_each (Returned s) (ReturnedIn s) (returned_kept s) (λ c past x so k. each_moved (Returned s) (ReturnedStep s) (answers_moves s) c past x so k) r.inputs s (set_up s ∷ []) h end ((based_first s, due_first s), λ cell j. ended_returns s j ((start s).clients j) (set_up s ∷ []) refl) r.leads

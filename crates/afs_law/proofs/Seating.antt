@@ -8,6 +8,7 @@ use Rattle.afs_law.proofs.Hearing.{HearsIn, hears_at, reply_ran}
 use Rattle.afs_law.proofs.Hosting.{HasHead, served_head}
 use Rattle.afs_law.proofs.Keeping.{at_placed}
 use Rattle.afs_law.proofs.Moving.{Behind, EachMove, each_moved, run_keeps}
+use Rattle.afs_law.proofs.Seated.{AreSeated, IsReplyOf, code_gift, code_half, kept_from, placed, seated}
 use Rattle.afs_law.specs.Ideal.{set_up}
 use Rattle.afs_law.specs.Laws.{seat_key}
 use Rattle.afs_law.specs.Legal.{GoodGift, HasOwnHalf}
@@ -85,61 +86,6 @@ hears_runs me x clock head (carried.Refusal code) = tt
 hears_runs me x clock head (carried.Reply reply) = tt
 hears_runs me x clock head carried.Notice = tt
 
--- ---- the seats
-
-pub record IsReplyOf (me n : Node) (seat : Seat) (m : Message) : Type 0 where
-  pub from : m.head.from ≡ me
-  pub to : m.head.to ≡ n
-  pub epoch : m.head.epoch ≡ seat.epoch
-  pub number : m.head.number ≡ seat.number
-  pub reply : IsReply m
-  pub firm : IsFirm m.head m.carried
-
-abbrev pub AreSeated : Node → List Seat → Type 0
-AreSeated me seats = (n : Node) (seat : Seat) (m : Message) → call_seat n seats ≡ Some seat → seat.reply ≡ Some m → IsReplyOf me n seat m
-
--- of a seat that is taken
-abbrev IsSeat : Node → Node → Option Seat → Type 0
-IsSeat me n o = (seat : Seat) (m : Message) → o ≡ Some seat → seat.reply ≡ Some m → IsReplyOf me n seat m
-
-own_reply : (me : Node) (boot : ℕ) (head : Head) (c : Carried) (n : Node) → head.to ≡ me → HasCode c → IsFirm (reply_head boot head) c → head.from ≡ n → IsSeat me n (Some (seat_for head (replied boot head c)))
-own_reply me boot head c n to code firm from seat m e r =
-    let same : seat_for head (replied boot head c) ≡ seat = some_of (seat_for head (replied boot head c)) seat e in
-    let is : replied boot head c ≡ m = some_of (replied boot head c) m (ap (λ (s : Seat). s.reply) same ∙ r) in
-    subst (IsReplyOf me n seat) is (subst (λ (s : Seat). IsReplyOf me n s (replied boot head c)) same (record { from = to; to = from; epoch = refl; number = refl; reply = (refl, code); firm = firm }))
-
-pub seated : (me : Node) (boot : ℕ) (head : Head) (c : Carried) (seats : List Seat) → head.to ≡ me → HasCode c → IsFirm (reply_head boot head) c → AreSeated me seats → AreSeated me (call_seated (seat_for head (replied boot head c)) seats)
-seated me boot head c seats to code firm h n = at_seat (seat_for head (replied boot head c)) n seats (IsSeat me n) (λ own. own_reply me boot head c n to code firm own) (λ other. h n)
-
-placed : (me : Node) (boot : ℕ) (head : Head) (c : Carried) (seats : List Seat) → head.to ≡ me → HasCode c → IsFirm (reply_head boot head) c → AreSeated me seats → AreSeated me (seat_placed (seat_for head (replied boot head c)) seats)
-placed me boot head c seats to code firm h n = at_placed (seat_for head (replied boot head c)) n seats (IsSeat me n) (λ own. own_reply me boot head c n to code firm own) (λ other. h n)
-
-both_not : (c : Carried) → HasCode c → IsCall c → ⊥
-both_not (carried.Call user call) h k = absurd h
-both_not (carried.Refusal code) h k = absurd k
-both_not (carried.Reply reply) h k = absurd k
-both_not carried.Notice h k = absurd h
-
-pub code_half : (m : Message) → HasCode m.carried → HasOwnHalf m
-code_half m h call = absurd (both_not m.carried h call)
-
-pub code_gift : (head : Head) (c : Carried) (ls : List Line) → HasCode c → GoodGift head c ls
-code_gift head (carried.Call user call) ls h = absurd h
-code_gift head (carried.Refusal code) ls h = tt
-code_gift head (carried.Reply reply) ls h = tt
-code_gift head carried.Notice ls h = absurd h
-
--- a reply that is repeated is one of them
-kept_sent : (me n : Node) (seat : Seat) (m : Message) → IsReplyOf me n seat m → IsSentBy me m
-kept_sent me n seat m r = record { from = r.from; half = code_half m r.reply.1; firm = r.firm; gift = λ z ls. code_gift m.head m.carried ls r.reply.1 }
-
-kept_by : (t : Bool) (me : Node) (boot : ℕ) (seats : List Seat) (head : Head) (m : Message) → AreSeated me seats → cond t (paired head.epoch head.number (call_seat head.from seats)) (pairs.wrong_boot boot) ≡ pairs.kept m → IsSentBy me m
-kept_by true me boot seats head m h e = let l : LastSeat head.epoch head.number (call_seat head.from seats) m = kept_last head.epoch head.number (call_seat head.from seats) m e in kept_sent me head.from l.seat m (h head.from l.seat m l.at l.reply)
-kept_by false me boot seats head m h e = absurd cc
-
-pub kept_from : (me : Node) (boot : ℕ) (seats : List Seat) (head : Head) (m : Message) → AreSeated me seats → admitted boot seats head ≡ pairs.kept m → IsSentBy me m
-kept_from me boot seats head m h e = kept_by (nat_eq head.boot boot) me boot seats head m h e
-
 pub change_code : (expiry : ℕ) (o : Option FsReply) → HasCode (carried_by expiry o)
 change_code expiry None = tt
 change_code expiry (Some reply) = tt
@@ -206,12 +152,14 @@ pub sits_moves : EachMove SitsIn (Behind SitsIn)
 sits_moves = record {
   void = λ c past h. h;
   ticked = λ c past n h. h;
-  begun = λ c past n act h r. h;
+  begun = λ c past n act h r z. h;
   told = λ c past n place m h at to. h;
+  sought = λ c past n place m k h at to z e. h;
+  missed = λ c past n k h r z. h;
+  loc = λ c past l ls ms h st. h;
   waited = λ c past n act h r. h;
   fallen = λ c past n h. h;
   risen = λ c past n h. h;
-  loc = λ c past l ls h st. h;
   served = λ c past i place m armed h up at to. host_sits c.hosts i _ h (served_sits i (c.hosts i).state c.clock place m (h i));
   cut = λ c past i place m t h up at to. host_sits c.hosts i _ h (h i);
   stopped = λ c past i h up. host_sits c.hosts i _ h (h i);
@@ -226,7 +174,7 @@ sits_moves = record {
 }
 
 pub sits_at : (s : Script) (h : List Entry) (end : Cell) → RunsTo h s end → SitsIn end (past_of (set_up s ∷ []) h)
-sits_at s h end r = run_keeps SitsIn (each_moved SitsIn (Behind SitsIn) sits_moves) r.inputs (start s) (set_up s ∷ []) h end (λ i. record { seats = λ n seat m e. absurd cc; kept = λ n seat m e. absurd cc }) r.leads
+sits_at s h end r = run_keeps SitsIn (each_moved SitsIn (Behind SitsIn) sits_moves) r.inputs s (set_up s ∷ []) h end (λ i. record { seats = λ n seat m e. absurd cc; kept = λ n seat m e. absurd cc }) r.leads
 
 -- a kept reply is that of the entry which ran its call
 pub run_seated : (s : Script) (h : List Entry) (end : Cell) → RunsTo h s end → (i j : ℕ) (seat : Seat) (m : Message) → call_seat (Client j) (end.hosts i).state.seats ≡ Some seat → seat.reply ≡ Some m

@@ -14,7 +14,7 @@ use Rattle.afs_rows.specs.ClientRow.{call_of}
 use Rattle.afs_rows.specs.Going.{asked, Going, ClientState}
 use Rattle.afs_law.specs.Ideal.{call_in, call_under}
 use Rattle.afs_law.specs.Legal.{as_asked}
-use Rattle.afs_law.specs.Past.{has_sent, is_new_to_act, sent_of, CalledSince, has_begun, called_key, is_called, Sends, given_message}
+use Rattle.afs_law.specs.Past.{has_sent, is_new_to_act, sent_of, CalledSince, has_begun, called_key, is_called, Sends, given_message, is_by_key, has_called}
 use Rattle.afs_rows.specs.Runs.{Entry}
 use Rattle.afs_num.specs.declared.messages.Carried.{Carried}
 use Rattle.afs_num.specs.declared.messages.Carried.TheVariants as carried
@@ -72,9 +72,13 @@ pub late_by : (t a b : Bool) → a ≡ false → b ≡ true → cond t (not a) b
 late_by true a b h e = ap not h
 late_by false a b h e = e
 
-pub unsent_late : (n : Node) (k : Key) (past : List Entry) → has_sent k (sent_of past) ≡ false → is_new_to_act n k past ≡ true
-unsent_late n k [] h = refl
-unsent_late n k (e ∷ past) h = let none : has_sent k (sent_of past) ≡ false = not_front k (sent_of past) e.sent h in late_by (has_begun n e.lines) (has_sent k (sent_of past)) (is_new_to_act n k past) none (unsent_late n k past none)
+pub not_called : (k : Key) (a b : List Message) → has_called k (a ++ b) ≡ false → has_called k a ≡ false
+not_called k [] b h = refl
+not_called k (m ∷ a) b h = front_by (is_by_key k m.head m.carried) (has_called k (a ++ b)) (has_called k a) h (λ y. not_called k a b y)
+
+pub uncalled_late : (n : Node) (k : Key) (past : List Entry) → has_called k (sent_of past) ≡ false → is_new_to_act n k past ≡ true
+uncalled_late n k [] h = refl
+uncalled_late n k (e ∷ past) h = let none : has_called k (sent_of past) ≡ false = not_called k (sent_of past) e.sent h in late_by (has_begun n e.lines) (has_called k (sent_of past)) (is_new_to_act n k past) none (uncalled_late n k past none)
 
 -- ---- what holds of all that was sent
 

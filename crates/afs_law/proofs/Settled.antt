@@ -1,18 +1,20 @@
 -- Of each object that a client keeps: its calls that may change the object's volume, and for which it doesn't wait, are no later than the call
 -- by which it fetched that; or they were sent since, and a reply to them too, and none of these was given up. However many servers a cell has.
-use Rattle.afs_law.proofs.Following.{none_runs, Follows, begins_follow, falls_follow, given_follow, rises_follow, waits_follow}
+use Rattle.afs_law.proofs.Housed.{server_at}
+use Rattle.afs_law.proofs.Listing.{loc_uncalled}
+use Rattle.afs_law.proofs.Following.{none_runs, Follows, begins_follow, falls_follow, given_follow, rises_follow, waits_follow, sought_follow, missed_follow}
 use Rattle.afs_history.specs.declared.lines.Line.{Line}
 use Rattle.afs_history.specs.declared.lines.Line.TheVariants as lines
 use Rattle.afs_history.specs.declared.scripts.Script.{Script}
 use Rattle.afs_ideal.specs.Operations.{volume_changed}
-use Rattle.afs_law.proofs.Acting.{Acts, Asks, IsTheCall, begins_acts, falls_acts, given_acts, last_key, rises_acts, waits_acts, who_at}
-use Rattle.afs_law.proofs.Addressed.{HomesIn, IsHome, homes_first, homes_kept}
+use Rattle.afs_law.proofs.Acting.{Acts, Asks, IsTheCall, begins_acts, falls_acts, given_acts, last_key, rises_acts, waits_acts, who_at, IsPlaced, missed_acts, by_quiet, sought_quiet, runs_act}
+use Rattle.afs_law.proofs.Addressed.{HomesIn, IsHome, homes_first, homes_kept, IsServer, callee_server}
 use Rattle.afs_law.proofs.Apart.{found_filter}
 use Rattle.afs_law.proofs.Sent.{not_front}
 use Rattle.afs_law.proofs.Passing.{calls_both}
 use Rattle.afs_law.proofs.Backing.{all_lines}
-use Rattle.afs_law.proofs.Basics.{Below, Each, IfCall, IfReply, UpTo, at_put, both, client_number, each_at, found-cached-fid, each_map, each_more, if_call, same_fid-true, some_of, up_to_by}
-use Rattle.afs_law.proofs.Calling.{IsUncalled, begins_tame, uncalled_any, waits_tame}
+use Rattle.afs_law.proofs.Basics.{Below, Each, IfCall, IfReply, UpTo, at_put, both, client_number, each_at, found-cached-fid, each_map, each_more, if_call, same_fid-true, some_of, up_to_by, same_node-true}
+use Rattle.afs_law.proofs.Calling.{IsUncalled, begins_tame, uncalled_any, waits_tame, missed_tame}
 use Rattle.afs_law.proofs.Caused.{IsOfCallee}
 use Rattle.afs_law.proofs.Choosing.{disk_works, one_from, risen_from, risen_lines, serves_works, starts_works, times_works, wakes_works}
 use Rattle.afs_law.proofs.Due.{told_due, waiting_for}
@@ -21,13 +23,13 @@ use Rattle.afs_law.proofs.Words.{AreApart, IsOne}
 use Rattle.afs_law.proofs.Firm.{IsFirm}
 use Rattle.afs_law.proofs.Gifts.{Given}
 use Rattle.afs_law.proofs.Hearing.{HearsIn, IsHad, IsNoted, IsRan, client_given, kept_on}
-use Rattle.afs_law.proofs.Kept.{Keeps, KeptIn, begins_keep, given_keep, heard_now, kept_first, kept_kept, same_entries, waits_keep, drops_fetched}
+use Rattle.afs_law.proofs.Kept.{Keeps, KeptIn, begins_keep, given_keep, heard_now, kept_first, kept_kept, same_entries, waits_keep, drops_fetched, sought_keep, missed_keep}
 use Rattle.afs_law.proofs.KeysOnce.{IsKnown, any_told, by_key}
 use Rattle.afs_law.proofs.Knowing.{Known, served_uncalled, started_uncalled, timed_uncalled, woken_uncalled}
 use Rattle.afs_law.proofs.Moving.{Behind, EachMove, IsKept, each_moved}
-use Rattle.afs_law.proofs.Origins.{AskedIn, Leaves, any_cut, any_message, blow_idle, idle_leaves, idle_works, is_idle, next_key, of_client, other_leaves, same_key_at, the_calls, unsent, loc_idle}
+use Rattle.afs_law.proofs.Origins.{AskedIn, Leaves, any_cut, any_message, blow_idle, idle_leaves, idle_works, is_idle, next_key, of_client, other_leaves, same_key_at, the_calls, unsent, loc_idle, sought_acts_in, placed_in, told_in, handed_same}
 use Rattle.afs_law.proofs.Queued.{IsIn, in_at, in_front}
-use Rattle.afs_law.proofs.Timing.{GivenTimed, IsUntimed, Timed, Times, begun_times, none_times, row_times, timed_first, timed_kept, told_times}
+use Rattle.afs_law.proofs.Timing.{GivenTimed, IsUntimed, Timed, Times, begun_times, none_times, row_times, timed_first, timed_kept, told_times, sought_times, missed_times}
 use Rattle.afs_law.proofs.Trying.{WaitsIn, waits_first, waits_kept}
 use Rattle.afs_law.proofs.Using.{IsUseOf, fetched_use, of_home}
 use Rattle.afs_law.specs.Breaks.{HasTimeout}
@@ -50,14 +52,15 @@ use Rattle.afs_num.specs.declared.types.Fid.{Fid}
 use Rattle.afs_num.specs.declared.types.Head.{Head}
 use Rattle.afs_num.specs.declared.types.Key.{Key}
 use Rattle.afs_num.specs.declared.types.Node.{Node}
-use Rattle.afs_num.specs.declared.types.Node.TheVariants.{Client, Server}
+use Rattle.afs_num.specs.declared.types.Node.TheVariants.{Client, Server, Loc}
 use Rattle.afs_rows.specs.Callbacks.{put}
-use Rattle.afs_rows.specs.ClientRow.{admits_call, awaits, begin_row, breaks, call_of, client_row, counts, find_cached, gives_up, hears, ignores, is_awaited, left_in, reborn, runs_carried, server_at, timeout_row, tries_again, whole}
-use Rattle.afs_rows.specs.Going.{ClientState, Going}
+use Rattle.afs_rows.specs.ClientRow.{admits_call, awaits, begin_row, breaks, call_of, client_row, counts, find_cached, gives_up, hears, ignores, is_awaited, left_in, reborn, runs_carried, timeout_row, tries_again, whole, sought_by, seek_timeout_row, is_sought}
+use Rattle.afs_rows.specs.Going.{ClientState, Going, Seek}
 use Rattle.afs_history.specs.declared.acts.Act.{Act}
 use Rattle.afs_num.specs.declared.histories.Actor.TheVariants as actors
 use Rattle.afs_law.proofs.Steps.{blow_line, server_falls, server_moves, server_rises, server_set, server_stays, loc_becomes}
 use Rattle.afs_rows.specs.Runs.{Cell, Entry, at_rest, begun_by_disk, client_moves, in_boot, in_step, locations, message_at, start, ticked, voided}
+use Rattle.afs_law.proofs.Steps.{loc_becomes}
 use Rattle.afs_rows.specs.ServerRow.{key_of}
 use Rattle.afs_rows.specs.ServerSteps.{back_timeout_row, server_row, start_row, wake_row}
 use Rattle.afs_rows.specs.States.{CacheEntry}
@@ -74,7 +77,7 @@ before_fetch c f (e ∷ past) = if has_fetched c f e.lines then past else before
 
 -- the client didn't give the call up
 abbrev pub IsAlive : ℕ → Head → List Entry → Type 0
-IsAlive j head past = (q : Node) → HasTimeout (Client j) q head.epoch head.number 3 (lines_of past) → ⊥
+IsAlive j head past = (i : ℕ) → HasTimeout (Client j) (Server i) head.epoch head.number 3 (lines_of past) → ⊥
 
 -- it was sent since the object was fetched, and a reply to it too
 pub record IsOver (j : ℕ) (head : Head) (f : Fid) (sent : List Message) (past : List Entry) : Type 0 where
@@ -83,6 +86,7 @@ pub record IsOver (j : ℕ) (head : Head) (f : Fid) (sent : List Message) (past 
   pub among : IsIn answer sent
   pub code : HasCode answer.carried
   pub key : answered_key answer.head ≡ called_key head
+  pub from : IsServer answer.head.from
   pub alive : IsAlive j head past
 
 -- it is no later than the call that this answers, and earlier if it was given up
@@ -129,7 +133,7 @@ past_over j head m e past w (inl x) = inl x
 past_over j head m e past w (inr x) = inr (x.0, w x.1)
 
 over_over : (j : ℕ) (head : Head) (f : Fid) (sent ms : List Message) (e : Entry) (past : List Entry) → has_fetched (Client j) f e.lines ≡ false → (IsAlive j head past → IsAlive j head (e ∷ past)) → IsOver j head f sent past → IsOver j head f (sent ++ ms) (e ∷ past)
-over_over j head f sent ms e past none w x = record { later = unsent_before j (called_key head) f e past none x.later; answer = x.answer; among = in_front x.answer sent ms x.among; code = x.code; key = x.key; alive = w x.alive }
+over_over j head f sent ms e past none w x = record { later = unsent_before j (called_key head) f e past none x.later; answer = x.answer; among = in_front x.answer sent ms x.among; code = x.code; key = x.key; from = x.from; alive = w x.alive }
 
 passed_over : (j : ℕ) (x : ClientState) (f : Fid) (m : Message) (sent ms : List Message) (e : Entry) (past : List Entry) (head : Head) (user : List ℕ) (call : FsCall) → has_fetched (Client j) f e.lines ≡ false → (IsAlive j head past → IsAlive j head (e ∷ past)) → IsPassed j x f m sent past head user call → IsPassed j x f m (sent ++ ms) (e ∷ past) head user call
 passed_over j x f m sent ms e past head user call none w h from some away = elim (h from some away) [
@@ -158,7 +162,7 @@ else_keeping s j x sent ms e past f l new h =
       settled = settled_over s j x x sent (sent ++ ms) e past f S none
           (each_more (IfCall (IsPassed j x f S.reply (sent ++ ms) (e ∷ past))) sent ms
           (each_map (IfCall (IsPassed j x f S.reply sent past)) (IfCall (IsPassed j x f S.reply (sent ++ ms) (e ∷ past)))
-          (if_call (IsPassed j x f S.reply sent past) (IsPassed j x f S.reply (sent ++ ms) (e ∷ past)) (λ head user call. passed_over j x f S.reply sent ms e past head user call none (λ a q z. a q (l.timed q head.epoch head.number 3 z)))) sent S.calls)
+          (if_call (IsPassed j x f S.reply sent past) (IsPassed j x f S.reply (sent ++ ms) (e ∷ past)) (λ head user call. passed_over j x f S.reply sent ms e past head user call none (λ a i z. a i (l.timed (Server i) head.epoch head.number 3 z)))) sent S.calls)
           (new S.reply));
       fresh = λ act run. unsent_before j (last_key j x) f e past none (h.fresh act run);
     }
@@ -176,6 +180,7 @@ pub record Answers (n : ℕ) (c : ClientState) (sent : List Message) (st : Step 
   pub among : IsIn answer sent
   pub code : HasCode answer.carried
   pub key : answered_key answer.head ≡ last_key n c
+  pub from : IsServer answer.head.from
   pub quiet : IsUntimed n st
 
 -- or what it may have changed was dropped
@@ -221,14 +226,17 @@ record Base (s : Script) (n : ℕ) (c : ClientState) (sent : List Message) (past
   known : Each (IfCall (λ head user call. head.from ≡ Client n → UpTo head.epoch head.number c.epoch c.last)) sent
   ones : Each (IfCall (IsOne sent)) sent
 
+no_loc : (i : ℕ) → Server i ≡ Loc → ⊥
+no_loc i e = cc
+
 -- a call that was sent before, of an entry that was there
 old_passed : (s : Script) (n : ℕ) (c : ClientState) (st : Step ClientState) (sent : List Message) (past : List Entry) (f : Fid) (m : Message) (e : CacheEntry) → Base s n c sent past → Ends n c sent st → Times n c st → IsFresh n c f past → has_fetched (Client n) f st.lines ≡ false → find_cached f st.state.cache ≡ Some e
     → (head : Head) (user : List ℕ) (call : FsCall) → IsOne sent head user call → IsPassed n c f m sent past head user call → IsPassed n st.state f m (sent ++ st.sent) (of_client n st ∷ past) head user call
 old_passed s n c st sent past f m e b ends times fresh none found head user call one h from some not_ = elim (awaited_or c head) [
   | inr away ↦
-      (let alive : IsAlive n head past → IsAlive n head (of_client n st ∷ past) = λ a q z. elim (times q head.epoch head.number 3 (lines_of past) z) [
-        | inl old ↦ a q old
-        | inr new ↦ away (record { act = new.act; runs = new.runs; epoch = new.epoch; number = new.number })
+      (let alive : IsAlive n head past → IsAlive n head (of_client n st ∷ past) = λ a i z. elim (times (Server i) head.epoch head.number 3 (lines_of past) z) [
+        | inl old ↦ a i old
+        | inr new ↦ (let r = new.runs (no_loc i) in away (record { act = r.0; runs = r.1; epoch = new.epoch; number = new.number }))
       ] in
       passed_over n c f m sent st.sent (of_client n st) past head user call none alive h from some away)
   | inl w ↦ elim (ends w.act w.runs) [
@@ -242,7 +250,8 @@ old_passed s n c st sent past f m e b ends times fresh none found head user call
             among = in_front ans.answer sent st.sent ans.among;
             code = ans.code;
             key = ans.key ∙ sym key;
-            alive = λ q z. b.timed.alive w.act w.runs q (subst (λ (x : ℕ). HasTimeout (Client n) q x c.last 3 (lines_of past)) w.epoch (subst (λ (x : ℕ). HasTimeout (Client n) q head.epoch x 3 (lines_of past)) w.number (ans.quiet q head.epoch head.number 3 (lines_of past) z)));
+            from = ans.from;
+            alive = λ i z. b.timed.alive w.act (runs_act c w.act w.runs) (Server i) (subst (λ (x : ℕ). HasTimeout (Client n) (Server i) x c.last 3 (lines_of past)) w.epoch (subst (λ (x : ℕ). HasTimeout (Client n) (Server i) head.epoch x 3 (lines_of past)) w.number (ans.quiet (Server i) head.epoch head.number 3 (lines_of past) z)));
           })
           | inr drops ↦
               (let same : (user, call) ≡ (c.user, call_of c w.act) = some_of (user, call) (c.user, call_of c w.act) (sym one ∙ (ap (λ (k : Key). call_under k sent) key ∙ b.last w.act w.runs)) in
@@ -261,7 +270,7 @@ fetched_passed s n c st sent past f m b x head user call up from some not_ = inl
   | inl below ↦ inl (subst (λ (k : ℕ). Below head.epoch head.number m.head.epoch k) (sym x.number) (subst (λ (k : ℕ). Below head.epoch head.number k c.last) (sym x.epoch) below))
   | inr same ↦ inr (
     (same.0 ∙ sym x.epoch, same.1 ∙ sym x.number),
-    λ q z. b.timed.alive x.act x.runs q (subst (λ (k : ℕ). HasTimeout (Client n) q k c.last 3 (lines_of past)) same.0 (subst (λ (k : ℕ). HasTimeout (Client n) q head.epoch k 3 (lines_of past)) same.1 (x.quiet q head.epoch head.number 3 (lines_of past) z))),
+    λ i z. b.timed.alive x.act (runs_act c x.act x.runs) (Server i) (subst (λ (k : ℕ). HasTimeout (Client n) (Server i) k c.last 3 (lines_of past)) same.0 (subst (λ (k : ℕ). HasTimeout (Client n) (Server i) head.epoch k 3 (lines_of past)) same.1 (x.quiet (Server i) head.epoch head.number 3 (lines_of past) z))),
   )
 ])
 
@@ -481,10 +490,10 @@ waits_ends : (n : ℕ) (c : ClientState) (sent : List Message) (act : Going) (t 
 waits_ends n c sent act true apart r a run = inl (record { running = refl; epoch = refl; last = refl })
 waits_ends n c sent act false apart r a run = inr (inr (λ f e is found. none_left (volume_changed (call_of c act)) f c.cache e apart (ap (λ (g : Going). volume_changed (call_of c g)) (some_of act a (sym r ∙ run)) ∙ is) found))
 
-told_ends : (s : Script) (c : Cell) (past : List Entry) (n place : ℕ) (m : Message) → message_at c.sent place ≡ Some m → m.head.to ≡ Client n → IsUntimed n (client_row (Client n) (c.clients n) c.clock place (Whole m)) → Ends n (c.clients n) c.sent (client_row (Client n) (c.clients n) c.clock place (Whole m))
-told_ends s c past n place m at to quiet act run = elim (row_fate n (c.clients n) c.clock place m) [
+told_ends : (s : Script) (c : Cell) (past : List Entry) (n place : ℕ) (m : Message) → HomesIn s c past → message_at c.sent place ≡ Some m → m.head.to ≡ Client n → IsUntimed n (client_row (Client n) (c.clients n) c.clock place (Whole m)) → Ends n (c.clients n) c.sent (client_row (Client n) (c.clients n) c.clock place (Whole m))
+told_ends s c past n place m H at to quiet act run = elim (row_fate n (c.clients n) c.clock place m) [
   | inl w ↦ inl w.0
-  | inr w ↦ inr (inl (record { answer = m; among = in_at c.sent place m at; code = w.1.1.1; key = sym (its_key n (c.clients n) w.0 m.head to w.1.1.0); quiet = quiet }))
+  | inr w ↦ inr (inl (record { answer = m; among = in_at c.sent place m at; code = w.1.1.1; key = sym (its_key n (c.clients n) w.0 m.head to w.1.1.0); from = (let server : IsServer (c.clients n).callee = callee_server n c.clients w.0 H.0.0 H.0.1 w.1.0 in (server.0, same_node-true m.head.from (c.clients n).callee (both (same_node m.head.from (c.clients n).callee) _ w.1.1.0).0 ∙ server.1)); quiet = quiet }))
 ]
 
 told_fetches : (s : Script) (c : Cell) (past : List Entry) (n place : ℕ) (m : Message) → Grounds s c past → message_at c.sent place ≡ Some m → m.head.to ≡ Client n → Acts n (who_at (c.clients n)) (c.clients n).gifts (client_row (Client n) (c.clients n) c.clock place (Whole m)) → IsUntimed n (client_row (Client n) (c.clients n) c.clock place (Whole m))
@@ -501,10 +510,11 @@ told_fetches s c past n place m g at to a quiet f x has given =
           (let p = both (same_node m.head.from (c.clients n).callee) _ w.1.1.0 in
           let q = both (nat_eq m.head.epoch (c.clients n).epoch) _ p.1 in
           let u = both (nat_eq m.head.number (c.clients n).last) _ q.1 in
-          let using : IsUseOf s (Client n) f m past = fetched_use s (Client n) f m (actors.Node (Client n)) past [] st.lines (a.each s past (A.table n) (A.acts n)) (told_due s n c.clock place (c.clients n) m past (waiting_for s c past n place m (given_of s c past g, g.waits) at to)) (inr (refl, given ∙ ap (λ (y : Message). Some y) (sym same))) has in
+          let using : IsUseOf s (Client n) f m past = fetched_use s (Client n) f m (actors.Node (Client n)) past [] st.lines (a.each s past (A.table n) (A.acts n)) (told_due s n c.clock place (c.clients n) m past (waiting_for s c past n place m (given_of s c past g, g.waits) g.homes at to)) (inr (refl, given ∙ ap (λ (y : Message). Some y) (sym same))) has in
           let each : (T : Message → Type 0) → Each T c.sent → Each T (sent_of past) = λ T all. subst (Each T) (sym K.hears.told) all in
+          let server : IsServer (c.clients n).callee = callee_server n c.clients w.0 g.homes.0.0 g.homes.0.1 w.1.0 in
           let home : m.head.from ≡ Server (server_at (locations s) f.volume) =
-          of_home s K.keys.callees c.clients n f m past using w.1.1.1 to (each_at (IfReply (IsOfCallee K.keys.callees c.clients)) c.sent place m at K.keys.answers) (each _ K.keys.calls) (each (IfCall (IsHome s)) g.homes.1) in
+          of_home s K.keys.callees c.clients n f m past using w.1.1.1 to server.0 (same_node-true m.head.from (c.clients n).callee p.0 ∙ server.1) (each_at (IfReply (IsOfCallee K.keys.callees c.clients)) c.sent place m at K.keys.answers) (each _ K.keys.calls) (each (IfCall (IsHome s)) g.homes.1) in
           record {
             act = w.0;
             runs = w.1.0;
@@ -522,12 +532,12 @@ told_settled s c past n place m h at to =
     let a = given_acts (by_key (IsKnown K.keys.callees c.clients)) any_told n (c.clients n) c.clock place m (K.keys.replies n) ((asked_of s c past h.0).seats n) in
     let quiet : IsUntimed n (client_row (Client n) (c.clients n) c.clock place (Whole m)) = told_times s c past n place m h.0.timed.0 at to a in
     client_settled s c past n (client_row (Client n) (c.clients n) c.clock place (Whole m)) h a (given_follow n (c.clients n) c.clock place m (G.1 n).0 (each_at (λ m. IsFirm m.head m.carried) c.sent place m at G.0.1))
-    (given_keep n c.clock place (c.clients n) m past (h.0.kept n).0 (heard_now s c past n place m G at to)) (told_ends s c past n place m at to quiet) (none_times n (c.clients n) (client_row (Client n) (c.clients n) c.clock place (Whole m)) quiet) (told_fetches s c past n place m h.0 at to a quiet)
+    (given_keep n c.clock place (c.clients n) m past (h.0.kept n).0 (heard_now s c past n place m G at to)) (told_ends s c past n place m h.0.homes at to quiet) (none_times n (c.clients n) (client_row (Client n) (c.clients n) c.clock place (Whole m)) quiet) (told_fetches s c past n place m h.0 at to a quiet)
 
-begun_settled : (s : Script) (c : Cell) (past : List Entry) (n : ℕ) (act : Act) → GivenSettled s c past → (c.clients n).running ≡ None → Behind (SettledIn s) c past (client_moves c n (begin_row (Client n) (c.clients n) c.clock act))
-begun_settled s c past n act h r =
+begun_settled : (s : Script) (c : Cell) (past : List Entry) (n : ℕ) (act : Act) → GivenSettled s c past → (c.clients n).running ≡ None → (c.clients n).seeking ≡ None → Behind (SettledIn s) c past (client_moves c n (begin_row (Client n) (c.clients n) c.clock act))
+begun_settled s c past n act h r z =
     let st : Step ClientState = begin_row (Client n) (c.clients n) c.clock act in
-    let a = begins_acts n (c.clients n) c.clock act r in
+    let a = begins_acts n (c.clients n) c.clock act r z in
     let H : HearsIn c past = (known_of s c past h.0).hears in
     client_settled s c past n st h a (begins_follow n (c.clients n) c.clock act ((given_of s c past h.0).1 n).0 r) (begins_keep n c.clock (c.clients n) act past (h.0.kept n).0) (none_ends n (c.clients n) c.sent st r)
     (none_times n (c.clients n) st (begun_times s c past n act h.0.timed.0 a)) (none_fetches s n (c.clients n) past st ((begins_tame (IsRan (of_client n st ∷ past)) (IsNoted c.hosts) (IsHad c.hosts) n (c.clients n) c.clock act (kept_on c past (of_client n st) n H)).given (sent_of past)))
@@ -539,17 +549,40 @@ waited_settled s c past n act h r =
     client_settled s c past n st h (waits_acts n (c.clients n) act r) (waits_follow n (c.clients n) act ((given_of s c past h.0).1 n).0) (waits_keep n (c.clients n) act past (h.0.kept n).0) (waits_ends n (c.clients n) c.sent act (nat_lt (c.clients n).tries 2) (h.0.kept n).0 r) (row_times n (c.clients n) act r)
     (none_fetches s n (c.clients n) past st ((waits_tame (IsRan (of_client n st ∷ past)) (IsNoted c.hosts) (IsHad c.hosts) n (c.clients n) act r (kept_on c past (of_client n st) n H)).given (sent_of past)))
 
+-- an act that waits for the location database fetches nothing
+sought_fetches : (s : Script) (c : Cell) (past : List Entry) (n place : ℕ) (m : Message) (k : Seek) → AskedIn s c past → message_at c.sent place ≡ Some m → (c.clients n).seeking ≡ Some k → is_sought (Client n) (c.clients n) k m.head m.carried ≡ true → (f : Fid) → has_fetched (Client n) f (sought_by (Client n) (c.clients n) c.clock place k m.head m.carried).lines ≡ false
+sought_fetches s c past n place m k A at z e =
+    by_quiet (λ st. (f : Fid) → has_fetched (Client n) f st.lines ≡ false) n (c.clients n) place k m.head m.carried (sought_by (Client n) (c.clients n) c.clock place k m.head m.carried) (sought_quiet s n (c.clients n) c.clock place k m.head m.carried (placed_in s c past n k A z) (told_in s c past n place m k A at e))
+    (λ code x y f. refl) (λ f. refl) (λ f. refl)
+
+sought_settled : (s : Script) (c : Cell) (past : List Entry) (n place : ℕ) (m : Message) (k : Seek) → GivenSettled s c past → message_at c.sent place ≡ Some m → (c.clients n).seeking ≡ Some k → is_sought (Client n) (c.clients n) k m.head m.carried ≡ true → Behind (SettledIn s) c past (client_moves c n (sought_by (Client n) (c.clients n) c.clock place k m.head m.carried))
+sought_settled s c past n place m k h at z e =
+    let A : AskedIn s c past = asked_of s c past h.0 in
+    let st : Step ClientState = sought_by (Client n) (c.clients n) c.clock place k m.head m.carried in
+    let p : IsPlaced s (c.clients n) k = placed_in s c past n k A z in
+    client_settled s c past n st h (sought_acts_in s c past n place m k A at z e) (sought_follow s n (c.clients n) c.clock place k m.head m.carried p (told_in s c past n place m k A at e) ((given_of s c past h.0).1 n).0) (sought_keep s n (c.clients n) c.clock place k m past p (told_in s c past n place m k A at e) (h.0.kept n).0)
+    (none_ends n (c.clients n) c.sent st p.idle) (none_times n (c.clients n) st (sought_times s c past n place m k A at z e)) (λ f x has given. (let no_ : false ≡ true = sym (sought_fetches s c past n place m k A at z e f) ∙ has in absurd cc))
+
+missed_settled : (s : Script) (c : Cell) (past : List Entry) (n : ℕ) (k : Seek) → GivenSettled s c past → (c.clients n).running ≡ None → (c.clients n).seeking ≡ Some k → Behind (SettledIn s) c past (client_moves c n (seek_timeout_row (Client n) (c.clients n) k))
+missed_settled s c past n k h r z =
+    let st : Step ClientState = seek_timeout_row (Client n) (c.clients n) k in
+    let H : HearsIn c past = (known_of s c past h.0).hears in
+    client_settled s c past n st h (missed_acts n (c.clients n) k r z) (missed_follow n (c.clients n) k r ((given_of s c past h.0).1 n).0) (missed_keep n (c.clients n) k past (h.0.kept n).0) (none_ends n (c.clients n) c.sent st r) (missed_times n (c.clients n) k r ((asked_of s c past h.0).seeks n k z).callee)
+    (none_fetches s n (c.clients n) past st ((missed_tame (IsRan (of_client n st ∷ past)) (IsNoted c.hosts) (IsHad c.hosts) n (c.clients n) k (kept_on c past (of_client n st) n H)).given (sent_of past)))
+
 settled_moves : (s : Script) → EachMove (GivenSettled s) (Behind (SettledIn s))
 settled_moves s = record {
   void = λ c past h. quiet_settled s c past (voided c).entry h refl;
   ticked = λ c past n h. quiet_settled s c past (ticked c (suc n)).entry h refl;
-  begun = λ c past n act h r. begun_settled s c past n act h r;
+  begun = λ c past n act h r z. begun_settled s c past n act h r z;
   told = λ c past n place m h at to. told_settled s c past n place m h at to;
+  sought = λ c past n place m k h at to z e. sought_settled s c past n place m k h at z e;
+  missed = λ c past n k h r z. missed_settled s c past n k h r z;
+  loc = λ c past l ls ms h st. idle_settled s c past (loc_becomes c l ls ms).entry ms h (loc_idle ls st.lines) (loc_uncalled c l ls ms st);
   waited = λ c past n act h r. waited_settled s c past n act h r;
-  fallen = λ c past n h. client_settled s c past n (record { state = reborn (c.clients n); lines = lines.Crash (Client n) ∷ []; sent = [] }) h (falls_acts n (c.clients n)) (falls_follow n (c.clients n)) (record { apart = tt; each = λ f e found. absurd cc }) (λ act run. inr (inr (λ f e is found. absurd cc))) (λ q e k i o x. inl x) (λ f m has given. absurd cc);
+  fallen = λ c past n h. client_settled s c past n (record { state = reborn c.handed (c.clients n); lines = lines.Crash (Client n) ∷ []; sent = [] }) h (falls_acts n c.handed (c.clients n) (handed_same s c past (asked_of s c past h.0) n)) (falls_follow n c.handed (c.clients n)) (record { apart = tt; each = λ f e found. absurd cc }) (λ act run. inr (inr (λ f e is found. absurd cc))) (λ q e k i o x. inl x) (λ f m has given. absurd cc);
   risen = λ c past n h. client_settled s c past n (record { state = c.clients n; lines = lines.Restart (Client n) (c.clients n).epoch ∷ []; sent = [] }) h (rises_acts n (c.clients n)) (rises_follow n (c.clients n) ((given_of s c past h.0).1 n).0)
       (record { apart = (h.0.kept n).0; each = λ f e found. same_entries n (c.clients n).cache past (lines.Restart (Client n) (c.clients n).epoch ∷ []) (record { fetched = λ g. refl; spares = λ q g o x. x }) f e found }) (λ act run. inl (stays_here (c.clients n))) (λ q e k i o x. inl x) (λ f m has given. absurd cc);
-  loc = λ c past l ls h st. quiet_settled s c past (loc_becomes c l ls).entry h (loc_idle ls st.lines);
   served = λ c past i place m armed h up at to. idle_settled s c past (server_moves c i armed (server_row (Server i) (c.hosts i).state c.clock place (Whole m))).entry (server_row (Server i) (c.hosts i).state c.clock place (Whole m)).sent h (idle_works any_message i (c.hosts i).state _ _ (serves_works any_message (Server i) (c.hosts i).state c.clock place m (λ rest. tt))) (served_uncalled c past i place m (known_of s c past h.0) at);
   cut = λ c past i place m t h up at to. quiet_settled s c past (server_falls c i (lines.Given place ∷ blow_line i t.stops ∷ []) (in_step m c.clock t)).entry h (blow_idle i t.stops);
   stopped = λ c past i h up. quiet_settled s c past (server_falls c i (lines.Crash (Server i) ∷ []) at_rest).entry h refl;
@@ -566,10 +599,10 @@ settled_moves s = record {
 }
 
 pub settled_kept : (s : Script) → IsKept (GivenSettled s)
-settled_kept s c past x h =
+settled_kept s c past x so h =
     let G : Given s c past = given_of s c past h.0 in (
-      record { timed = timed_kept s c past x h.0.timed; kept = (kept_kept s c past x (G, h.0.kept)).1; homes = (homes_kept s c past x (G, h.0.homes)).1; waits = (waits_kept s c past x (G, h.0.waits)).1 },
-      each_moved (GivenSettled s) (Behind (SettledIn s)) (settled_moves s) c past x h,
+      record { timed = timed_kept s c past x so h.0.timed; kept = (kept_kept s c past x so (G, h.0.kept)).1; homes = (homes_kept s c past x so (G, h.0.homes)).1; waits = (waits_kept s c past x so (G, h.0.waits)).1 },
+      each_moved (GivenSettled s) (Behind (SettledIn s)) (settled_moves s) c past x so h,
     )
 
 pub settled_first : (s : Script) → GivenSettled s (start s) (set_up s ∷ [])

@@ -1,10 +1,11 @@
 -- While a client waits for a call it reads nothing and is answered nothing; and unless the reply is spoiled it dropped nothing since that
 -- the call names, however many servers a cell has.
-use Rattle.afs_law.proofs.Following.{none_runs, Follows, WaitsOn, begins_follow, falls_follow, given_follow, rises_follow, waits_follow}
+use Rattle.afs_law.proofs.Listing.{}
+use Rattle.afs_law.proofs.Following.{none_runs, Follows, WaitsOn, begins_follow, falls_follow, given_follow, rises_follow, waits_follow, sought_follow, missed_follow}
 use Rattle.afs_history.specs.declared.lines.Line.{Line}
 use Rattle.afs_history.specs.declared.lines.Line.TheVariants as lines
 use Rattle.afs_history.specs.declared.scripts.Script.{Script}
-use Rattle.afs_law.proofs.Acting.{Acts, begins_acts, falls_acts, given_acts, last_key, rises_acts, waits_acts, who_at}
+use Rattle.afs_law.proofs.Acting.{Acts, begins_acts, falls_acts, given_acts, last_key, rises_acts, waits_acts, who_at, missed_acts}
 use Rattle.afs_law.proofs.Backing.{all_lines}
 use Rattle.afs_law.proofs.Basics.{at_put, client_number, each_at, same_key-refl}
 use Rattle.afs_law.proofs.Choosing.{disk_works, one_from, risen_from, risen_lines, serves_works, starts_works, times_works, wakes_works}
@@ -12,7 +13,7 @@ use Rattle.afs_law.proofs.Firm.{IsFirm}
 use Rattle.afs_law.proofs.Gifts.{Given, given_first, given_kept}
 use Rattle.afs_law.proofs.KeysOnce.{IsKnown, any_told, by_key}
 use Rattle.afs_law.proofs.Moving.{Behind, EachMove, IsKept, each_moved, run_keeps}
-use Rattle.afs_law.proofs.Origins.{AskedIn, any_cut, any_message, blow_idle, idle_leaves, idle_works, is_idle, next_key, of_client, other_leaves, same_key_at, unsent, loc_idle}
+use Rattle.afs_law.proofs.Origins.{AskedIn, any_cut, any_message, blow_idle, idle_leaves, idle_works, is_idle, next_key, of_client, other_leaves, same_key_at, unsent, loc_idle, sought_acts_in, placed_in, told_in, handed_same}
 use Rattle.afs_law.proofs.Knowing.{Known}
 use Rattle.afs_law.specs.ClientParts.{IsUnspoiled, WaitsAreSilent, is_silent}
 use Rattle.afs_law.specs.Grants.{IsDropped}
@@ -30,6 +31,7 @@ use Rattle.afs_rows.specs.ClientRow.{call_by, call_of, names_call}
 use Rattle.afs_rows.specs.Going.{ClientState, Going, next}
 use Rattle.afs_law.proofs.Steps.{blow_line, server_falls, server_moves, server_rises, server_set, server_stays, loc_becomes}
 use Rattle.afs_rows.specs.Runs.{Cell, Entry, at_rest, begun_by_disk, in_boot, in_step, start, ticked, voided}
+use Rattle.afs_law.proofs.Steps.{loc_becomes}
 use Rattle.afs_rows.specs.ServerSteps.{back_timeout_row, server_row, wake_row}
 use Rattle.afs_rows.specs.States.{Gift}
 use Rattle.afs_rows.specs.Steps.{Step}
@@ -116,12 +118,14 @@ silent_moves : (s : Script) → EachMove (GivenSilent s) (Behind SilentIn)
 silent_moves s = record {
   void = λ c past h. idle_silent s c past (voided c).entry h.1 (λ j z. absurd cc) refl;
   ticked = λ c past n h. idle_silent s c past (ticked c (suc n)).entry h.1 (λ j z. absurd cc) refl;
-  begun = λ c past n act h r. client_silent s c past n _ h (begins_acts n (c.clients n) c.clock act r) (begins_follow n (c.clients n) c.clock act (h.0.1 n).0 r);
+  begun = λ c past n act h r z. client_silent s c past n _ h (begins_acts n (c.clients n) c.clock act r z) (begins_follow n (c.clients n) c.clock act (h.0.1 n).0 r);
   told = λ c past n place m h at to. client_silent s c past n _ h (given_acts (by_key (IsKnown h.0.0.0.0.0.keys.callees c.clients)) any_told n (c.clients n) c.clock place m (h.0.0.0.0.0.keys.replies n) (h.0.0.0.0.1.seats n)) (given_follow n (c.clients n) c.clock place m (h.0.1 n).0 (each_at (λ m. IsFirm m.head m.carried) c.sent place m at h.0.0.1));
+  sought = λ c past n place m k h at to z e. client_silent s c past n _ h (sought_acts_in s c past n place m k h.0.0.0.0.1 at z e) (sought_follow s n (c.clients n) c.clock place k m.head m.carried (placed_in s c past n k h.0.0.0.0.1 z) (told_in s c past n place m k h.0.0.0.0.1 at e) (h.0.1 n).0);
+  missed = λ c past n k h r z. client_silent s c past n _ h (missed_acts n (c.clients n) k r z) (missed_follow n (c.clients n) k r (h.0.1 n).0);
   waited = λ c past n act h r. client_silent s c past n _ h (waits_acts n (c.clients n) act r) (waits_follow n (c.clients n) act (h.0.1 n).0);
-  fallen = λ c past n h. client_silent s c past n _ h (falls_acts n (c.clients n)) (falls_follow n (c.clients n));
+  fallen = λ c past n h. client_silent s c past n _ h (falls_acts n c.handed (c.clients n) (handed_same s c past (h.0.0.0.0.1) n)) (falls_follow n c.handed (c.clients n));
   risen = λ c past n h. client_silent s c past n _ h (rises_acts n (c.clients n)) (rises_follow n (c.clients n) (h.0.1 n).0);
-  loc = λ c past l ls h st. idle_silent s c past (loc_becomes c l ls).entry h.1 (λ j z. absurd cc) (loc_idle ls st.lines);
+  loc = λ c past l ls ms h st. idle_silent s c past (loc_becomes c l ls ms).entry h.1 (λ j z. absurd cc) (loc_idle ls st.lines);
   served = λ c past i place m armed h up at to. idle_silent s c past (server_moves c i armed (server_row (Server i) (c.hosts i).state c.clock place (Whole m))).entry h.1 (λ j z. absurd cc) (idle_works any_message i (c.hosts i).state _ _ (serves_works any_message (Server i) (c.hosts i).state c.clock place m (λ rest. tt)));
   cut = λ c past i place m t h up at to. idle_silent s c past (server_falls c i (lines.Given place ∷ blow_line i t.stops ∷ []) (in_step m c.clock t)).entry h.1 (λ j z. absurd cc) (blow_idle i t.stops);
   stopped = λ c past i h up. idle_silent s c past (server_falls c i (lines.Crash (Server i) ∷ []) at_rest).entry h.1 (λ j z. absurd cc) refl;
@@ -136,10 +140,10 @@ silent_moves s = record {
 }
 
 pub silent_kept : (s : Script) → IsKept (GivenSilent s)
-silent_kept s c past x h = (given_kept s c past x h.0, each_moved (GivenSilent s) (Behind SilentIn) (silent_moves s) c past x h)
+silent_kept s c past x so h = (given_kept s c past x so h.0, each_moved (GivenSilent s) (Behind SilentIn) (silent_moves s) c past x so h)
 
 pub silent_first : (s : Script) → GivenSilent s (start s) (set_up s ∷ [])
 silent_first s = (given_first s, λ j act r. absurd cc)
 
 pub run_silent : WaitsAreSilent
-run_silent s h end r j act run = (run_keeps (GivenSilent s) (silent_kept s) r.inputs (start s) (set_up s ∷ []) h end (silent_first s) r.leads).1 j act run
+run_silent s h end r j act run = (run_keeps (GivenSilent s) (silent_kept s) r.inputs s (set_up s ∷ []) h end (silent_first s) r.leads).1 j act run

@@ -37,7 +37,7 @@ use Rattle.afs_num.specs.declared.types.Head.{Head}
 use Rattle.afs_num.specs.declared.types.Node.{Node}
 use Rattle.afs_num.specs.declared.types.Node.TheVariants.{Admin, Client, Loc, Server}
 use Rattle.afs_rows.specs.Callbacks.{Started, Turn, asked_again, carries_for, expired, fids_found, first_of, held_after, held_under, is_back_awaited, is_for, is_ready, is_seat_of, key_answered, most_breaks, no_turn, owe_line, pumped, put, put_at, quit_line, quits, renews, renews_by, repeats_by, retries, risen_turn, settle_line, settles, settles_by, started_call, starts, starts_by, still_owed, timed, turn_for, turned_by, turned_in}
-use Rattle.afs_rows.specs.ClientRow.{begin_row, client_row, timeout_row}
+use Rattle.afs_rows.specs.ClientRow.{begin_row, client_row, timeout_row, seek_timeout_row, sought_by}
 use Rattle.afs_law.proofs.Steps.{blow_line, server_falls, server_moves, server_set, server_stays, loc_becomes}
 use Rattle.afs_rows.specs.Runs.{Armed, Cell, Entry, Fall, Moved, at_rest, begun_by_disk, client_falls, client_moves, client_rises, in_boot, in_step, start, ticked, unarmed, voided, ServerHost}
 use Rattle.afs_rows.specs.ServerRow.{Change, Decision, Reading, begun_after, decides, does, drops, granted, granted_in, made, promise_ticks, refuses, repeats, revived, saves, shows, tells_boot, versioned}
@@ -790,12 +790,14 @@ singly_moves : (s : Script) → EachMove (PlacedSingly s) SinglyStep
 singly_moves s = (let q : EachMove (Placed s) (PlacedStep s) = placed_moves s in record {
   void = λ c past h. besides_single s c past (voided c) h (q.void c past h.0) (λ i e. absurd cc) refl;
   ticked = λ c past n h. besides_single s c past (ticked c (suc n)) h (q.ticked c past n h.0) (λ i e. absurd cc) refl;
-  begun = λ c past n act h r. besides_single s c past (client_moves c n (begin_row (Client n) (c.clients n) c.clock act)) h (q.begun c past n act h.0 r) (λ i e. absurd cc) refl;
+  begun = λ c past n act h r z0. besides_single s c past (client_moves c n (begin_row (Client n) (c.clients n) c.clock act)) h (q.begun c past n act h.0 r z0) (λ i e. absurd cc) refl;
   told = λ c past n place m h at to. besides_single s c past (client_moves c n (client_row (Client n) (c.clients n) c.clock place (Whole m))) h (q.told c past n place m h.0 at to) (λ i e. absurd cc) refl;
+  sought = λ c past n place m k h at to z e. besides_single s c past (client_moves c n (sought_by (Client n) (c.clients n) c.clock place k m.head m.carried)) h (q.sought c past n place m k h.0 at to z e) (λ i e'. absurd cc) refl;
+  missed = λ c past n k h r z. besides_single s c past (client_moves c n (seek_timeout_row (Client n) (c.clients n) k)) h (q.missed c past n k h.0 r z) (λ i e'. absurd cc) refl;
+  loc = λ c past l ls ms h st. besides_single s c past (loc_becomes c l ls ms) h (q.loc c past l ls ms h.0 st) (λ i e'. absurd cc) refl;
   waited = λ c past n act h r. besides_single s c past (client_moves c n (timeout_row (Client n) (c.clients n) act)) h (q.waited c past n act h.0 r) (λ i e. absurd cc) refl;
   fallen = λ c past n h. besides_single s c past (client_falls c n) h (q.fallen c past n h.0) (λ i e. absurd cc) refl;
   risen = λ c past n h. besides_single s c past (client_rises c n) h (q.risen c past n h.0) (λ i e. absurd cc) refl;
-  loc = λ c past l ls h st. besides_single s c past (loc_becomes c l ls) h (q.loc c past l ls h.0 st) (λ i e'. absurd cc) refl;
   served = λ c past i place m armed h up at to. up_single s c past i armed (server_row (Server i) (c.hosts i).state c.clock place (Whole m)) h (q.served c past i place m armed h.0 up at to) (served_ends (Server i) (c.hosts i).state c.clock place m past (up_now c past i h.1 up));
   cut = λ c past i place m t h up at to. falls_single s c past i (lines.Given place ∷ blow_line i t.stops ∷ []) (in_step m c.clock t) h (q.cut c past i place m t h.0 up at to) (blow_breakless i t.stops) (blow_none i t.stops (lines.Given place ∷ lines_of past));
   stopped = λ c past i h up. falls_single s c past i (lines.Crash (Server i) ∷ []) at_rest h (q.stopped c past i h.0 up) refl (blow_none i true (lines_of past));
@@ -815,7 +817,7 @@ singly_moves s = (let q : EachMove (Placed s) (PlacedStep s) = placed_moves s in
     blow_breakless i false = refl
 
 singly_kept : (s : Script) → IsKept (PlacedSingly s)
-singly_kept s c past x h = (placed_kept s c past x h.0, (each_moved (PlacedSingly s) SinglyStep (singly_moves s) c past x h).singly)
+singly_kept s c past x so h = (placed_kept s c past x so h.0, (each_moved (PlacedSingly s) SinglyStep (singly_moves s) c past x so h).singly)
 
 singly_first : (s : Script) → PlacedSingly s (start s) (set_up s ∷ [])
 singly_first s = (
@@ -837,4 +839,4 @@ singly_first s = (
 
 pub run_singly : BreaksAreOnce
 run_singly s h end r =
-    run_each (PlacedSingly s) (λ past e. EachLine IsBreakOnce e.actor past [] e.lines) (singly_kept s) (λ c past x k. (each_moved (PlacedSingly s) SinglyStep (singly_moves s) c past x k).once) r.inputs (start s) (set_up s ∷ []) h end (singly_first s) r.leads
+    run_each (PlacedSingly s) (λ past e. EachLine IsBreakOnce e.actor past [] e.lines) (singly_kept s) (λ c past x so k. (each_moved (PlacedSingly s) SinglyStep (singly_moves s) c past x so k).once) r.inputs s (set_up s ∷ []) h end (singly_first s) r.leads

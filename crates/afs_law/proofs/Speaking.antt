@@ -1,13 +1,16 @@
 -- What a client tells servers that call it, however many a cell has: that it was given their calls, and dropped what those break.
+use Rattle.afs_law.specs.LocLaws.{IsToldIn}
+use Rattle.afs_history.specs.declared.scripts.Script.{Script}
+use Rattle.afs_history.specs.declared.acts.Operand.{Operand}
 use Rattle.afs_history.specs.declared.acts.Act.{Act}
 use Rattle.afs_history.specs.declared.lines.Line.{Line}
 use Rattle.afs_history.specs.declared.lines.Line.TheVariants as lines
-use Rattle.afs_law.proofs.Acting.{is_of}
+use Rattle.afs_law.proofs.Acting.{is_of, IsPlaced, by_quiet, sought_quiet}
 use Rattle.afs_law.proofs.Backing.{Plain, all_lines, drop_onto, is_oweless, is_still, is_unchanging, is_up, carried_over, plain_step, seated_over}
-use Rattle.afs_law.proofs.Basics.{ByServer, Each, IfBack, IfDone, LastSeat, OfCall, OfReply, OfServer, at_seat, both, by_server, each_map, kept_last, of_reply, same_node-true, server_any, some_of}
+use Rattle.afs_law.proofs.Basics.{ByServer, Each, IfBack, IfDone, LastSeat, OfCall, OfReply, OfServer, at_seat, both, by_server, each_map, kept_last, of_reply, same_node-true, server_any, some_of, not_loc}
 use Rattle.afs_law.proofs.Owing.{AllOf, BackIn, BackedIn, CallOut, DoneIn, DroppedOwe, IsDone, SeatedIn}
 use Rattle.afs_law.proofs.Promising.{Owed}
-use Rattle.afs_law.proofs.Seating.{AreSeated, IsReplyOf}
+use Rattle.afs_law.proofs.Seated.{AreSeated, IsReplyOf}
 use Rattle.afs_law.specs.Breaks.{CarriesBreak, HasDrop, IsNamedIn, IsCarried, NamesIn}
 use Rattle.afs_law.specs.Past.{lines_on, onto}
 use Rattle.afs_model.specs.Calls as pairs
@@ -37,8 +40,8 @@ use Rattle.afs_num.specs.declared.types.Head.{Head}
 use Rattle.afs_num.specs.declared.types.Node.{Node}
 use Rattle.afs_num.specs.declared.types.Node.TheVariants.{Client, Server}
 use Rattle.afs_rows.specs.Callbacks.{breaks_call}
-use Rattle.afs_rows.specs.ClientRow.{Walked, admits_call, answers_step, awaits, begin_row, begins_by, behind_batch, body_told, breaks, call_of, calls_again, client_row, counts, done, drop_line, dropped, entries_told, entry_told, find_cached, gift_of, given, gives_by, gives_up, goes_by, goes_on, hears, ignores, in_order, is_awaited, is_below, is_busy_code, is_older, is_spent, is_trusted, look_at, looked, most_busy, most_reads, put_entries, put_entry, read_lines, refused_with, refuses, replies_step, status_look, status_told, takes, takes_bulk, takes_data, takes_entries, takes_entry, takes_given, takes_list, takes_plain, takes_rights, takes_set, takes_shown, takes_stored, timeout_row, told_step, tries_again, trusted_in, untrusted_in, walked, walks_on, whole, with_statuses, without_fids, without_server}
-use Rattle.afs_rows.specs.Going.{ClientState, Going, Need, answers, began, gives_back, next, with_read}
+use Rattle.afs_rows.specs.ClientRow.{Walked, admits_call, answers_step, awaits, begin_row, begins_by, behind_batch, body_told, breaks, call_of, calls_again, client_row, counts, done, drop_line, dropped, entries_told, entry_told, find_cached, gift_of, given, gives_by, gives_up, goes_by, goes_on, hears, ignores, in_order, is_awaited, is_below, is_busy_code, is_older, is_spent, is_trusted, look_at, looked, most_busy, most_reads, put_entries, put_entry, read_lines, refused_with, refuses, replies_step, status_look, status_told, takes, takes_bulk, takes_data, takes_entries, takes_entry, takes_given, takes_list, takes_plain, takes_rights, takes_set, takes_shown, takes_stored, timeout_row, told_step, tries_again, trusted_in, untrusted_in, walked, walks_on, whole, with_statuses, without_fids, without_server, asks_where, refuses_for_good, is_gone_code, most_moved, volume_asked, sought_by, seek_timeout_row}
+use Rattle.afs_rows.specs.Going.{ClientState, Going, Need, answers, began, gives_back, next, with_read, operand_in, Seek}
 use Rattle.afs_rows.specs.Runs.{Entry, Fall}
 use Rattle.afs_rows.specs.ServerRow.{boot_told, not_served, replied, seat_for}
 use Rattle.afs_rows.specs.States.{Backs, CacheEntry, Gift, Seat}
@@ -81,7 +84,7 @@ begins_speaks me c clock front act need = walks_speaks me c clock front act c.ca
 
 pub begun_speaks : (me : Node) (c : ClientState) (clock : ℕ) (act : Act) → Speaks c.seats (begin_row me c clock act)
 unfolding begin_row
-begun_speaks me c clock act = begins_speaks me (record c { busy = 0 }) clock (λ ls. lines.Begin me act ∷ ls) (began c.table act) (next (began c.table act))
+begun_speaks me c clock act = begins_speaks me (record c { busy = 0; moved = 0 }) clock (λ ls. lines.Begin me act ∷ ls) (began c.table act) (next (began c.table act))
 
 again_speaks : (me : Node) (c : ClientState) (place : ℕ) (act : Going) → Speaks c.seats (calls_again me c place act)
 again_speaks me c place act = record { calls = (tt, tt); seats' = refl }
@@ -148,13 +151,18 @@ takes_speaks me c clock place act call (replies.StoreStatus status sync) = set_s
 takes_speaks me c clock place act call replies.GiveUpCallBacks = given_speaks me c place act call
 takes_speaks me c clock place act call reply = plain_speaks me c place call
 
-refuses_speaks : (t : Bool) (me : Node) (c : ClientState) (place : ℕ) (act : Going) (code : Code) → Speaks c.seats (cond t (calls_again me (record c { busy = c.busy + 1 }) place act) (answers_step me c place code))
-refuses_speaks true me c place act code = record { calls = (tt, tt); seats' = refl }
-refuses_speaks false me c place act code = record { calls = tt; seats' = refl }
+where_speaks : (me : Node) (c : ClientState) (place : ℕ) (act : Going) (code : Code) (o : Option Operand) → Speaks c.seats (asks_where me c place act code o)
+where_speaks me c place act code None = record { calls = tt; seats' = refl }
+where_speaks me c place act code (Some o) = record { calls = (tt, tt); seats' = refl }
+
+refuses_speaks : (me : Node) (c : ClientState) (place : ℕ) (act : Going) (code : Code) → Speaks c.seats (refuses me c place act code)
+refuses_speaks me c place act code =
+    either_speaks (is_busy_code code && nat_lt c.busy most_busy) c.seats (calls_again me (record c { busy = c.busy + 1 }) place act) (refuses_for_good me c place act code) (record { calls = (tt, tt); seats' = refl })
+    (either_speaks (is_gone_code code && nat_lt c.moved most_moved) c.seats (asks_where me c place act code (operand_in act (volume_asked (call_of c act)))) (answers_step me c place code) (where_speaks me c place act code (operand_in act (volume_asked (call_of c act)))) (record { calls = tt; seats' = refl }))
 
 counts_speaks : (me : Node) (c : ClientState) (clock place : ℕ) (act : Going) (head : Head) (x : Carried) → Speaks c.seats (counts me c clock place act head x)
 counts_speaks me c clock place act head (carried.Call user call) = record { calls = tt; seats' = refl }
-counts_speaks me c clock place act head (carried.Refusal code) = either_speaks (is_spent c act) c.seats (calls_again me c place act) (refuses me c place act code) (again_speaks me c place act) (refuses_speaks (is_busy_code code && nat_lt c.busy most_busy) me c place act code)
+counts_speaks me c clock place act head (carried.Refusal code) = either_speaks (is_spent c act) c.seats (calls_again me c place act) (refuses me c place act code) (again_speaks me c place act) (refuses_speaks me c place act code)
 counts_speaks me c clock place act head (carried.Reply (tell.File reply)) = either_speaks (is_spent c act) c.seats (calls_again me c place act) (takes me c clock place act (call_of c act) reply) (again_speaks me c place act) (takes_speaks me c clock place act (call_of c act) reply)
 counts_speaks me c clock place act head (carried.Reply reply) = record { calls = tt; seats' = refl }
 counts_speaks me c clock place act head carried.Notice = record { calls = (tt, tt); seats' = refl }
@@ -314,7 +322,7 @@ admits_leaves me d b boot seats cs clock sent past n c place head user call (pai
 hears_leaves : (i : ℕ) (d : Option Fall) (b : Backs) (boot : ℕ) (seats : List Seat) (cs : ℕ → Option Seat) (clock : ℕ) (sent : List Message) (past : List Entry) (n : ℕ) (c : ClientState) (place : ℕ) (head : Head) (x : Carried) → Given (Server i) d b boot seats cs clock sent past n c → head.to ≡ Client n → OfCall (ByServer (BackIn (Server i) d b.calls b.last_call boot)) head x → Leaves (Server i) d b boot past n (hears (Client n) c clock place head x)
 hears_leaves i d b boot seats cs clock sent past n c place head (carried.Call user (ask.File call)) g to k = admits_leaves (Server i) d b boot seats cs clock sent past n c place head user call (admitted c.epoch c.seats head) g to (λ own. by_server i head.from _ own k) refl
 hears_leaves i d b boot seats cs clock sent past n c place head (carried.Call user (ask.Volume call)) g to k = absurd k
-hears_leaves i d b boot seats cs clock sent past n c place head (carried.Call user (ask.Location call)) g to k = absurd k
+hears_leaves i d b boot seats cs clock sent past n c place head (carried.Call user (ask.Location call)) g to k = not_loc head (Client n) _ to refl k.0
 hears_leaves i d b boot seats cs clock sent past n c place head (carried.Refusal code) g to k = speaks_leaves (Server i) d b boot seats cs clock sent past n c (awaits (Client n) c clock place head (carried.Refusal code) c.running) g (awaits_speaks (Client n) c clock place head (carried.Refusal code) c.running)
 hears_leaves i d b boot seats cs clock sent past n c place head (carried.Reply reply) g to k = speaks_leaves (Server i) d b boot seats cs clock sent past n c (awaits (Client n) c clock place head (carried.Reply reply) c.running) g (awaits_speaks (Client n) c clock place head (carried.Reply reply) c.running)
 hears_leaves i d b boot seats cs clock sent past n c place head carried.Notice g to k = speaks_leaves (Server i) d b boot seats cs clock sent past n c (awaits (Client n) c clock place head carried.Notice c.running) g (awaits_speaks (Client n) c clock place head carried.Notice c.running)
@@ -329,3 +337,12 @@ unfolding client_row
 told_leaves i d b boot seats cs clock sent past n c place m B own seated k =
     let g : Given (Server i) d b boot seats cs clock sent past n c = record { backed = B; own = own; seated = seated } in
     if_leaves (same_node m.head.to (Client n)) (Server i) d b boot past n (hears (Client n) c clock place m.head m.carried) (ignores c place) m.head refl (λ to. hears_leaves i d b boot seats cs clock sent past n c place m.head m.carried g to k) (speaks_leaves (Server i) d b boot seats cs clock sent past n c (ignores c place) g (record { calls = tt; seats' = refl }))
+
+-- an act that waits for the location database
+pub sought_speaks : (S : Script) (n : ℕ) (c : ClientState) (clock place : ℕ) (k : Seek) (head : Head) (x : Carried) → IsPlaced S c k → IsToldIn S x → Speaks c.seats (sought_by (Client n) c clock place k head x)
+sought_speaks S n c clock place k head x p w =
+    by_quiet (Speaks c.seats) n c place k head x (sought_by (Client n) c clock place k head x) (sought_quiet S n c clock place k head x p w)
+    (λ code y z. record { calls = tt; seats' = refl }) (record { calls = tt; seats' = refl }) (record { calls = (tt, tt); seats' = refl })
+
+pub missed_speaks : (me : Node) (c : ClientState) (k : Seek) → Speaks c.seats (seek_timeout_row me c k)
+missed_speaks me c k = either_speaks (nat_lt c.tries 2) c.seats _ _ (record { calls = (tt, tt); seats' = refl }) (record { calls = tt; seats' = refl })

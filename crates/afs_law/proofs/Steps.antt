@@ -63,15 +63,8 @@ sets_is M c i l armed m = quiet_is M c i (record (c.hosts i) { armed = armed }) 
 pub stays_is : (M : Moved → Type 0) (c : Cell) (i : ℕ) (f : Begun ServerState) (l : Line) (fall : Fall) → M (server_stays c i f l fall) → M (placed c i (stays f l fall))
 stays_is M c i f l fall m = quiet_is M c i (record { state = f.state; down = Some fall; armed = unarmed }) (f.before (l ∷ [])) m
 
--- ---- the location database, which sends nothing
+-- ---- the location database
 
--- it is this then, and the messages are those that were
-abbrev pub loc_becomes : Cell → LocHost → List Line → Moved
-loc_becomes c l ls = record {
-  entry = record { actor = actors.Node Loc; lines = ls; sent = []; volumes = [] };
-  cell = record c { loc = l };
-}
-
-pub loc_is : (M : Moved → Type 0) (c : Cell) (l : LocHost) (ls : List Line) → M (loc_becomes c l ls) → M (loc_placed c (record { host = l; lines = ls; sent = [] }))
-loc_is M c l ls m =
-    subst (λ (ms : List Message). M (record { entry = record { actor = actors.Node Loc; lines = ls; sent = []; volumes = [] }; cell = record c { loc = l; sent = ms } })) (sym (append-nil c.sent)) m
+-- it is this then, told these lines and sent these messages
+abbrev pub loc_becomes : Cell → LocHost → List Line → List Message → Moved
+loc_becomes c l ls ms = loc_placed c (record { host = l; lines = ls; sent = ms })

@@ -37,7 +37,7 @@ use Rattle.afs_num.specs.declared.types.Node.{Node}
 use Rattle.afs_num.specs.declared.types.Node.TheVariants.{Client, Server}
 use Rattle.afs_records.specs.Durable.{time_in}
 use Rattle.afs_rows.specs.Callbacks.{put, replies_of}
-use Rattle.afs_rows.specs.ClientRow.{begin_row, client_row, timeout_row}
+use Rattle.afs_rows.specs.ClientRow.{begin_row, client_row, timeout_row, seek_timeout_row, sought_by}
 use Rattle.afs_law.proofs.Steps.{blow_line, server_falls, server_moves, server_rises, server_set, server_stays, loc_becomes}
 use Rattle.afs_rows.specs.Runs.{Armed, Cell, Entry, Fall, Moved, RunsTo, at_rest, begun_by_disk, client_falls, client_moves, client_rises, in_boot, in_step, message_at, moved, start, ticked, unarmed, voided, ServerHost}
 use Rattle.afs_rows.specs.ServerRow.{Change, Decision, begun_after, carried_by, change_reply_to, decides, does, drops, promise_ticks, refuses, repeats, result, saves, seat_for, shows, stored_by, tells_boot}
@@ -170,7 +170,7 @@ served_coded s c past i place m armed h up at =
     let x : ServerState = (c.hosts i).state in
     let k : Replies (IsNow x.lasting.boot) x = (h.1 i).replies up in
     let y : Makes (IsNow x.lasting.boot) x c.clock (decides (Server i) x c.clock (Whole m)) =
-    makes_now (Server i) x c.clock m (decides (Server i) x c.clock (Whole m)) k.seats (why (Server i) x c.clock m (is_file (IsOne c.sent) m (each_at (IfCall (IsOne c.sent)) c.sent place m at h.0.1.ones))) in
+    makes_now (Server i) x c.clock m (decides (Server i) x c.clock (Whole m)) k.seats (why (Server i) x c.clock m refl (is_file (IsOne c.sent) m (each_at (IfCall (IsOne c.sent)) c.sent place m at h.0.1.ones))) in
     up_coded c past i armed (server_row (Server i) x c.clock place (Whole m)) h.1 (served_boot i x c.clock place m) (serves_kept i x c.clock place m (h.1 i).kept) (serves_replies (IsNow x.lasting.boot) (spares_now x.lasting.boot) i x c.clock place m k y)
 
 started_coded : (s : Script) (c : Cell) (past : List Entry) (i : ℕ) (after : Bool) (fall : Fall) → Facts s c past → Codes (server_rises c i (begun_by_disk (Server i) (c.hosts i).state after fall))
@@ -203,12 +203,14 @@ coded_moves : (s : Script) → EachMove (Facts s) CodedStep
 coded_moves s = record {
   void = λ c past h. besides_coded c past (voided c) h.1 (λ i e. absurd cc) refl;
   ticked = λ c past n h. besides_coded c past (ticked c (suc n)) h.1 (λ i e. absurd cc) refl;
-  begun = λ c past n act h r. besides_coded c past (client_moves c n (begin_row (Client n) (c.clients n) c.clock act)) h.1 (λ i e. absurd cc) refl;
+  begun = λ c past n act h r z0. besides_coded c past (client_moves c n (begin_row (Client n) (c.clients n) c.clock act)) h.1 (λ i e. absurd cc) refl;
   told = λ c past n place m h at to. besides_coded c past (client_moves c n (client_row (Client n) (c.clients n) c.clock place (Whole m))) h.1 (λ i e. absurd cc) refl;
+  sought = λ c past n place m k h at to z e. besides_coded c past (client_moves c n (sought_by (Client n) (c.clients n) c.clock place k m.head m.carried)) h.1 (λ i e'. absurd cc) refl;
+  missed = λ c past n k h r z. besides_coded c past (client_moves c n (seek_timeout_row (Client n) (c.clients n) k)) h.1 (λ i e'. absurd cc) refl;
+  loc = λ c past l ls ms h st. besides_coded c past (loc_becomes c l ls ms) h.1 (λ i e'. absurd cc) refl;
   waited = λ c past n act h r. besides_coded c past (client_moves c n (timeout_row (Client n) (c.clients n) act)) h.1 (λ i e. absurd cc) refl;
   fallen = λ c past n h. besides_coded c past (client_falls c n) h.1 (λ i e. absurd cc) refl;
   risen = λ c past n h. besides_coded c past (client_rises c n) h.1 (λ i e. absurd cc) refl;
-  loc = λ c past l ls h st. besides_coded c past (loc_becomes c l ls) h.1 (λ i e'. absurd cc) refl;
   served = λ c past i place m armed h up at to. served_coded s c past i place m armed h up at;
   cut = λ c past i place m t h up at to. down_coded c past i (c.hosts i).state (in_step m c.clock t) unarmed (server_falls c i (lines.Given place ∷ blow_line i t.stops ∷ []) (in_step m c.clock t)) h.1 refl refl refl (h.1 i).kept;
   stopped = λ c past i h up. down_coded c past i (c.hosts i).state at_rest unarmed (server_falls c i (lines.Crash (Server i) ∷ []) at_rest) h.1 refl refl refl (h.1 i).kept;
@@ -227,7 +229,7 @@ coded_moves s = record {
 }
 
 coded_kept : (s : Script) → IsKept (Facts s)
-coded_kept s c past x h = (asked_kept s c past x h.0, (each_moved (Facts s) CodedStep (coded_moves s) c past x h).coded)
+coded_kept s c past x so h = (asked_kept s c past x so h.0, (each_moved (Facts s) CodedStep (coded_moves s) c past x so h).coded)
 
 coded_first : (s : Script) → Facts s (start s) (set_up s ∷ [])
 coded_first s = (asked_first s, λ i. record { kept = λ n seat m e. absurd cc; replies = λ up. record { seats = λ n seat m e. absurd cc; kept = λ n seat m e. absurd cc; held = tt } })
@@ -251,7 +253,7 @@ sent_coded s c past e i K (inr x) = all_coded i (c.hosts i).state.lasting.boot (
 
 run_coded : (s : Script) (h : List Entry) (end : Cell) → RunsTo h s end → EachEntry OfServers (set_up s ∷ []) h
 run_coded s h end r =
-    run_each (Facts s) OfServers (coded_kept s) (λ c past x k i is. sent_coded s (moved c x).cell past (moved c x).entry i (asked_kept s c past x k.0).0 ((each_moved (Facts s) CodedStep (coded_moves s) c past x k).sent i is)) r.inputs (start s) (set_up s ∷ []) h end (coded_first s) r.leads
+    run_each (Facts s) OfServers (coded_kept s) (λ c past x so k i is. sent_coded s (moved c x).cell past (moved c x).entry i (asked_kept s c past x so k.0).0 ((each_moved (Facts s) CodedStep (coded_moves s) c past x so k).sent i is)) r.inputs s (set_up s ∷ []) h end (coded_first s) r.leads
 
 abbrev pub IsNowTrue : List Entry → Message → Type 0
 IsNowTrue past m = IsPresent past m × TellsItsBoot past m

@@ -16,7 +16,7 @@ use Rattle.afs_law.proofs.Ascending.{run_versions}
 use Rattle.afs_law.proofs.Assembled.{run_legal}
 use Rattle.afs_law.proofs.Edits.{SoundIn, none_has}
 use Rattle.afs_law.proofs.Words.{IsOne}
-use Rattle.afs_law.proofs.Housed.{IsPlaced, placed}
+use Rattle.afs_law.proofs.Housed.{IsPlaced, placed, server_at}
 use Rattle.afs_law.proofs.Origins.{KnownAsked}
 use Rattle.afs_law.proofs.Remaining.{accepts, survives}
 use Rattle.afs_law.proofs.Latest.{has_more, has_onto}
@@ -42,7 +42,6 @@ use Rattle.afs_num.specs.declared.types.Node.{Node}
 use Rattle.afs_num.specs.declared.types.Node.TheVariants.{Server}
 use Rattle.afs_history.specs.Written.{bytes_in}
 use Rattle.afs_rows.specs.Going.{Going, asked, nothing_set, stored_whole}
-use Rattle.afs_rows.specs.ClientRow.{server_at}
 use Rattle.afs_rows.specs.Runs.{Cell, Entry, RunsTo, locations}
 use Rattle.std.proofs.Common.{◌≡◌, ℕ, ◌⊎◌, inl, inr, ◌+◌, Bool, true, false, cond, length, List, [], ◌∷◌, ◌++◌, Option, Some, None, pos, refl, sym, ap, subst, append-nil, ◌∙◌}
 

@@ -35,11 +35,11 @@ use Rattle.afs_num.specs.declared.types.Fid.{Fid}
 use Rattle.afs_num.specs.declared.types.Node.{Node}
 use Rattle.afs_num.specs.declared.types.Node.TheVariants.{Client}
 use Rattle.afs_rows.specs.ClientRow.{Look, Walked, drop_line, dropped, find_cached, goes_by, looked, most_reads, walked, walks_on}
-use Rattle.afs_rows.specs.Going.{ClientState, Going, Need, answers, next}
+use Rattle.afs_rows.specs.Going.{ClientState, Going, Need, answers, next, locates}
 use Rattle.afs_rows.specs.Runs.{Entry}
 use Rattle.afs_rows.specs.States.{CacheEntry}
 use Rattle.afs_rows.specs.Steps.{Step}
-use Rattle.std.proofs.Common.{◌≡◌, ◌≤◌, ◌<◌, ◌+◌, ℕ, ◌⊎◌, inl, inr, Bool, true, false, cond, List, [], ◌∷◌, ◌++◌, map, Some, pos, refl, sym, ap, subst, ◌∙◌, arith, le_of_eq}
+use Rattle.std.proofs.Common.{◌≡◌, ◌≤◌, ◌<◌, ◌+◌, ℕ, ◌⊎◌, inl, inr, Bool, true, false, cond, List, [], ◌∷◌, ◌++◌, map, Some, pos, refl, sym, ap, subst, ◌∙◌, arith, le_of_eq, None}
 use Rattle.std.specs.Option.{option_map}
 use Rattle.std.specs.Prelude.{⊤, ◌&&◌}
 use Rattle.afs_law.proofs.Loading.{held_or}
@@ -107,7 +107,7 @@ pub quiet_result : (s : Script) (n : ℕ) (x : ClientState) (clock : ℕ) (past 
 quiet_result s n x clock past st T b u z q run last sub = record {
   shown = unread_shown s (actors.Node (Client n)) past [] st.lines u;
   up = λ f. unread_up (Client n) f _ st.lines u;
-  quiet = λ nb same l. q;
+  quiet = λ nb act now same l. q;
   zero' = λ act r other. absurd (other last);
   entries = λ f e found. inl (record {
     found = sub f e found;
@@ -123,13 +123,29 @@ pub record IsLeft (s : Script) (n : ℕ) (x : ClientState) (clock : ℕ) (st : S
   pub done' : clock < e.expiry → (S : Stands s n x clock f e past) → IsWithdrawn e.server (Client n) f (since_rest s n f e past S.rests) ⊎ HasDone n x f e.server past
   pub low : clock < e.expiry → Seen n f e.index (of_client n st ∷ past)
 
+-- no act runs, before or behind it
+pub rest_result : (s : Script) (n : ℕ) (x : ClientState) (clock : ℕ) (past : List Entry) (st : Step ClientState) → Trusts s n x clock past → AreBlank st.lines → AreUnread st.lines → HasNoZero (Client n) st.lines → x.running ≡ None → st.state.running ≡ None → st.state.last ≡ x.last
+    → ((f : Fid) (e : CacheEntry) → find_cached f st.state.cache ≡ Some e → find_cached f x.cache ≡ Some e) → Result s n x clock past st
+rest_result s n x clock past st T b u z none idle last sub = record {
+  shown = unread_shown s (actors.Node (Client n)) past [] st.lines u;
+  up = λ f. unread_up (Client n) f _ st.lines u;
+  quiet = λ nb act now. absurd (none_runs st.state.running act idle now);
+  zero' = λ act r other. absurd (other last);
+  entries = λ f e found. inl (record {
+    found = sub f e found;
+    fetched = unread_fetched (Client n) f st.lines u;
+    after = λ other. absurd (other (idle ∙ sym none) last);
+    low = λ lasts. seen_up (Client n) f past false (reach (Client n) f past) st.lines e.index b z ((T.entries f e (sub f e found)).low lasts) (unread_up (Client n) f e.index st.lines u);
+  });
+}
+
 -- the client goes on, to another call or to none
 pub moved_result : (s : Script) (n : ℕ) (x : ClientState) (clock : ℕ) (past : List Entry) (st : Step ClientState) → AreUnread st.lines → (has_begun (Client n) st.lines ≡ false → IsSame x st) → ((act : Going) → st.state.running ≡ Some act → (f : Fid) → (reach (Client n) f (of_client n st ∷ past)).made ≡ 0)
     → ((f : Fid) (e : CacheEntry) → find_cached f st.state.cache ≡ Some e → IsLeft s n x clock st past f e) → Result s n x clock past st
 moved_result s n x clock past st u other zero left = record {
   shown = unread_shown s (actors.Node (Client n)) past [] st.lines u;
   up = λ f. unread_up (Client n) f _ st.lines u;
-  quiet = λ nb same last. absurd (other nb same last);
+  quiet = λ nb act now same last. absurd (other nb same last);
   zero' = λ act r w. zero act r;
   entries = λ f e found. let l : IsLeft s n x clock st past f e = left f e found in inl (record { found = l.found; fetched = unread_fetched (Client n) f st.lines u; after = λ w lasts S. l.done' lasts S; low = l.low });
 }
@@ -280,7 +296,7 @@ read_result s n x clock past front ls first looks tail st is end looks_ sub F T 
       shown = subst (EachLine (IsShown s) who past []) (sym on) (F.shown all (looks_good s who n clock past ls first looks tail F.blank F.ticks looks_ (all_ready s n x clock past front ls first F T K) (λ o. unread_shown s who past o tail end.0.1)));
       up = λ f. subst (ReadsUpTo (Client n) f (index_in (last_version f (lines_of past)))) (sym on) (up_both (Client n) f (index_in (last_version f (lines_of past))) ls all (F.up f)
           (looks_up n clock first looks tail f (index_in (last_version f (lines_of past))) looks_ (λ e z w. index_up s n x clock past front ls first F T A f e z) (unread_up (Client n) f _ tail end.0.1)));
-      quiet = λ nb same last. absurd (begun nb same last);
+      quiet = λ nb act now same last. absurd (begun nb same last);
       zero' = λ act run other f. ap (λ (z : Reach). z.made) (over f) ∙ (made_still (Client n) f past false (r f) all blank (looked_begun n looks tail ∙ end.1) ∙ F.zero' f);
       entries = λ f e found. elim (F.each f e (sub f e found)) [
         | inl o ↦ inl (record {
@@ -311,6 +327,10 @@ goes_result s n x y clock past front ls first w (answers k) last looks sub F T A
     let st : Step ClientState = goes_by (Client n) y front w (answers k) in
     let run : (act : Going) → x.running ≡ Some act → IsSame x st = λ act r same l. none_runs st.state.running act refl (same ∙ r) in
     read_result s n x clock past front ls first w.looks (lines.Answer (Client n) (record { 0 = pos k }) ∷ []) st refl ((refl, refl), refl) looks sub F T A K (begun_moved n x st front (looked (Client n) w.looks (lines.Answer (Client n) (record { 0 = pos k }) ∷ [])) b refl run) run
+goes_result s n x y clock past front ls first w (locates o) last looks sub F T A K b =
+    let st : Step ClientState = goes_by (Client n) y front w (locates o) in
+    let run : IsSame x st = λ same l. more_not st.state.last x.last (ap (λ (i : ℕ). i + 1) last) l in
+    read_result s n x clock past front ls first w.looks [] st refl ((refl, refl), refl) looks sub F T A K (λ z. run) (λ act r. run)
 goes_result s n x y clock past front ls first w need last looks sub F T A K b =
     let st : Step ClientState = goes_by (Client n) y front w need in
     let run : IsSame x st = λ same l. more_not st.state.last x.last (ap (λ (i : ℕ). i + 1) last) l in

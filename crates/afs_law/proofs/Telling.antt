@@ -1,4 +1,7 @@
 -- What each reply of a server to a client tells: what the ideal operation makes of the call that its entry was given.
+use Rattle.afs_law.proofs.Origins.{sought_acts_in}
+use Rattle.afs_law.proofs.Listing.{loc_own, no_server_loc}
+use Rattle.afs_num.specs.declared.messages.Received.{Received}
 use Rattle.afs_history.specs.declared.lines.Line.{Line}
 use Rattle.afs_history.specs.declared.lines.Line.TheVariants as lines
 use Rattle.afs_history.specs.declared.scripts.Script.{Script}
@@ -6,7 +9,7 @@ use Rattle.afs_ideal.specs.Operations.{Caller, Found, Result, changes, the_user,
 use Rattle.afs_ideal.specs.Replies.{change_reply}
 use Rattle.afs_ideal.specs.Volumes.{Volume}
 use Rattle.afs_law.proofs.Basics.{Above, Each, IfCall, LastSeat, OfCall, at_put, each_at, each_map, each_more, kept_last, runs_admitted}
-use Rattle.afs_law.proofs.Acting.{begins_acts, given_acts, waits_acts}
+use Rattle.afs_law.proofs.Acting.{begins_acts, given_acts, waits_acts, missed_acts}
 use Rattle.afs_law.proofs.Choosing.{granted_from, is_from, risen_lines}
 use Rattle.afs_law.proofs.Cutting.{comes_first, now_up, blow_stopped, same_cut}
 use Rattle.afs_law.proofs.Words.{IsOne, is_passing}
@@ -46,12 +49,12 @@ use Rattle.afs_num.specs.declared.types.Fid.{Fid}
 use Rattle.afs_num.specs.declared.types.Head.{Head}
 use Rattle.afs_num.specs.declared.types.Key.{Key}
 use Rattle.afs_num.specs.declared.types.Node.{Node}
-use Rattle.afs_num.specs.declared.types.Node.TheVariants.{Client, Server}
+use Rattle.afs_num.specs.declared.types.Node.TheVariants.{Client, Server, Loc}
 use Rattle.afs_rows.specs.Callbacks.{expired, put, replies_of, turn_for, turned_by}
-use Rattle.afs_rows.specs.ClientRow.{begin_row, client_row, reborn, timeout_row}
+use Rattle.afs_rows.specs.ClientRow.{begin_row, client_row, reborn, timeout_row, sought_by, seek_timeout_row}
 use Rattle.afs_law.proofs.Steps.{blow_line, server_falls, server_moves, server_rises, server_stays}
 use Rattle.afs_rows.specs.Runs.{Blow, Armed, Cell, Entry, Fall, at_rest, begun_by_disk, client_moves, in_boot, in_step, message_at, start, unarmed, ServerHost}
-use Rattle.afs_rows.specs.ServerRow.{Change, Decision, Reading, admits, begun_after, carried_by, change_reply_to, decides, does, drops, granted, granted_in, hears, is_client, key_of, made, not_served, promise_ticks, promised_in, read_reply_to, refusal, refuses, repeats, reply_head, result, saves, serves_call, shows, stored_by, tells_boot, versioned, whole}
+use Rattle.afs_rows.specs.ServerRow.{Change, Decision, Reading, admits, begun_after, carried_by, change_reply_to, decides, does, drops, granted, granted_in, hears, is_client, key_of, made, not_served, promise_ticks, promised_in, read_reply_to, refusal, refuses, repeats, reply_head, result, saves, serves_call, shows, stored_by, tells_boot, versioned, whole, runs_received}
 use Rattle.afs_rows.specs.ServerSteps.{back_timeout_row, server_row, start_row, wake_row}
 use Rattle.afs_rows.specs.Going.{ClientState}
 use Rattle.afs_rows.specs.States.{Seat, ServerState}
@@ -406,10 +409,22 @@ called_head : (t : Bool) (x : ServerState) (clock : ℕ) (h : Head) (user : List
 called_head true x clock h user call = admits_head x clock h user call (admitted x.lasting.boot x.seats h)
 called_head false x clock h user call = tt
 
+refused_head : (t : Bool) (x : ServerState) (clock : ℕ) (h : Head) (r : Received) (o : Admitted Message) → runs_received x clock h r ≡ refuses h not_served → IsOfHead h (cond t (admits x clock h r o) drops)
+refused_head true x clock h r pairs.runs e = run_by (is_client h.from) e
+  where
+    run_by : (t : Bool) → runs_received x clock h r ≡ refuses h not_served → IsOfHead h (cond t (runs_received x clock h r) (refuses h not_served))
+    run_by true e = subst (IsOfHead h) (sym e) refl
+    run_by false e = refl
+refused_head true x clock h r (pairs.kept reply) e = tt
+refused_head true x clock h r pairs.in_progress e = tt
+refused_head true x clock h r pairs.older e = tt
+refused_head true x clock h r (pairs.wrong_boot boot) e = tt
+refused_head false x clock h r o e = tt
+
 hears_head : (me : Node) (x : ServerState) (clock : ℕ) (h : Head) (y : Carried) → OfCall (λ head user call. ⊤) h y → IsOfHead h (hears me x clock h y)
 hears_head me x clock h (carried.Call user (ask.File call)) f = called_head (same_node h.to me) x clock h user call
 hears_head me x clock h (carried.Call user (ask.Volume call)) f = absurd f
-hears_head me x clock h (carried.Call user (ask.Location call)) f = absurd f
+hears_head me x clock h (carried.Call user (ask.Location call)) f = refused_head (same_node h.to me) x clock h (whole h (carried.Call user (ask.Location call))) (admitted x.lasting.boot x.seats h) refl
 hears_head me x clock h (carried.Refusal code) f = tt
 hears_head me x clock h (carried.Reply reply) f = tt
 hears_head me x clock h carried.Notice f = tt
@@ -571,7 +586,7 @@ served_told s c past i place m armed h up at =
     let T : Message → Type 0 = IsTold (e ∷ past) in
     let k : Replies T x = replies_later e past x (h.1.hosts' i) in
     let f : IsFile m = is_file (IsOne c.sent) m (each_at (IfCall (IsOne c.sent)) c.sent place m at h.0.0.0.1.ones) in
-    let y : Makes T x c.clock (decides (Server i) x c.clock (Whole m)) = served_makes s c past e i place m (decides (Server i) x c.clock (Whole m)) h.0.0 (each_at (IfCall (IsHome s)) c.sent place m at h.0.1) k up at refl (row_lines (Server i) x c.clock place m) (decides_head (Server i) x c.clock m f) (why (Server i) x c.clock m f) in
+    let y : Makes T x c.clock (decides (Server i) x c.clock (Whole m)) = served_makes s c past e i place m (decides (Server i) x c.clock (Whole m)) h.0.0 (each_at (IfCall (IsHome s)) c.sent place m at h.0.1) k up at refl (row_lines (Server i) x c.clock place m) (decides_head (Server i) x c.clock m f) (why (Server i) x c.clock m refl f) in
     moves_told c past i armed st h.1 (serves_replies T (spares (e ∷ past)) i x c.clock place m k y)
 
 cut_makes : (s : Script) (c : Cell) (past : List Entry) (e : Entry) (i : ℕ) (after : Bool) (fall : Fall) (rest : List Line) → Telling s c past → (c.hosts i).down ≡ Some fall → e.lines ≡ (begun_by_disk (Server i) (c.hosts i).state after fall).before rest → after ≡ true → MakesCut (IsTold (e ∷ past)) (Server i) (c.hosts i).state fall
@@ -581,7 +596,7 @@ cut_makes s c past e i true in_boot rest h down ls a = tt
 cut_makes s c past e i true (in_step m clock hit) rest h down ls a =
     let sent : IsSent c.sent m = h.0.0.1.cut i m clock hit down in
     cut_leaves i (c.hosts i).state clock m e past rest (decides (Server i) (c.hosts i).state clock (Whole m)) (h.1.cuts i m clock hit down) (are_ideal s c past i h.0.0) ls
-    (why (Server i) (c.hosts i).state clock m (is_file (IsOne c.sent) m (each_at (IfCall (IsOne c.sent)) c.sent sent.0 m sent.1 h.0.0.0.1.ones)))
+    (why (Server i) (c.hosts i).state clock m refl (is_file (IsOne c.sent) m (each_at (IfCall (IsOne c.sent)) c.sent sent.0 m sent.1 h.0.0.0.1.ones)))
 
 disk_told : (s : Script) (c : Cell) (past : List Entry) (e : Entry) (i : ℕ) (after : Bool) (fall : Fall) (rest : List Line) → Telling s c past → (c.hosts i).down ≡ Some fall → e.lines ≡ (begun_by_disk (Server i) (c.hosts i).state after fall).before rest → Replies (IsTold (e ∷ past)) (begun_by_disk (Server i) (c.hosts i).state after fall).state
 disk_told s c past e i after fall rest h down ls = disk_replies (IsTold (e ∷ past)) (Server i) (c.hosts i).state after fall (replies_later e past (c.hosts i).state (h.1.hosts' i)) (cut_makes s c past e i after fall rest h down ls)
@@ -603,12 +618,14 @@ pub told_moves : (s : Script) → EachMove (Telling s) (Behind ToldIn)
 told_moves s = record {
   void = λ c past h. others_told c.hosts c.sent c.sent past _ h.1 (all_later _ past c.sent h.1.sends);
   ticked = λ c past n h. others_told c.hosts c.sent c.sent past _ h.1 (all_later _ past c.sent h.1.sends);
-  begun = λ c past n act h r. acts_told c past n (begin_row (Client n) (c.clients n) c.clock act) h.1 (begins_acts n (c.clients n) c.clock act r).from;
+  begun = λ c past n act h r z. acts_told c past n (begin_row (Client n) (c.clients n) c.clock act) h.1 (begins_acts n (c.clients n) c.clock act r z).from;
   told = λ c past n place m h at to. acts_told c past n (client_row (Client n) (c.clients n) c.clock place (Whole m)) h.1 (given_acts (by_key (IsKnown h.0.0.0.0.keys.callees c.clients)) any_told n (c.clients n) c.clock place m (h.0.0.0.0.keys.replies n) (h.0.0.0.1.seats n)).from;
+  sought = λ c past n place m k h at to z e. acts_told c past n (sought_by (Client n) (c.clients n) c.clock place k m.head m.carried) h.1 (sought_acts_in s c past n place m k h.0.0.0.1 at z e).from;
+  missed = λ c past n k h r z. acts_told c past n (seek_timeout_row (Client n) (c.clients n) k) h.1 (missed_acts n (c.clients n) k r z).from;
   waited = λ c past n act h r. acts_told c past n (timeout_row (Client n) (c.clients n) act) h.1 (waits_acts n (c.clients n) act r).from;
-  fallen = λ c past n h. acts_told c past n (record { state = reborn (c.clients n); lines = lines.Crash (Client n) ∷ []; sent = [] }) h.1 tt;
+  fallen = λ c past n h. acts_told c past n (record { state = reborn c.handed (c.clients n); lines = lines.Crash (Client n) ∷ []; sent = [] }) h.1 tt;
   risen = λ c past n h. acts_told c past n (record { state = c.clients n; lines = lines.Restart (Client n) (c.clients n).epoch ∷ []; sent = [] }) h.1 tt;
-  loc = λ c past l ls h st. others_told c.hosts c.sent c.sent past _ h.1 (all_later _ past c.sent h.1.sends);
+  loc = λ c past l ls ms h st. others_told c.hosts c.sent (c.sent ++ ms) past _ h.1 (each_more (IsTold _) c.sent ms (all_later _ past c.sent h.1.sends) (each_map (IsSentBy Loc) (IsTold _) (λ m x i j from to code. absurd (no_server_loc m.head i x.from from)) ms (loc_own c l ls ms st)));
   served = λ c past i place m armed h up at to. served_told s c past i place m armed h up at;
   cut = λ c past i place m t h up at to. falls_told c past i _ (server_falls c i (lines.Given place ∷ blow_line i t.stops ∷ []) (in_step m c.clock t)).entry h.1 refl
       (λ k clock hit d. subst (λ (y : Message). CutHeld i (c.hosts i).state y ((server_falls c i (lines.Given place ∷ blow_line i t.stops ∷ []) (in_step m c.clock t)).entry ∷ past)) (same_cut m k c.clock clock t hit d) (cut_here s c past i place m t.stops (server_falls c i (lines.Given place ∷ blow_line i t.stops ∷ []) (in_step m c.clock t)).entry h.0.0 up at refl refl));

@@ -5,7 +5,7 @@ use Rattle.afs_history.specs.declared.lines.Line.TheVariants as lines
 use Rattle.afs_history.specs.declared.scripts.Script.{Script}
 use Rattle.afs_history.specs.declared.scripts.VolumeLine.{VolumeLine}
 use Rattle.afs_ideal.specs.Tables.{Table}
-use Rattle.afs_law.proofs.Acting.{begins_acts, given_acts, is_of, waits_acts}
+use Rattle.afs_law.proofs.Acting.{begins_acts, given_acts, is_of, waits_acts, missed_acts}
 use Rattle.afs_law.proofs.Backing.{all_lines}
 use Rattle.afs_law.proofs.Basics.{both}
 use Rattle.afs_law.proofs.Choosing.{IfCut, Works, disk_works, is_from, risen_from, risen_lines, serves_works, starts_works, times_works, wakes_works}
@@ -14,7 +14,7 @@ use Rattle.afs_law.proofs.KeysOnce.{IsKnown, any_told, by_key}
 use Rattle.afs_law.proofs.SettingUp.{first_passed}
 use Rattle.afs_law.proofs.Loading.{is_tickless, lines_both, clock_back}
 use Rattle.afs_law.proofs.Moving.{Behind, EachMove, IsKept, each_moved}
-use Rattle.afs_law.proofs.Origins.{asked_first}
+use Rattle.afs_law.proofs.Origins.{asked_first, sought_acts_in}
 use Rattle.afs_law.specs.Ideal.{clock_of, first_lines, set_up}
 use Rattle.afs_law.specs.Past.{lines_of, onto}
 use Rattle.afs_num.specs.declared.histories.Version.{Version}
@@ -24,7 +24,7 @@ use Rattle.afs_num.specs.declared.types.Node.{Node}
 use Rattle.afs_num.specs.declared.types.Node.TheVariants.{Client, Server}
 use Rattle.afs_records.specs.Durable.{Stored}
 use Rattle.afs_num.specs.declared.messages.Received.TheVariants.{Whole}
-use Rattle.afs_rows.specs.ClientRow.{begin_row, client_row, timeout_row}
+use Rattle.afs_rows.specs.ClientRow.{begin_row, client_row, timeout_row, sought_by, seek_timeout_row}
 use Rattle.afs_law.proofs.Steps.{blow_line}
 use Rattle.afs_rows.specs.Steps.{Begun}
 use Rattle.afs_rows.specs.Runs.{Cell, Entry, Fall, at_rest, begun_by_disk, in_boot, in_step, start}
@@ -74,6 +74,10 @@ of_tickless : (j : ℕ) (l : Line) → is_of j l ≡ true → is_tickless l ≡ 
 of_tickless j (lines.Tick n) h = absurd cc
 of_tickless j l h = refl
 
+loc_tickless : (l : Line) → is_of_loc l ≡ true → is_tickless l ≡ true
+loc_tickless (lines.Tick n) h = absurd cc
+loc_tickless l h = refl
+
 calm_tickless : (me : Node) → IsCalm me is_tickless
 calm_tickless me = record { own = own_tickless me; change = λ k n. refl; version = λ v. refl }
 
@@ -96,20 +100,18 @@ blow_stands : (c : Cell) (past : List Entry) (i place : ℕ) (t : Bool) → Tick
 blow_stands c past i place true h = h
 blow_stands c past i place false h = h
 
-loc_tickless : (l : Line) → is_of_loc l ≡ true → is_tickless l ≡ true
-loc_tickless (lines.Tick n) h = absurd cc
-loc_tickless l h = refl
-
 ticks_moves : (s : Script) → EachMove (HeldTicks s) (Behind TicksIn)
 ticks_moves s = record {
   void = λ c past h. h.1;
   ticked = λ c past n h. ap (λ (t : ℕ). t + suc n) h.1;
-  begun = λ c past n act h r. acts_stand c past n (begin_row (Client n) (c.clients n) c.clock act).lines h.1 (begins_acts n (c.clients n) c.clock act r).of;
+  begun = λ c past n act h r z. acts_stand c past n (begin_row (Client n) (c.clients n) c.clock act).lines h.1 (begins_acts n (c.clients n) c.clock act r z).of;
   told = λ c past n place m h at to. acts_stand c past n (client_row (Client n) (c.clients n) c.clock place (Whole m)).lines h.1 (given_acts (by_key (IsKnown h.0.0.0.keys.callees c.clients)) any_told n (c.clients n) c.clock place m (h.0.0.0.keys.replies n) (h.0.0.1.seats n)).of;
+  sought = λ c past n place m k h at to z e. acts_stand c past n (sought_by (Client n) (c.clients n) c.clock place k m.head m.carried).lines h.1 (sought_acts_in s c past n place m k h.0.0.1 at z e).of;
+  missed = λ c past n k h r z. acts_stand c past n (seek_timeout_row (Client n) (c.clients n) k).lines h.1 (missed_acts n (c.clients n) k r z).of;
   waited = λ c past n act h r. acts_stand c past n (timeout_row (Client n) (c.clients n) act).lines h.1 (waits_acts n (c.clients n) act r).of;
   fallen = λ c past n h. h.1;
   risen = λ c past n h. h.1;
-  loc = λ c past l ls h st. stands c past ls h.1 (all_of_loc is_tickless loc_tickless ls st.lines);
+  loc = λ c past l ls ms h st. stands c past ls h.1 (all_of_loc is_tickless loc_tickless ls st.lines);
   served = λ c past i place m armed h up at to. works_stand c past i _ _ h.1 (serves_works AnyCall (Server i) (c.hosts i).state c.clock place m (λ rest. tt));
   cut = λ c past i place m t h up at to. blow_stands c past i place t.stops h.1;
   stopped = λ c past i h up. h.1;
@@ -127,7 +129,7 @@ ticks_moves s = record {
 }
 
 pub ticks_kept : (s : Script) → IsKept (HeldTicks s)
-ticks_kept s c past x h = (held_kept s c past x h.0, each_moved (HeldTicks s) (Behind TicksIn) (ticks_moves s) c past x h)
+ticks_kept s c past x so h = (held_kept s c past x so h.0, each_moved (HeldTicks s) (Behind TicksIn) (ticks_moves s) c past x so h)
 
 first_clock : (vs : List VolumeLine) → clock_of (onto [] (first_lines vs)) ≡ 0
 first_clock vs = first_passed (λ ls. clock_of ls ≡ 0) (λ v o h. h) vs [] refl

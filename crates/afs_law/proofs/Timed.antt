@@ -1,32 +1,37 @@
 -- Each timeout of a run is of a call that was sent before, and the one below it was told, however many servers a cell has.
+use Rattle.afs_law.proofs.Asking.{up_to_last, its_last}
+use Rattle.afs_law.proofs.Addressed.{homes_first, homes_kept, IsServer, callee_server, Addressed}
+use Rattle.afs_law.proofs.InTurn.{KnownBy}
 use Rattle.afs_law.proofs.LocLines.{is_of_loc, all_of_loc}
+use Rattle.afs_law.proofs.Origins.{IsSeeking, placed_in, told_in, of_client, IsUpToLast}
 use Rattle.afs_breaks.specs.declared.types.OwedBreak.{OwedBreak}
 use Rattle.afs_history.specs.declared.lines.Line.{Line}
 use Rattle.afs_history.specs.declared.lines.Line.TheVariants as lines
 use Rattle.afs_history.specs.declared.scripts.Script.{Script}
 use Rattle.afs_ideal.specs.Operations.{volume_changed}
-use Rattle.afs_law.proofs.Acting.{begins_acts, given_acts}
+use Rattle.afs_law.proofs.Acting.{begins_acts, given_acts, by_quiet, sought_quiet, seeks_act, IfSeek, runs_act}
 use Rattle.afs_law.proofs.Backing.{all_lines}
 use Rattle.afs_law.proofs.Acting.{last_key}
-use Rattle.afs_law.proofs.Basics.{IfCall, both, each_at}
+use Rattle.afs_law.proofs.Basics.{IfCall, both, each_at, Each}
 use Rattle.afs_law.proofs.Changing.{run_each}
 use Rattle.afs_law.proofs.Choosing.{risen_lines}
 use Rattle.afs_law.proofs.Hearing.{client_given}
-use Rattle.afs_law.proofs.KeysOnce.{IsKnown, any_told, by_key, call_pair}
+use Rattle.afs_law.proofs.KeysOnce.{IsKnown, any_told, by_key}
 use Rattle.afs_law.proofs.Knowing.{Known}
 use Rattle.afs_law.proofs.Origins.{AskedIn}
 use Rattle.afs_law.proofs.Moving.{EachMove, IsKept, each_moved}
 use Rattle.afs_law.proofs.Owed.{Breaks, breaks_first, breaks_kept, disk_lines}
 use Rattle.afs_law.proofs.Owing.{CallOut}
 use Rattle.afs_law.proofs.Placing.{serves_each}
-use Rattle.afs_law.proofs.Timing.{given_has, row_begun}
+use Rattle.afs_law.proofs.Beginning.{row_begun}
+use Rattle.afs_law.proofs.Timing.{given_has}
 use Rattle.afs_law.proofs.Trying.{GivenWaits, Waits, waits_first, waits_kept}
 use Rattle.afs_law.proofs.Unanswered.{UnansweredFacts, unanswered_first, unanswered_kept}
 use Rattle.afs_law.specs.Breaks.{HasTimeout}
 use Rattle.afs_law.specs.Ideal.{set_up}
-use Rattle.afs_law.specs.Legal.{AwaitsReply, HasAnswer, IsInPlace}
+use Rattle.afs_law.specs.Legal.{AwaitsReply, HasAnswer, IsInPlace, IsTimedQuestion}
 use Rattle.afs_law.specs.Parts.{EachLine}
-use Rattle.afs_law.specs.Past.{CalledSince, SendsTo, WasSent, has_begun, has_given, lines_of}
+use Rattle.afs_law.specs.Past.{CalledSince, SendsTo, WasSent, has_begun, has_given, lines_of, sent_of}
 use Rattle.afs_law.specs.ServerParts.{IsTimeoutGood, TimeoutsAreGood}
 use Rattle.afs_num.specs.Nodes.{same_node}
 use Rattle.afs_num.specs.declared.calls.FsCall.{FsCall}
@@ -39,10 +44,11 @@ use Rattle.afs_num.specs.declared.types.Key.{Key}
 use Rattle.afs_num.specs.declared.types.Node.{Node}
 use Rattle.afs_num.specs.declared.types.Node.TheVariants.{Client, Server, Loc}
 use Rattle.afs_rows.specs.Callbacks.{expired, owe_line, quit_line, quits, retries, risen_turn, still_owed}
-use Rattle.afs_rows.specs.ClientRow.{call_of, client_row, dead_code, dropped, given_up_in, gives_up, tries_again}
-use Rattle.afs_rows.specs.Going.{ClientState, Going}
+use Rattle.afs_rows.specs.ClientRow.{call_of, client_row, dead_code, dropped, given_up_in, gives_up, tries_again, question, seeks_on, sought_by, sought_ends, timeout_line, act_of}
+use Rattle.afs_rows.specs.Going.{ClientState, Going, Seek}
 use Rattle.afs_law.proofs.Steps.{blow_line}
-use Rattle.afs_rows.specs.Runs.{Cell, Entry, Fall, Moved, begun_by_disk, message_at, start}
+use Rattle.afs_rows.specs.Runs.{Cell, Entry, Fall, Moved, begun_by_disk, message_at, start, user_at}
+use Rattle.afs_law.proofs.Steps.{loc_becomes}
 use Rattle.afs_rows.specs.ServerRow.{key_of, Decision, does, drops, refuses, repeats, saves, shows, tells_boot}
 use Rattle.afs_rows.specs.ServerSteps.{back_timeout_row, server_row, start_row, wake_row}
 use Rattle.afs_rows.specs.States.{BackCall, Backs, CacheEntry, ServerState}
@@ -129,17 +135,19 @@ below_by n callee epoch number (suc k) ls h = inr (suc k, (refl, h (suc k) (omeg
 -- ---- a client's
 
 -- the reply to the call is awaited still
-awaited : (s : Script) (c : Cell) (past : List Entry) (n : ℕ) (act : Going) (count : ℕ) (next : List Line) → UnansweredFacts s c past → (c.clients n).running ≡ Some act → (HasTimeout (Client n) (c.clients n).callee (c.clients n).epoch (c.clients n).last count (lines_of past) → ⊥) → (count ≡ 3 → HasAnswer (Client n) (negsuc 0) next)
+awaited : (s : Script) (c : Cell) (past : List Entry) (n : ℕ) (act : Going) (count : ℕ) (next : List Line) → UnansweredFacts s c past → (c.clients n).running ≡ Some act → IsServer (c.clients n).callee → (HasTimeout (Client n) (c.clients n).callee (c.clients n).epoch (c.clients n).last count (lines_of past) → ⊥) → (count ≡ 3 → HasAnswer (Client n) (negsuc 0) next)
     → AwaitsReply s (Client n) (c.clients n).callee (last_key n (c.clients n)) (c.clients n).user (call_of (c.clients n) act) count past [] next
-awaited s c past n act count next h r none dead =
+awaited s c past n act count next h r server none dead =
     let known : Known c past = h.0.0.0.0.0.0.0.0.0 in
     let asked : AskedIn s c past = h.0.0.0.0.0.0.0.0.1 in
     record {
       act = act;
-      runs = asked.acts n ∙ r;
+      runs = asked.acts n ∙ runs_act (c.clients n) act r;
       called = subst (λ (u : List ℕ). CalledSince (last_key n (c.clients n)) u (call_of (c.clients n) act) past) (sym (asked.user n)) (asked.asked n act r);
-      last = λ place m at is from. call_pair known.keys.callees c.clients n m.head m.carried is from (each_at (IfCall (λ x u y. IsKnown known.keys.callees c.clients x.to (key_of x))) c.sent place m (ap (λ (ms : List Message). message_at ms place) (sym known.hears.told) ∙ at) known.keys.calls);
-      unanswered = h.1 n act r;
+      last = λ place m at is from.
+          let there : message_at c.sent place ≡ Some m = ap (λ (ms : List Message). message_at ms place) (sym known.hears.told) ∙ at in
+          up_to_last known.keys.callees c.clients n m.head m.carried is from (each_at (IfCall (KnownBy known.keys.callees c.clients)) c.sent place m there known.keys.calls) (each_at (IfSeek (IsUpToLast c.clients)) c.sent place m there asked.upto);
+      unanswered = h.1 n act r server;
       once = none;
       dead = dead;
     }
@@ -149,33 +157,78 @@ pub dead_answer : (me : Node) (es : List CacheEntry) (code : Code) → HasAnswer
 dead_answer me [] code = inl (refl, refl)
 dead_answer me (e ∷ es) code = dead_answer me es code
 
-waits_timely : (s : Script) (c : Cell) (past : List Entry) (n : ℕ) (act : Going) (t : Bool) → Waits n (c.clients n) past → UnansweredFacts s c past → (c.clients n).running ≡ Some act → nat_lt (c.clients n).tries 2 ≡ t
+waits_timely : (s : Script) (c : Cell) (past : List Entry) (n : ℕ) (act : Going) (t : Bool) → Waits n (c.clients n) past → UnansweredFacts s c past → (c.clients n).running ≡ Some act → IsServer (c.clients n).callee → nat_lt (c.clients n).tries 2 ≡ t
     → Timely s (actors.Node (Client n)) past [] (cond t (tries_again (Client n) (c.clients n) act) (gives_up (Client n) (c.clients n) (call_of (c.clients n) act))).lines
-waits_timely s c past n act true w h r e =
+waits_timely s c past n act true w h r server e =
     let x : ClientState = c.clients n in
     let l : x.tries < 2 = ltb-true x.tries 2 e in (
       record {
-        user = x.user;
-        call = call_of x act;
-        sent = w.sent act r;
         below = below_by (Client n) x.callee x.epoch x.last x.tries (lines_of past) (w.tried act r);
         few = omega (arith, l);
-        awaited = awaited s c past n act (x.tries + 1) [] h r (λ y. (let le : x.tries + 1 ≤ x.tries = h.0.1 n act r x.callee (x.tries + 1) y in absurd (omega (arith, le)))) (λ y. (let third : x.tries + 1 ≡ 3 = y in absurd (omega (arith, l, third))));
+        sent = inl (record { user = x.user; call = call_of x act; sent = w.sent act r; awaited = awaited s c past n act (x.tries + 1) [] h r server (λ y. (let le : x.tries + 1 ≤ x.tries = h.0.1 n act (runs_act x act r) x.callee (x.tries + 1) y in absurd (omega (arith, le)))) (λ y. (let third : x.tries + 1 ≡ 3 = y in absurd (omega (arith, l, third)))) });
       },
       tt,
     )
-waits_timely s c past n act false w h r e =
+waits_timely s c past n act false w h r server e =
     let x : ClientState = c.clients n in
     let le : 2 ≤ x.tries = ltb-false x.tries 2 e in (
       record {
-        user = x.user;
-        call = call_of x act;
-        sent = w.sent act r;
         below = inr (2, (refl, w.tried act r 2 (omega arith) le));
         few = omega arith;
-        awaited = awaited s c past n act 3 _ h r (λ y. (h.0.0.1 n).alive act r x.callee y) (λ y. dead_answer (Client n) (given_up_in (volume_changed (call_of x act)) x.cache) dead_code);
+        sent = inl (record { user = x.user; call = call_of x act; sent = w.sent act r; awaited = awaited s c past n act 3 _ h r server (λ y. (h.0.0.1 n).alive act (runs_act x act r) x.callee y) (λ y. dead_answer (Client n) (given_up_in (volume_changed (call_of x act)) x.cache) dead_code) });
       },
       timeless s (actors.Node (Client n)) past _ _ (dropped_timeless (Client n) (given_up_in (volume_changed (call_of x act)) x.cache) (lines.Answer (Client n) dead_code ∷ []) refl),
+    )
+
+-- what is asked of the location database
+seeking_act : (s : Script) (c : Cell) (past : List Entry) (n : ℕ) (k : Seek) → UnansweredFacts s c past → (c.clients n).seeking ≡ Some k → act_of (c.clients n) ≡ Some k.act
+seeking_act s c past n k h z = seeks_act (c.clients n) k (h.0.0.0.0.0.0.0.0.1.seeks n k z).idle z
+
+asked_tried : (s : Script) (c : Cell) (past : List Entry) (n : ℕ) (k : Seek) → UnansweredFacts s c past → (c.clients n).seeking ≡ Some k → (i : ℕ) → 1 ≤ i → i ≤ (c.clients n).tries → HasTimeout (Client n) (c.clients n).callee (c.clients n).epoch (c.clients n).last i (lines_of past)
+asked_tried s c past n k h z i a b =
+    let q : IsSeeking s n (c.clients n) k past = h.0.0.0.0.0.0.0.0.1.seeks n k z in
+    subst (λ (m : Node). HasTimeout (Client n) m (c.clients n).epoch (c.clients n).last i (lines_of past)) (sym q.callee) (q.tried i a b)
+
+asked_question : (s : Script) (c : Cell) (past : List Entry) (n : ℕ) (k : Seek) (count : ℕ) (next : List Line) → UnansweredFacts s c past → (c.clients n).seeking ≡ Some k → (HasTimeout (Client n) (c.clients n).callee (c.clients n).epoch (c.clients n).last count (lines_of past) → ⊥) → (count ≡ 3 → HasAnswer (Client n) (negsuc 0) next)
+    → IsTimedQuestion s (Client n) (c.clients n).callee (last_key n (c.clients n)) count past [] next
+asked_question s c past n k count next h z none dead =
+    let known : Known c past = h.0.0.0.0.0.0.0.0.0 in
+    let asked : AskedIn s c past = h.0.0.0.0.0.0.0.0.1 in
+    let q : IsSeeking s n (c.clients n) k past = asked.seeks n k z in
+    record {
+      is = q.callee;
+      user = user_at s n;
+      call = question k.operand;
+      act = k.act;
+      runs = asked.acts n ∙ seeking_act s c past n k h z;
+      asked = q.asked;
+      last = its_last known.keys.callees c.clients n (last_key n (c.clients n)) (sent_of past) refl (subst (Each (IfCall (KnownBy known.keys.callees c.clients))) (sym known.hears.told) known.keys.calls) (subst (Each (IfSeek (IsUpToLast c.clients))) (sym known.hears.told) asked.upto);
+      once = none;
+      dead = dead;
+    }
+
+-- or it is of what an act asked the location database
+missed_timely : (s : Script) (c : Cell) (past : List Entry) (n : ℕ) (k : Seek) (t : Bool) → UnansweredFacts s c past → (c.clients n).seeking ≡ Some k → nat_lt (c.clients n).tries 2 ≡ t
+    → Timely s (actors.Node (Client n)) past [] (cond t (seeks_on (Client n) (c.clients n) k) (sought_ends (Client n) (c.clients n) (λ ls. timeout_line (Client n) (c.clients n) 3 ∷ ls) dead_code)).lines
+missed_timely s c past n k true h z e =
+    let x : ClientState = c.clients n in
+    let l : x.tries < 2 = ltb-true x.tries 2 e in (
+      record {
+        sent = inr (asked_question s c past n k (x.tries + 1) [] h z (λ y. (let le : x.tries + 1 ≤ x.tries = h.0.1 n k.act (seeking_act s c past n k h z) x.callee (x.tries + 1) y in absurd (omega (arith, le)))) (λ y. (let third : x.tries + 1 ≡ 3 = y in absurd (omega (arith, l, third)))));
+        below = below_by (Client n) x.callee x.epoch x.last x.tries (lines_of past) (asked_tried s c past n k h z);
+        few = omega (arith, l);
+      },
+      tt,
+    )
+missed_timely s c past n k false h z e =
+    let x : ClientState = c.clients n in
+    let le : 2 ≤ x.tries = ltb-false x.tries 2 e in (
+      record {
+        sent = inr (asked_question s c past n k 3 (lines.Answer (Client n) dead_code ∷ []) h z ((h.0.0.1 n).alive k.act (seeking_act s c past n k h z) x.callee) (λ y. inl (refl, refl)));
+        below = inr (2, (refl, asked_tried s c past n k h z 2 (omega arith) le));
+        few = omega arith;
+      },
+      (tt, tt),
     )
 
 -- ---- a server's
@@ -186,10 +239,10 @@ was_sent callee k user call (e ∷ newer) at older h = inr (was_sent callee k us
 
 backs_timely : (s : Script) (i boot : ℕ) (n : Node) (k : BackCall) (b : Backs) (past : List Entry) (t : Bool) (last : ℕ) → CallOut (Server i) n k last boot past → nat_lt k.tries 2 ≡ t → Timely s (actors.Node (Server i)) past [] (cond t (retries (Server i) boot n k b) (quits (Server i) boot n k b)).lines
 backs_timely s i boot n k b past true last out e =
-    (record { few = (let l : k.tries < 2 = ltb-true k.tries 2 e in omega (arith, l)); awaited = tt; user = []; call = _; sent = subst (WasSent n _ [] _) (sym out.sent.split) (was_sent n _ [] _ out.sent.newer out.sent.at out.sent.older out.sent.sent); below = below_by (Server i) n boot k.number k.tries (lines_of past) out.tries }, tt)
+    (record { few = (let l : k.tries < 2 = ltb-true k.tries 2 e in omega (arith, l)); sent = inl (record { user = []; call = _; sent = subst (WasSent n _ [] _) (sym out.sent.split) (was_sent n _ [] _ out.sent.newer out.sent.at out.sent.older out.sent.sent); awaited = tt }); below = below_by (Server i) n boot k.number k.tries (lines_of past) out.tries }, tt)
 backs_timely s i boot n k b past false last out e =
     let le : 2 ≤ k.tries = ltb-false k.tries 2 e in (
-      record { user = []; call = _; sent = subst (WasSent n _ [] _) (sym out.sent.split) (was_sent n _ [] _ out.sent.newer out.sent.at out.sent.older out.sent.sent); below = inr (2, (refl, out.tries 2 (omega arith) le)); few = omega arith; awaited = tt },
+      record { sent = inl (record { user = []; call = _; sent = subst (WasSent n _ [] _) (sym out.sent.split) (was_sent n _ [] _ out.sent.newer out.sent.at out.sent.older out.sent.sent); awaited = tt }); below = inr (2, (refl, out.tries 2 (omega arith) le)); few = omega arith },
       timeless s (actors.Node (Server i)) past _ _ (quits_timeless (Server i) n (still_owed k b)),
     )
 
@@ -228,7 +281,7 @@ blow_timely s past i place false = (tt, (tt, tt))
 -- ---- every step
 
 abbrev TimedFacts : Script → Cell → List Entry → Type 0
-TimedFacts s c past = Breaks s c past × (GivenWaits s c past × UnansweredFacts s c past)
+TimedFacts s c past = Breaks s c past × (GivenWaits s c past × (UnansweredFacts s c past × Addressed s c past))
 
 abbrev TimelyStep : Script → Cell → List Entry → Moved → Type 0
 TimelyStep s c past m = Timely s m.entry.actor past [] m.entry.lines
@@ -241,14 +294,17 @@ timely_moves : (s : Script) → EachMove (TimedFacts s) (TimelyStep s)
 timely_moves s = record {
   void = λ c past h. (tt, tt);
   ticked = λ c past n h. (tt, tt);
-  begun = λ c past n act h r. begun_timely s (Client n) past [] _ ((begins_acts n (c.clients n) c.clock act r).each s past (h.1.0.0.0.0.0.1.table n) (h.1.0.0.0.0.0.1.acts n)) (inr (row_begun (c.clients n) n c.clock act));
+  begun = λ c past n act h r z. begun_timely s (Client n) past [] _ ((begins_acts n (c.clients n) c.clock act r z).each s past (h.1.0.0.0.0.0.1.table n) (h.1.0.0.0.0.0.1.acts n)) (inr (row_begun (c.clients n) n c.clock act));
   told = λ c past n place m h at to. given_timely s (actors.Node (Client n)) past [] _
       ((given_acts (by_key (IsKnown h.1.0.0.0.0.0.0.keys.callees c.clients)) any_told n (c.clients n) c.clock place m (h.1.0.0.0.0.0.0.keys.replies n) (h.1.0.0.0.0.0.1.seats n)).each s past (h.1.0.0.0.0.0.1.table n) (h.1.0.0.0.0.0.1.acts n))
       (inr (given_has (client_row (Client n) (c.clients n) c.clock place (Whole m)).lines c.sent m ((client_given c past n place m h.1.0.0.0.0.0.0.hears to at).given c.sent ∙ at)));
-  waited = λ c past n act h r. waits_timely s c past n act (nat_lt (c.clients n).tries 2) (h.1.0.1 n) h.1.1 r refl;
+  sought = λ c past n place m k h at to z e. by_quiet (λ st. Timely s (actors.Node (Client n)) past [] st.lines) n (c.clients n) place k m.head m.carried (sought_by (Client n) (c.clients n) c.clock place k m.head m.carried)
+      (sought_quiet s n (c.clients n) c.clock place k m.head m.carried (placed_in s c past n k h.1.0.0.0.0.0.1 z) (told_in s c past n place m k h.1.0.0.0.0.0.1 at e)) (λ code y has. (tt, (tt, tt))) (tt, tt) (tt, tt);
+  missed = λ c past n k h r z. missed_timely s c past n k (nat_lt (c.clients n).tries 2) h.1.1.0 z refl;
+  loc = λ c past l ls ms h st. timeless s (actors.Node Loc) past [] ls (all_of_loc is_timeless loc_timeless ls st.lines);
+  waited = λ c past n act h r. waits_timely s c past n act (nat_lt (c.clients n).tries 2) (h.1.0.1 n) h.1.1.0 r (callee_server n c.clients act h.1.1.1.1.0.0 h.1.1.1.1.0.1 r) refl;
   fallen = λ c past n h. (tt, tt);
   risen = λ c past n h. (tt, tt);
-  loc = λ c past l ls h st. timeless s (actors.Node Loc) past [] ls (all_of_loc is_timeless loc_timeless ls st.lines);
   served = λ c past i place m armed h up at to. given_timely s (actors.Node (Server i)) past [] _ (serves_each s i past (c.hosts i).state c.clock place m) (inr (row_given (Server i) (c.hosts i).state c.clock place m));
   cut = λ c past i place m t h up at to. blow_timely s past i place t.stops;
   stopped = λ c past i h up. (tt, tt);
@@ -263,8 +319,8 @@ timely_moves s = record {
 }
 
 timed_facts_kept : (s : Script) → IsKept (TimedFacts s)
-timed_facts_kept s c past x h = (breaks_kept s c past x h.0, (waits_kept s c past x h.1.0, unanswered_kept s c past x h.1.1))
+timed_facts_kept s c past x so h = (breaks_kept s c past x so h.0, (waits_kept s c past x so h.1.0, (unanswered_kept s c past x so h.1.1.0, homes_kept s c past x so h.1.1.1)))
 
 pub run_timed : TimeoutsAreGood
 run_timed s h end r =
-    run_each (TimedFacts s) (λ past e. EachLine (IsTimeoutGood s) e.actor past [] e.lines) (timed_facts_kept s) (λ c past x k. each_moved (TimedFacts s) (TimelyStep s) (timely_moves s) c past x k) r.inputs (start s) (set_up s ∷ []) h end (breaks_first s, (waits_first s, unanswered_first s)) r.leads
+    run_each (TimedFacts s) (λ past e. EachLine (IsTimeoutGood s) e.actor past [] e.lines) (timed_facts_kept s) (λ c past x so k. each_moved (TimedFacts s) (TimelyStep s) (timely_moves s) c past x so k) r.inputs s (set_up s ∷ []) h end (breaks_first s, (waits_first s, (unanswered_first s, homes_first s))) r.leads

@@ -1,10 +1,11 @@
 -- A client times out the call for which it waits, and no call for which it waits was timed out thrice, however many servers a cell has.
+use Rattle.afs_law.proofs.Beginning.{row_begun}
 use Rattle.afs_law.proofs.Following.{none_runs}
 use Rattle.afs_history.specs.declared.acts.Act.{Act}
 use Rattle.afs_history.specs.declared.lines.Line.{Line}
 use Rattle.afs_history.specs.declared.lines.Line.TheVariants as lines
 use Rattle.afs_history.specs.declared.scripts.Script.{Script}
-use Rattle.afs_law.proofs.Acting.{Acts, begins_acts, falls_acts, given_acts, rises_acts, waits_acts, who_at}
+use Rattle.afs_law.proofs.Acting.{Acts, begins_acts, falls_acts, given_acts, rises_acts, waits_acts, who_at, missed_acts, by_quiet, sought_quiet, SeeksOn, runs_act, seeks_act}
 use Rattle.afs_law.proofs.Backing.{all_lines}
 use Rattle.afs_law.proofs.Basics.{UpTo, at_put, same_node-refl, up_to_same}
 use Rattle.afs_law.proofs.Choosing.{disk_works, one_from, risen_from, risen_lines, serves_works, starts_works, times_works, wakes_works}
@@ -12,8 +13,8 @@ use Rattle.afs_law.proofs.Hearing.{client_given}
 use Rattle.afs_law.proofs.KeysOnce.{IsKnown, any_told, by_key}
 use Rattle.afs_law.proofs.SettingUp.{first_passed}
 use Rattle.afs_law.proofs.Moving.{Behind, EachMove, IsKept, each_moved}
-use Rattle.afs_law.proofs.Origins.{any_cut, any_message, blow_idle, idle_leaves, idle_works, is_idle, of_client, other_leaves, loc_idle}
-use Rattle.afs_law.proofs.Queued.{GivenQueued, later_pair, queued_first, queued_kept}
+use Rattle.afs_law.proofs.Origins.{any_cut, any_message, blow_idle, idle_leaves, idle_works, is_idle, of_client, other_leaves, loc_idle, sought_acts_in, placed_in, told_in, AskedIn, handed_same, later_pair}
+use Rattle.afs_law.proofs.Queued.{GivenQueued, queued_first, queued_kept}
 use Rattle.afs_law.specs.Breaks.{HasTimeout}
 use Rattle.afs_law.specs.Ideal.{set_up}
 use Rattle.afs_law.specs.Legal.{IsInPlace}
@@ -26,16 +27,17 @@ use Rattle.afs_num.specs.declared.messages.Message.{Message}
 use Rattle.afs_num.specs.declared.messages.Received.TheVariants.{Whole}
 use Rattle.afs_num.specs.declared.types.Code.{Code}
 use Rattle.afs_num.specs.declared.types.Node.{Node}
-use Rattle.afs_num.specs.declared.types.Node.TheVariants.{Client, Server}
+use Rattle.afs_num.specs.declared.types.Node.TheVariants.{Client, Server, Loc}
 use Rattle.afs_rows.specs.Callbacks.{put}
-use Rattle.afs_rows.specs.ClientRow.{Walked, begin_row, begins_by, client_row, dead_code, dropped, gift_of, given_up_in, gives_by, gives_up, goes_by, in_order, most_reads, timeout_line, timeout_row, tries_again, trusted_in, untrusted_in, walked, call_of}
-use Rattle.afs_rows.specs.Going.{ClientState, Going, Need, began, gives_back, answers, next}
+use Rattle.afs_rows.specs.ClientRow.{Walked, begin_row, begins_by, client_row, dead_code, dropped, gift_of, given_up_in, gives_by, gives_up, goes_by, in_order, most_reads, timeout_line, timeout_row, tries_again, trusted_in, untrusted_in, walked, call_of, sought_by, seek_timeout_row, seeks_on, sought_ends, is_sought, act_by, act_of}
+use Rattle.afs_rows.specs.Going.{ClientState, Going, Need, began, gives_back, answers, next, Seek, locates}
 use Rattle.afs_law.proofs.Steps.{blow_line, server_falls, server_moves, server_rises, server_set, server_stays, loc_becomes}
 use Rattle.afs_rows.specs.Runs.{Cell, Entry, at_rest, begun_by_disk, in_boot, in_step, message_at, start, ticked, voided}
+use Rattle.afs_law.proofs.Steps.{loc_becomes}
 use Rattle.afs_rows.specs.ServerSteps.{back_timeout_row, server_row, wake_row}
 use Rattle.afs_rows.specs.States.{CacheEntry, Gift}
 use Rattle.afs_rows.specs.Steps.{Step}
-use Rattle.std.proofs.Common.{suc, ◌≡◌, ◌<◌, ◌+◌, ℕ, ◌⊎◌, inl, inr, Bool, true, false, cond, map, List, [], ◌∷◌, Some, None, refl, sym, subst, ◌∙◌, ltb-true, arith}
+use Rattle.std.proofs.Common.{suc, ◌≡◌, ◌<◌, ◌+◌, ℕ, ◌⊎◌, inl, inr, Bool, true, false, cond, map, List, [], ◌∷◌, Some, None, refl, sym, ap, subst, ◌∙◌, ltb-true, arith, Option}
 use Rattle.std.specs.Prelude.{nat_lt}
 
 -- ---- timeouts among lines
@@ -94,16 +96,15 @@ timed_alone s j who past own (l ∷ ls) q e n k place h = alone_more j l own ls 
 
 -- ---- a step of a client
 
--- the call for which the client waited was timed out; for the third time where its act ends
-pub record IsTimedOut (c : ClientState) (st : Step ClientState) (e k i : ℕ) : Type 0 where
-  pub act : Going
-  pub runs : c.running ≡ Some act
+-- the call for which the client waited was timed out; for the third time where its act ends. A server's is that of the act that ran
+pub record IsTimedOut (c : ClientState) (st : Step ClientState) (q : Node) (e k i : ℕ) : Type 0 where
+  pub runs : (q ≡ Loc → ⊥) → (act : Going) × (c.running ≡ Some act)
   pub epoch : e ≡ c.epoch
   pub number : k ≡ c.last
-  pub third : i ≡ 3 → st.state.running ≡ None
+  pub third : i ≡ 3 → act_of st.state ≡ None
 
 abbrev pub Times : ℕ → ClientState → Step ClientState → Type 0
-Times n c st = (q : Node) (e k i : ℕ) (o : List Line) → HasTimeout (Client n) q e k i (onto o st.lines) → HasTimeout (Client n) q e k i o ⊎ IsTimedOut c st e k i
+Times n c st = (q : Node) (e k i : ℕ) (o : List Line) → HasTimeout (Client n) q e k i (onto o st.lines) → HasTimeout (Client n) q e k i o ⊎ IsTimedOut c st q e k i
 
 -- or none was
 abbrev pub IsUntimed : ℕ → Step ClientState → Type 0
@@ -123,23 +124,6 @@ given_has [] sent m e = absurd cc
 given_has (lines.Given p ∷ ls) sent m e = refl
 given_has (l ∷ ls) sent m e = given_has ls sent m e
 
--- an act begins
-goes_begun : (c : ClientState) (n : ℕ) (act : Act) (w : Walked) (need : Need) → has_begun (Client n) (goes_by (Client n) c (λ ls. lines.Begin (Client n) act ∷ ls) w need).lines ≡ true
-goes_begun c n act w (answers k) = rw (same_node-refl (Client n)) refl
-goes_begun c n act w need = rw (same_node-refl (Client n)) refl
-
-gives_begun : (c : ClientState) (n : ℕ) (act : Act) (a : Going) (es : List CacheEntry) (gs : List Gift) → has_begun (Client n) (gives_by (Client n) c (λ ls. lines.Begin (Client n) act ∷ dropped (Client n) es ls) a gs).lines ≡ true
-gives_begun c n act a es [] = rw (same_node-refl (Client n)) refl
-gives_begun c n act a es (g ∷ gs) = rw (same_node-refl (Client n)) refl
-
-first_begun : (x : ClientState) (n clock : ℕ) (act : Act) (a : Going) (need : Need) → has_begun (Client n) (begins_by (Client n) x clock (λ ls. lines.Begin (Client n) act ∷ ls) a need).lines ≡ true
-first_begun x n clock act a gives_back = gives_begun (record x { cache = untrusted_in clock x.cache }) n act a (trusted_in clock x.cache) (in_order (map gift_of (trusted_in clock x.cache)))
-first_begun x n clock act a need = goes_begun x n act (walked (most_reads a) clock a x.cache) (next (walked (most_reads a) clock a x.cache).act)
-
-pub row_begun : (x : ClientState) (n clock : ℕ) (act : Act) → has_begun (Client n) (begin_row (Client n) x clock act).lines ≡ true
-unfolding begin_row
-row_begun x n clock act = first_begun (record x { busy = 0 }) n clock act (began x.table act) (next (began x.table act))
-
 -- a call is timed out
 dropped_passes : (n : ℕ) (es : List CacheEntry) (code : Code) (q : Node) (e k i : ℕ) (o : List Line) → HasTimeout (Client n) q e k i (onto o (dropped (Client n) es (lines.Answer (Client n) code ∷ []))) → HasTimeout (Client n) q e k i o
 dropped_passes n [] code q e k i o h = h
@@ -147,27 +131,47 @@ dropped_passes n (u ∷ es) code q e k i o h = dropped_passes n es code q e k i 
 
 waits_times : (n : ℕ) (c : ClientState) (act : Going) (t : Bool) → nat_lt c.tries 2 ≡ t → c.running ≡ Some act → Times n c (cond t (tries_again (Client n) c act) (gives_up (Client n) c (call_of c act)))
 waits_times n c act true few r q e k i o (inl x) = inr (record {
-  act = act;
-  runs = r;
+  runs = λ other. (act, r);
   epoch = sym x.1.1.0;
   number = sym x.1.1.1.0;
   third = λ z. (let l : c.tries < 2 = ltb-true c.tries 2 few in let p : c.tries + 1 ≡ 3 = x.1.1.1.1 ∙ z in absurd (omega (arith, l, p)));
 })
 waits_times n c act true few r q e k i o (inr x) = inl x
 waits_times n c act false few r q e k i o h = elim (dropped_passes n (given_up_in _ c.cache) dead_code q e k i (timeout_line (Client n) c 3 ∷ o) h) [
-  | inl x ↦ inr (record { act = act; runs = r; epoch = sym x.1.1.0; number = sym x.1.1.1.0; third = λ z. refl })
+  | inl x ↦ inr (record { runs = λ other. (act, r); epoch = sym x.1.1.0; number = sym x.1.1.1.0; third = λ z. refl })
   | inr x ↦ inl x
 ]
 
 pub row_times : (n : ℕ) (c : ClientState) (act : Going) → c.running ≡ Some act → Times n c (timeout_row (Client n) c act)
 row_times n c act r = waits_times n c act (nat_lt c.tries 2) refl r
 
+-- what asks the location database is timed out
+missed_by : (n : ℕ) (c : ClientState) (k : Seek) (t : Bool) → nat_lt c.tries 2 ≡ t → c.running ≡ None → c.callee ≡ Loc → Times n c (cond t (seeks_on (Client n) c k) (sought_ends (Client n) c (λ ls. timeout_line (Client n) c 3 ∷ ls) dead_code))
+missed_by n c k true few none loc q e i t o (inl x) = inr (record {
+  runs = λ other. absurd (other (sym x.1.0 ∙ loc));
+  epoch = sym x.1.1.0;
+  number = sym x.1.1.1.0;
+  third = λ z. (let l : c.tries < 2 = ltb-true c.tries 2 few in let p : c.tries + 1 ≡ 3 = x.1.1.1.1 ∙ z in absurd (omega (arith, l, p)));
+})
+missed_by n c k true few none loc q e i t o (inr x) = inl x
+missed_by n c k false few none loc q e i t o (inl x) = inr (record { runs = λ other. absurd (other (sym x.1.0 ∙ loc)); epoch = sym x.1.1.0; number = sym x.1.1.1.0; third = λ z. ap (λ (a : Option Going). act_by a None) none })
+missed_by n c k false few none loc q e i t o (inr x) = inl x
+
+pub missed_times : (n : ℕ) (c : ClientState) (k : Seek) → c.running ≡ None → c.callee ≡ Loc → Times n c (seek_timeout_row (Client n) c k)
+missed_times n c k none loc = missed_by n c k (nat_lt c.tries 2) refl none loc
+
+-- and its answer times none out
+pub sought_times : (s : Script) (c : Cell) (past : List Entry) (n place : ℕ) (m : Message) (k : Seek) → AskedIn s c past → message_at c.sent place ≡ Some m → (c.clients n).seeking ≡ Some k → is_sought (Client n) (c.clients n) k m.head m.carried ≡ true → IsUntimed n (sought_by (Client n) (c.clients n) c.clock place k m.head m.carried)
+sought_times s c past n place m k A at z e =
+    by_quiet (IsUntimed n) n (c.clients n) place k m.head m.carried (sought_by (Client n) (c.clients n) c.clock place k m.head m.carried) (sought_quiet s n (c.clients n) c.clock place k m.head m.carried (placed_in s c past n k A z) (told_in s c past n place m k A at e))
+    (λ code x y q e k i o h. h) (λ q e k i o h. h) (λ q e k i o h. h)
+
 -- ---- what holds after every entry
 
 -- what was timed out has a pair not above the client's last; and the call for which it waits wasn't timed out thrice
 pub record Timed (j : ℕ) (x : ClientState) (past : List Entry) : Type 0 where
   pub behind : (q : Node) (e k i : ℕ) → HasTimeout (Client j) q e k i (lines_of past) → UpTo e k x.epoch x.last
-  pub alive : (act : Going) → x.running ≡ Some act → (q : Node) → HasTimeout (Client j) q x.epoch x.last 3 (lines_of past) → ⊥
+  pub alive : (act : Going) → act_of x ≡ Some act → (q : Node) → HasTimeout (Client j) q x.epoch x.last 3 (lines_of past) → ⊥
 
 abbrev pub TimedIn : Cell → List Entry → Type 0
 TimedIn c past = (j : ℕ) → Timed j (c.clients j) past
@@ -179,6 +183,38 @@ pub not_next : (e n : ℕ) → UpTo e (n + 1) e n → ⊥
 not_next e n (inl x) = absurd (omega arith)
 not_next e n (inr x) = absurd (omega (arith, x.1))
 
+-- a client that waits after a step goes on waiting for what it asked before
+pub record WaitsOn (n : ℕ) (c : ClientState) (st : Step ClientState) (act : Going) : Type 0 where
+  pub epoch : st.state.epoch ≡ c.epoch
+  pub last : st.state.last ≡ c.last
+  pub old : Going
+  pub was : act_of c ≡ Some old
+  pub how : (st.state.running ≡ Some act) ⊎ ((k : Seek) × SeeksOn n (who_at c) k st)
+
+-- or asks now, under the next pair
+abbrev pub AsksOn : ClientState → Step ClientState → Type 0
+AsksOn c st = (st.state.epoch ≡ c.epoch) × (st.state.last ≡ c.last + 1)
+
+waiting_by : (n : ℕ) (c : ClientState) (st : Step ClientState) (act : Going) (o : Option Going) (p : Option Seek) → Acts n (who_at c) c.gifts st → st.state.running ≡ o → st.state.seeking ≡ p → act_by o p ≡ Some act → WaitsOn n c st act ⊎ AsksOn c st
+waiting_by n c st act (Some g) p a r z run = elim a.goes [
+  | inl rests ↦ elim rests.act [
+    | inl none ↦ absurd (none_runs st.state.running g none r)
+    | inr same ↦ inl (record { epoch = rests.epoch; last = rests.last; old = g; was = runs_act c g (sym same.0 ∙ r); how = inl (r ∙ run) })
+  ]
+  | inr y ↦ elim y [
+    | inl asks ↦ inr (asks.epoch, asks.last)
+    | inr stops ↦ absurd (none_runs st.state.running g stops.act r)
+  ]
+]
+waiting_by n c st act None (Some k) a r z run = elim (a.seeks k z) [
+  | inl on ↦ inl (record { epoch = on.epoch; last = on.last; old = k.act; was = seeks_act c k (sym on.running ∙ r) on.before; how = inr (k, on) })
+  | inr now ↦ inr now.above
+]
+waiting_by n c st act None None a r z run = absurd cc
+
+pub waiting : (n : ℕ) (c : ClientState) (st : Step ClientState) (act : Going) → Acts n (who_at c) c.gifts st → act_of st.state ≡ Some act → WaitsOn n c st act ⊎ AsksOn c st
+waiting n c st act a run = waiting_by n c st act st.state.running st.state.seeking a refl refl run
+
 step_timed : (n : ℕ) (c : ClientState) (st : Step ClientState) (past : List Entry) → Timed n c past → Acts n (who_at c) c.gifts st → Times n c st → Timed n st.state (of_client n st ∷ past)
 step_timed n c st past h a w = record {
   behind = λ q e k i x. later_pair n c st a e k (elim (w q e k i (lines_of past) x) [
@@ -186,16 +222,10 @@ step_timed n c st past h a w = record {
     | inr new ↦ up_to_same e k c.epoch c.last new.epoch new.number
   ]);
   alive = λ act run q x. elim (w q st.state.epoch st.state.last 3 (lines_of past) x) [
-    | inr new ↦ none_runs st.state.running act (new.third refl) run
-    | inl old ↦ elim a.goes [
-      | inl r ↦ elim r.act [
-        | inl none ↦ none_runs st.state.running act none run
-        | inr same ↦ h.alive act (sym same.0 ∙ run) q (subst (λ (e : ℕ). HasTimeout (Client n) q e c.last 3 (lines_of past)) r.epoch (subst (λ (k : ℕ). HasTimeout (Client n) q st.state.epoch k 3 (lines_of past)) r.last old))
-      ]
-      | inr y ↦ elim y [
-        | inl z ↦ not_next c.epoch c.last (subst (λ (k : ℕ). UpTo c.epoch k c.epoch c.last) z.last (subst (λ (e : ℕ). UpTo e st.state.last c.epoch c.last) z.epoch (h.behind q st.state.epoch st.state.last 3 old)))
-        | inr z ↦ none_runs st.state.running act z.act run
-      ]
+    | inr new ↦ none_runs (act_of st.state) act (new.third refl) run
+    | inl old ↦ elim (waiting n c st act a run) [
+      | inl on ↦ h.alive on.old on.was q (subst (λ (e : ℕ). HasTimeout (Client n) q e c.last 3 (lines_of past)) on.epoch (subst (λ (k : ℕ). HasTimeout (Client n) q st.state.epoch k 3 (lines_of past)) on.last old))
+      | inr z ↦ not_next c.epoch c.last (subst (λ (k : ℕ). UpTo c.epoch k c.epoch c.last) z.1 (subst (λ (e : ℕ). UpTo e st.state.last c.epoch c.last) z.0 (h.behind q st.state.epoch st.state.last 3 old)))
     ]
   ];
 }
@@ -232,12 +262,14 @@ timed_moves : (s : Script) → EachMove (GivenTimed s) (Behind TimedIn)
 timed_moves s = record {
   void = λ c past h. idle_timed s c past (voided c).entry h.1 refl;
   ticked = λ c past n h. idle_timed s c past (ticked c (suc n)).entry h.1 refl;
-  begun = λ c past n act h r. (let a = begins_acts n (c.clients n) c.clock act r in client_timed s c past n _ h.1 a (none_times n (c.clients n) _ (begun_times s c past n act h.0 a)));
+  begun = λ c past n act h r z. (let a = begins_acts n (c.clients n) c.clock act r z in client_timed s c past n _ h.1 a (none_times n (c.clients n) _ (begun_times s c past n act h.0 a)));
   told = λ c past n place m h at to. (let a = given_acts (by_key (IsKnown h.0.0.0.0.0.0.0.keys.callees c.clients)) any_told n (c.clients n) c.clock place m (h.0.0.0.0.0.0.0.keys.replies n) (h.0.0.0.0.0.0.1.seats n) in client_timed s c past n _ h.1 a (none_times n (c.clients n) _ (told_times s c past n place m h.0 at to a)));
+  sought = λ c past n place m k h at to z e. client_timed s c past n _ h.1 (sought_acts_in s c past n place m k h.0.0.0.0.0.0.1 at z e) (none_times n (c.clients n) _ (sought_times s c past n place m k h.0.0.0.0.0.0.1 at z e));
+  missed = λ c past n k h r z. client_timed s c past n _ h.1 (missed_acts n (c.clients n) k r z) (missed_times n (c.clients n) k r (h.0.0.0.0.0.0.1.seeks n k z).callee);
+  loc = λ c past l ls ms h st. idle_timed s c past (loc_becomes c l ls ms).entry h.1 (loc_idle ls st.lines);
   waited = λ c past n act h r. client_timed s c past n _ h.1 (waits_acts n (c.clients n) act r) (row_times n (c.clients n) act r);
-  fallen = λ c past n h. client_timed s c past n _ h.1 (falls_acts n (c.clients n)) (λ q e k i o x. inl x);
+  fallen = λ c past n h. client_timed s c past n _ h.1 (falls_acts n c.handed (c.clients n) (handed_same s c past (h.0.0.0.0.0.0.1) n)) (λ q e k i o x. inl x);
   risen = λ c past n h. client_timed s c past n _ h.1 (rises_acts n (c.clients n)) (λ q e k i o x. inl x);
-  loc = λ c past l ls h st. idle_timed s c past (loc_becomes c l ls).entry h.1 (loc_idle ls st.lines);
   served = λ c past i place m armed h up at to. idle_timed s c past (server_moves c i armed (server_row (Server i) (c.hosts i).state c.clock place (Whole m))).entry h.1 (idle_works any_message i (c.hosts i).state _ _ (serves_works any_message (Server i) (c.hosts i).state c.clock place m (λ rest. tt)));
   cut = λ c past i place m t h up at to. idle_timed s c past (server_falls c i (lines.Given place ∷ blow_line i t.stops ∷ []) (in_step m c.clock t)).entry h.1 (blow_idle i t.stops);
   stopped = λ c past i h up. idle_timed s c past (server_falls c i (lines.Crash (Server i) ∷ []) at_rest).entry h.1 refl;
@@ -253,7 +285,7 @@ timed_moves s = record {
 }
 
 pub timed_kept : (s : Script) → IsKept (GivenTimed s)
-timed_kept s c past x h = (queued_kept s c past x h.0, each_moved (GivenTimed s) (Behind TimedIn) (timed_moves s) c past x h)
+timed_kept s c past x so h = (queued_kept s c past x so h.0, each_moved (GivenTimed s) (Behind TimedIn) (timed_moves s) c past x so h)
 
 no_timeouts : (s : Script) (j : ℕ) (q : Node) (e k i : ℕ) → HasTimeout (Client j) q e k i (lines_of (set_up s ∷ [])) → ⊥
 no_timeouts s j q e k i h = first_passed (λ (ls : List Line). HasTimeout (Client j) q e k i ls → ⊥) (λ v o w. w) s.volumes [] (λ x. x) h

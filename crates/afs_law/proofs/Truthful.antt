@@ -1,4 +1,5 @@
 -- Each reply of a server to a client tells what the ideal operation made of the call that its entry was given, however many servers a cell has.
+use Rattle.afs_law.proofs.Listing.{IsSoundLoc}
 use Rattle.afs_history.specs.declared.scripts.Script.{Script}
 use Rattle.afs_law.proofs.Addressed.{Addressed, AsksOf, IsHome as IsAddressed, IsOneIn, homes_first, homes_kept}
 use Rattle.afs_law.proofs.Basics.{Each, IfCall, each_map, if_call}
@@ -45,7 +46,7 @@ telling : (s : Script) (c : Cell) (past : List Entry) → Truthful s c past → 
 telling s c past h = ((h.0.0, homes_in s c past h.0.1), h.1)
 
 pub truthful_kept : (s : Script) → IsKept (Truthful s)
-truthful_kept s c past x h = ((held_kept s c past x h.0.0, homes_kept s c past x h.0.1), each_moved (Telling s) (Behind ToldIn) (told_moves s) c past x (telling s c past h))
+truthful_kept s c past x so h = ((held_kept s c past x so h.0.0, homes_kept s c past x so h.0.1), each_moved (Telling s) (Behind ToldIn) (told_moves s) c past x so (telling s c past h))
 
 pub truthful_first : (s : Script) → Truthful s (start s) (set_up s ∷ [])
 truthful_first s = (((asked_first s, volumes_first s), homes_first s), told_first s)
@@ -65,13 +66,13 @@ all_true : (past : List Entry) (ms : List Message) → Each (IsTold past) ms →
 all_true past [] h = tt
 all_true past (m ∷ ms) h = (true_of past m h.0, all_true past ms h.1)
 
-step_true : (s : Script) (c : Cell) (past : List Entry) (x : Input) → Truthful s c past → EachSent IsTruthful ((moved c x).entry ∷ past) (moved c x).entry.sent
-step_true s c past x h =
+step_true : (s : Script) (c : Cell) (past : List Entry) (x : Input) → IsSoundLoc c.loc.state → Truthful s c past → EachSent IsTruthful ((moved c x).entry ∷ past) (moved c x).entry.sent
+step_true s c past x so h =
     let e : Entry = (moved c x).entry in
-    let k : Truthful s (moved c x).cell (e ∷ past) = truthful_kept s c past x h in
+    let k : Truthful s (moved c x).cell (e ∷ past) = truthful_kept s c past x so h in
     let all : Each (IsTold (e ∷ past)) (sent_of past ++ e.sent) = subst (Each (IsTold (e ∷ past))) (sym k.0.0.0.0.hears.told) k.1.sends in
     all_true (e ∷ past) e.sent (each_behind (IsTold (e ∷ past)) (sent_of past) e.sent all)
 
 pub run_true : RepliesAreTrue
 run_true s h end r =
-    run_each (Truthful s) (λ past e. EachSent IsTruthful (e ∷ past) e.sent) (truthful_kept s) (λ c past x k. step_true s c past x k) r.inputs (start s) (set_up s ∷ []) h end (truthful_first s) r.leads
+    run_each (Truthful s) (λ past e. EachSent IsTruthful (e ∷ past) e.sent) (truthful_kept s) (λ c past x so k. step_true s c past x so k) r.inputs s (set_up s ∷ []) h end (truthful_first s) r.leads

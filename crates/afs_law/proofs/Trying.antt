@@ -1,15 +1,16 @@
 -- The call that a client waits for was sent to its callee, and each timeout of it was told, however many servers a cell has.
-use Rattle.afs_law.proofs.Following.{none_runs, AreOpen, Follows, WaitsOn, begins_follow, falls_follow, given_follow, more_not, rises_follow, waits_follow}
+use Rattle.afs_law.proofs.Listing.{}
+use Rattle.afs_law.proofs.Following.{none_runs, AreOpen, Follows, WaitsOn, begins_follow, falls_follow, given_follow, more_not, rises_follow, waits_follow, sought_follow, missed_follow}
 use Rattle.afs_history.specs.declared.lines.Line.{Line}
 use Rattle.afs_history.specs.declared.lines.Line.TheVariants as lines
 use Rattle.afs_history.specs.declared.scripts.Script.{Script}
-use Rattle.afs_law.proofs.Acting.{Acts, begins_acts, falls_acts, given_acts, last_key, rises_acts, waits_acts, who_at}
+use Rattle.afs_law.proofs.Acting.{Acts, begins_acts, falls_acts, given_acts, last_key, rises_acts, waits_acts, who_at, missed_acts}
 use Rattle.afs_law.proofs.Basics.{at_put, each_at, some_of}
 use Rattle.afs_law.proofs.Firm.{IsFirm}
 use Rattle.afs_law.proofs.Gifts.{Given, given_first, given_kept}
 use Rattle.afs_law.proofs.KeysOnce.{IsKnown, any_told, by_key}
 use Rattle.afs_law.proofs.Moving.{Behind, EachMove, IsKept, each_moved}
-use Rattle.afs_law.proofs.Origins.{of_client, same_key_at}
+use Rattle.afs_law.proofs.Origins.{of_client, same_key_at, sought_acts_in, placed_in, told_in, handed_same}
 use Rattle.afs_law.proofs.Passing.{timeout_onto}
 use Rattle.afs_law.specs.Breaks.{HasTimeout}
 use Rattle.afs_law.specs.Ideal.{set_up}
@@ -25,6 +26,7 @@ use Rattle.afs_rows.specs.ClientRow.{call_by, call_of}
 use Rattle.afs_rows.specs.Going.{ClientState, Going, next}
 use Rattle.afs_law.proofs.Steps.{blow_line, server_falls, server_moves, server_rises, server_set, server_stays, loc_becomes}
 use Rattle.afs_rows.specs.Runs.{Cell, Entry, at_rest, begun_by_disk, in_boot, in_step, start, ticked, voided}
+use Rattle.afs_law.proofs.Steps.{loc_becomes}
 use Rattle.afs_rows.specs.ServerSteps.{back_timeout_row, server_row, wake_row}
 use Rattle.afs_rows.specs.States.{Gift}
 use Rattle.afs_rows.specs.Steps.{Step}
@@ -120,12 +122,14 @@ waits_moves : (s : Script) → EachMove (GivenWaits s) (Behind WaitsIn)
 waits_moves s = record {
   void = λ c past h j. other_waits j (c.clients j) (voided c).entry past (h.1 j);
   ticked = λ c past n h j. other_waits j (c.clients j) (ticked c (suc n)).entry past (h.1 j);
-  begun = λ c past n act h r. client_waits c past n _ h.1 (begins_acts n (c.clients n) c.clock act r) (begins_follow n (c.clients n) c.clock act (h.0.1 n).0 r);
+  begun = λ c past n act h r z. client_waits c past n _ h.1 (begins_acts n (c.clients n) c.clock act r z) (begins_follow n (c.clients n) c.clock act (h.0.1 n).0 r);
   told = λ c past n place m h at to. client_waits c past n _ h.1 (given_acts (by_key (IsKnown h.0.0.0.0.0.keys.callees c.clients)) any_told n (c.clients n) c.clock place m (h.0.0.0.0.0.keys.replies n) (h.0.0.0.0.1.seats n)) (given_follow n (c.clients n) c.clock place m (h.0.1 n).0 (each_at (λ m. IsFirm m.head m.carried) c.sent place m at h.0.0.1));
+  sought = λ c past n place m k h at to z e. client_waits c past n _ h.1 (sought_acts_in s c past n place m k h.0.0.0.0.1 at z e) (sought_follow s n (c.clients n) c.clock place k m.head m.carried (placed_in s c past n k h.0.0.0.0.1 z) (told_in s c past n place m k h.0.0.0.0.1 at e) (h.0.1 n).0);
+  missed = λ c past n k h r z. client_waits c past n _ h.1 (missed_acts n (c.clients n) k r z) (missed_follow n (c.clients n) k r (h.0.1 n).0);
   waited = λ c past n act h r. client_waits c past n _ h.1 (waits_acts n (c.clients n) act r) (waits_follow n (c.clients n) act (h.0.1 n).0);
-  fallen = λ c past n h. client_waits c past n _ h.1 (falls_acts n (c.clients n)) (falls_follow n (c.clients n));
+  fallen = λ c past n h. client_waits c past n _ h.1 (falls_acts n c.handed (c.clients n) (handed_same s c past (h.0.0.0.0.1) n)) (falls_follow n c.handed (c.clients n));
   risen = λ c past n h. client_waits c past n _ h.1 (rises_acts n (c.clients n)) (rises_follow n (c.clients n) (h.0.1 n).0);
-  loc = λ c past l ls h st j. other_waits j (c.clients j) (loc_becomes c l ls).entry past (h.1 j);
+  loc = λ c past l ls ms h st j. other_waits j (c.clients j) (loc_becomes c l ls ms).entry past (h.1 j);
   served = λ c past i place m armed h up at to j. other_waits j (c.clients j) (server_moves c i armed (server_row (Server i) (c.hosts i).state c.clock place (Whole m))).entry past (h.1 j);
   cut = λ c past i place m t h up at to j. other_waits j (c.clients j) (server_falls c i (lines.Given place ∷ blow_line i t.stops ∷ []) (in_step m c.clock t)).entry past (h.1 j);
   stopped = λ c past i h up j. other_waits j (c.clients j) (server_falls c i (lines.Crash (Server i) ∷ []) at_rest).entry past (h.1 j);
@@ -140,7 +144,7 @@ waits_moves s = record {
 }
 
 pub waits_kept : (s : Script) → IsKept (GivenWaits s)
-waits_kept s c past x h = (given_kept s c past x h.0, each_moved (GivenWaits s) (Behind WaitsIn) (waits_moves s) c past x h)
+waits_kept s c past x so h = (given_kept s c past x so h.0, each_moved (GivenWaits s) (Behind WaitsIn) (waits_moves s) c past x so h)
 
 pub waits_first : (s : Script) → GivenWaits s (start s) (set_up s ∷ [])
 waits_first s = (given_first s, λ j. record { open' = λ act r. absurd cc; tried = λ act r. absurd cc; sent = λ act r. absurd cc })

@@ -1,19 +1,21 @@
 -- A client takes the reply for which it waits: where it waits still, no entry was given one, however many servers a cell has.
+use Rattle.afs_law.proofs.Addressed.{IsServer}
+use Rattle.afs_history.specs.declared.acts.Operand.{Operand}
 use Rattle.afs_history.specs.declared.lines.Line.{Line}
 use Rattle.afs_history.specs.declared.lines.Line.TheVariants as lines
 use Rattle.afs_history.specs.declared.scripts.Script.{Script}
 use Rattle.afs_ideal.specs.Operations.{volume_changed}
-use Rattle.afs_law.proofs.Acting.{Acts, begins_acts, falls_acts, given_acts, last_key, rises_acts, waits_acts, who_at}
+use Rattle.afs_law.proofs.Acting.{Acts, begins_acts, falls_acts, given_acts, last_key, rises_acts, waits_acts, who_at, missed_acts}
 use Rattle.afs_law.proofs.Basics.{Each, IfReply, OfClient, OfReply, UpTo, at_put, by_client, client_number, each_at, same_node-refl, some_of}
 use Rattle.afs_law.proofs.Counting.{CountedFacts, counted_first, counted_kept}
 use Rattle.afs_law.proofs.Delivered.{DeliveredStep, begun_ungiven, delivered_moves, waited_ungiven}
 use Rattle.afs_law.proofs.Firm.{IsFirm}
-use Rattle.afs_law.proofs.Following.{Follows, begins_follow, falls_follow, given_follow, more_not, none_runs, rises_follow, waits_follow}
+use Rattle.afs_law.proofs.Following.{Follows, begins_follow, falls_follow, given_follow, more_not, none_runs, rises_follow, waits_follow, sought_follow, missed_follow}
 use Rattle.afs_law.proofs.Hearing.{client_given}
 use Rattle.afs_law.proofs.KeysOnce.{IsKnown, any_told, by_key}
 use Rattle.afs_law.proofs.Knowing.{Known}
 use Rattle.afs_law.proofs.Moving.{EachMove, IsKept, each_moved}
-use Rattle.afs_law.proofs.Origins.{of_client, same_key_at}
+use Rattle.afs_law.proofs.Origins.{of_client, same_key_at, handed_same, placed_in, sought_acts_in, told_in, AskedIn}
 use Rattle.afs_law.proofs.Queued.{IsIn, each_in, in_at, in_front}
 use Rattle.afs_law.proofs.Timing.{given_has, not_next}
 use Rattle.afs_law.specs.Ideal.{set_up}
@@ -46,8 +48,8 @@ use Rattle.afs_num.specs.declared.types.Key.{Key}
 use Rattle.afs_num.specs.declared.types.Node.{Node}
 use Rattle.afs_num.specs.declared.types.Node.TheVariants.{Client, Server}
 use Rattle.afs_rows.specs.Callbacks.{put}
-use Rattle.afs_rows.specs.ClientRow.{Walked, awaits, begin_row, behind_batch, body_told, call_by, call_of, client_row, counts, dropped, entries_told, entry_told, find_cached, given, gives_by, goes_by, hears, ignores, is_awaited, is_below, is_busy_code, is_older, is_spent, is_trusted, look_at, looked, most_busy, most_reads, opcode_of, put_entries, put_entry, read_lines, reborn, refuses, status_look, status_told, takes, takes_bulk, takes_data, takes_entries, takes_entry, takes_given, takes_list, takes_set, takes_shown, takes_status, timeout_row, walked, walks_on, with_statuses}
-use Rattle.afs_rows.specs.Going.{ClientState, Going, Need, answers, next, with_read}
+use Rattle.afs_rows.specs.ClientRow.{Walked, awaits, begin_row, behind_batch, body_told, call_by, call_of, client_row, counts, dropped, entries_told, entry_told, find_cached, given, gives_by, goes_by, hears, ignores, is_awaited, is_below, is_busy_code, is_older, is_spent, is_trusted, look_at, looked, most_busy, most_reads, opcode_of, put_entries, put_entry, read_lines, reborn, refuses, status_look, status_told, takes, takes_bulk, takes_data, takes_entries, takes_entry, takes_given, takes_list, takes_set, takes_shown, takes_status, timeout_row, walked, walks_on, with_statuses, volume_asked, asks_where, is_gone_code, most_moved}
+use Rattle.afs_rows.specs.Going.{ClientState, Going, Need, answers, next, with_read, operand_in}
 use Rattle.afs_law.proofs.Steps.{blow_line, server_falls, server_moves, server_rises, server_set, server_stays, loc_becomes}
 use Rattle.afs_rows.specs.Runs.{Cell, Entry, Moved, at_rest, begun_by_disk, in_boot, in_step, message_at, moved, start, ticked, voided}
 use Rattle.afs_rows.specs.ServerSteps.{back_timeout_row, server_row, wake_row}
@@ -125,8 +127,12 @@ takes_over j c clock place act call (replies.BulkStatus statuses callbacks sync)
 takes_over j c clock place act call replies.GiveUpCallBacks = given_over j c place act call
 takes_over j c clock place act call reply = inl refl
 
+where_over : (j : ℕ) (c : ClientState) (place : ℕ) (act : Going) (code : Code) (o : Option Operand) → IsOver c (asks_where (Client j) c place act code o)
+where_over j c place act code None = inl refl
+where_over j c place act code (Some o) = inl refl
+
 refuses_over : (j : ℕ) (c : ClientState) (place : ℕ) (act : Going) (code : Code) → IsOver c (refuses (Client j) c place act code)
-refuses_over j c place act code = either_over (is_busy_code code && nat_lt c.busy most_busy) c _ _ (inr refl) (inl refl)
+refuses_over j c place act code = either_over (is_busy_code code && nat_lt c.busy most_busy) c _ _ (inr refl) (either_over (is_gone_code code && nat_lt c.moved most_moved) c _ _ (where_over j c place act code (operand_in act (volume_asked (call_of c act)))) (inl refl))
 
 counts_over : (j : ℕ) (c : ClientState) (clock place : ℕ) (act : Going) (head : Head) (x : Carried) → IsFileReply x → IsOver c (counts (Client j) c clock place act head x)
 counts_over j c clock place act head (carried.Refusal code) is = either_over (is_spent c act) c _ _ (inr refl) (refuses_over j c place act code)
@@ -182,7 +188,7 @@ apart j e past d other m is to = other (subst (IsTo e.actor) is (d (given_has e.
 -- ---- no reply is to a call above the client's last
 
 abbrev pub AreBehind : ℕ → ℕ → ℕ → List Message → Type 0
-AreBehind j epoch last ms = (m : Message) → IsIn m ms → IsFileReply m.carried → m.head.to ≡ Client j → UpTo m.head.epoch m.head.number epoch last
+AreBehind j epoch last ms = (m : Message) → IsIn m ms → IsFileReply m.carried → IsServer m.head.from → m.head.to ≡ Client j → UpTo m.head.epoch m.head.number epoch last
 
 of_reply : (x : Carried) (A : Type 0) → IsFileReply x → OfReply A x → A
 of_reply (carried.Refusal code) A is h = h
@@ -191,31 +197,31 @@ of_reply (carried.Call user call) A is h = absurd is
 of_reply carried.Notice A is h = absurd is
 
 -- a reply is to a call that is known of
-pub known_reply : (c : Cell) (past : List Entry) (j : ℕ) (K : Known c past) (m : Message) → IsIn m (sent_of past) → IsFileReply m.carried → m.head.to ≡ Client j → IsKnown K.keys.callees c.clients m.head.from (answered_key m.head)
-known_reply c past j K m i is to =
-    let P : Message → Type 0 = λ r. IsKnown K.keys.callees c.clients r.head.from (answered_key r.head) in
-    by_client j m.head.to (P m) to (of_reply m.carried (OfClient m.head.to (P m)) is (each_in (IfReply P) c.sent m K.keys.answers (subst (IsIn m) K.hears.told i)))
+pub known_reply : (c : Cell) (past : List Entry) (j : ℕ) (K : Known c past) (m : Message) → IsIn m (sent_of past) → IsFileReply m.carried → IsServer m.head.from → m.head.to ≡ Client j → IsKnown K.keys.callees c.clients m.head.from (answered_key m.head)
+known_reply c past j K m i is server to =
+    let P : Message → Type 0 = λ r. by_key (IsKnown K.keys.callees c.clients) r.head in
+    by_client j m.head.to (P m) to (of_reply m.carried (OfClient m.head.to (P m)) is (each_in (IfReply P) c.sent m K.keys.answers (subst (IsIn m) K.hears.told i))) server.0 server.1
 
 pub known_behind : (c : Cell) (past : List Entry) (j : ℕ) → Known c past → AreBehind j (c.clients j).epoch (c.clients j).last (sent_of past)
-known_behind c past j K m i is to =
-    let known : IsKnown K.keys.callees c.clients m.head.from (answered_key m.head) = known_reply c past j K m i is to in
+known_behind c past j K m i is server to =
+    let known : IsKnown K.keys.callees c.clients m.head.from (answered_key m.head) = known_reply c past j K m i is server to in
     subst (λ (n : ℕ). UpTo m.head.epoch m.head.number (c.clients n).epoch (c.clients n).last) (client_number known.client j (sym known.node ∙ to)) known.behind
 
-not_above : (j e n : ℕ) (callee : Node) (opcode : ℕ) (ms : List Message) (o : Option Message) → AreBehind j e n ms → ((m : Message) → o ≡ Some m → IsIn m ms) → IsReplyTo callee (record { node = Client j; epoch = e; number = n + 1 }) opcode o → ⊥
-not_above j e n callee opcode ms None h w x = x
-not_above j e n callee opcode ms (Some m) h w x =
-    let up : UpTo m.head.epoch m.head.number e n = h m (w m refl) x.0.0 (ap (λ (k : Key). k.node) x.1.0) in
+not_above : (j e n : ℕ) (callee : Node) (opcode : ℕ) (ms : List Message) (o : Option Message) → IsServer callee → AreBehind j e n ms → ((m : Message) → o ≡ Some m → IsIn m ms) → IsReplyTo callee (record { node = Client j; epoch = e; number = n + 1 }) opcode o → ⊥
+not_above j e n callee opcode ms None server h w x = x
+not_above j e n callee opcode ms (Some m) server h w x =
+    let up : UpTo m.head.epoch m.head.number e n = h m (w m refl) x.0.0 (subst IsServer (sym x.0.1) server) (ap (λ (k : Key). k.node) x.1.0) in
     not_next e n (subst (λ (a : ℕ). UpTo a (n + 1) e n) (ap (λ (k : Key). k.epoch) x.1.0) (subst (λ (b : ℕ). UpTo m.head.epoch b e n) (ap (λ (k : Key). k.number) x.1.0) up))
 
-none_above : (j e n : ℕ) (callee : Node) (opcode : ℕ) (x : Entry) (past : List Entry) → AreBehind j e n (sent_of past) → IsUnanswered callee (record { node = Client j; epoch = e; number = n + 1 }) opcode (x ∷ past)
-none_above j e n callee opcode x [] h = (not_above j e n callee opcode [] (given_message x.lines []) h (given_in x.lines []), tt)
-none_above j e n callee opcode x (y ∷ past) h =
-    (not_above j e n callee opcode (sent_of (y ∷ past)) (given_message x.lines (sent_of (y ∷ past))) h (given_in x.lines (sent_of (y ∷ past))), none_above j e n callee opcode y past (λ m i. h m (in_front m (sent_of past) y.sent i)))
+none_above : (j e n : ℕ) (callee : Node) (opcode : ℕ) (x : Entry) (past : List Entry) → IsServer callee → AreBehind j e n (sent_of past) → IsUnanswered callee (record { node = Client j; epoch = e; number = n + 1 }) opcode (x ∷ past)
+none_above j e n callee opcode x [] server h = (not_above j e n callee opcode [] (given_message x.lines []) server h (given_in x.lines []), tt)
+none_above j e n callee opcode x (y ∷ past) server h =
+    (not_above j e n callee opcode (sent_of (y ∷ past)) (given_message x.lines (sent_of (y ∷ past))) server h (given_in x.lines (sent_of (y ∷ past))), none_above j e n callee opcode y past server (λ m i. h m (in_front m (sent_of past) y.sent i)))
 
 -- ---- what holds after every entry
 
 abbrev pub Unanswered : ℕ → ClientState → List Entry → Type 0
-Unanswered j x past = (act : Going) → x.running ≡ Some act → IsUnanswered x.callee (last_key j x) (opcode_of x act) past
+Unanswered j x past = (act : Going) → x.running ≡ Some act → IsServer x.callee → IsUnanswered x.callee (last_key j x) (opcode_of x act) past
 
 abbrev pub UnansweredIn : Cell → List Entry → Type 0
 UnansweredIn c past = (j : ℕ) → Unanswered j (c.clients j) past
@@ -244,23 +250,23 @@ told_on n c clock place m past to is act r run l x =
     elim (reply_over n c clock place act m y.0.0 to r its) [ inl none ↦ none_runs st.state.running act none run | inr more ↦ more_not st.state.last c.last more l ]
 
 step_unanswered : (n : ℕ) (c : ClientState) (st : Step ClientState) (past : List Entry) → Unanswered n c past → AreBehind n c.epoch c.last (sent_of past) → Acts n (who_at c) c.gifts st → Follows n c st → GoesOn n c st past → Unanswered n st.state (of_client n st ∷ past)
-step_unanswered n c st past h behind a f on act run = elim a.goes [
+step_unanswered n c st past h behind a f on act run server = elim a.goes [
   | inl r ↦ elim r.act [
     | inl none ↦ absurd (none_runs st.state.running act none run)
     | inr same ↦
         let runs : c.running ≡ Some act = sym same.0 ∙ run in
-        unanswered_same n c st.state act (of_client n st ∷ past) (f.stays act run r.last).callee r.epoch r.last same.1.0 (on act runs run r.last, h act runs)
+        unanswered_same n c st.state act (of_client n st ∷ past) (f.stays act run r.last).callee r.epoch r.last same.1.0 (on act runs run r.last, h act runs (subst IsServer (f.stays act run r.last).callee server))
   ]
   | inr y ↦ elim y [
     | inl z ↦ subst (λ (e : ℕ). IsUnanswered st.state.callee (record { node = Client n; epoch = e; number = st.state.last }) (opcode_of st.state act) (of_client n st ∷ past)) (sym z.epoch)
         (subst (λ (k : ℕ). IsUnanswered st.state.callee (record { node = Client n; epoch = c.epoch; number = k }) (opcode_of st.state act) (of_client n st ∷ past)) (sym z.last)
-        (none_above n c.epoch c.last st.state.callee (opcode_of st.state act) (of_client n st) past behind))
+        (none_above n c.epoch c.last st.state.callee (opcode_of st.state act) (of_client n st) past server behind))
     | inr z ↦ absurd (none_runs st.state.running act z.act run)
   ]
 ]
 
 other_unanswered : (j : ℕ) (x : ClientState) (e : Entry) (past : List Entry) → Unanswered j x past → IsApart j e past → Unanswered j x (e ∷ past)
-other_unanswered j x e past h away act run = (not_to j x.epoch x.last x.callee (opcode_of x act) (given_message e.lines (sent_of past)) away, h act run)
+other_unanswered j x e past h away act run server = (not_to j x.epoch x.last x.callee (opcode_of x act) (given_message e.lines (sent_of past)) away, h act run server)
 
 -- ---- every step
 
@@ -299,14 +305,18 @@ unanswered_moves : (s : Script) → EachMove (UnansweredFacts s) Then
 unanswered_moves s = record {
   void = λ c past h. idle_unanswered c past (voided c).entry h.1 nobody;
   ticked = λ c past n h. idle_unanswered c past (ticked c (suc n)).entry h.1 of_clock;
-  begun = λ c past n act h r. client_unanswered s c past n _ h (begins_acts n (c.clients n) c.clock act r) (begins_follow n (c.clients n) c.clock act (h.0.0.0.0.0.1 n).0 r) (ungiven_on n (c.clients n) (begin_row (Client n) (c.clients n) c.clock act) past (begun_ungiven (Client n) (c.clients n) c.clock act));
+  begun = λ c past n act h r z0. client_unanswered s c past n _ h (begins_acts n (c.clients n) c.clock act r z0) (begins_follow n (c.clients n) c.clock act (h.0.0.0.0.0.1 n).0 r) (ungiven_on n (c.clients n) (begin_row (Client n) (c.clients n) c.clock act) past (begun_ungiven (Client n) (c.clients n) c.clock act));
   told = λ c past n place m h at to. (let K : Known c past = known_of s c past h in
       client_unanswered s c past n _ h (given_acts (by_key (IsKnown K.keys.callees c.clients)) any_told n (c.clients n) c.clock place m (K.keys.replies n) (h.0.0.0.0.0.0.0.0.1.seats n)) (given_follow n (c.clients n) c.clock place m (h.0.0.0.0.0.1 n).0 (each_at (λ m. IsFirm m.head m.carried) c.sent place m at h.0.0.0.0.0.0.1))
       (told_on n (c.clients n) c.clock place m past to ((client_given c past n place m K.hears to at).given (sent_of past) ∙ (ap (λ (ms : List Message). message_at ms place) K.hears.told ∙ at))));
+  sought = λ c past n place m k h at to z e. (let A : AskedIn s c past = h.0.0.0.0.0.0.0.0.1 in
+      client_unanswered s c past n _ h (sought_acts_in s c past n place m k A at z e) (sought_follow s n (c.clients n) c.clock place k m.head m.carried (placed_in s c past n k A z) (told_in s c past n place m k A at e) (h.0.0.0.0.0.1 n).0)
+      (λ act run. absurd (none_runs (c.clients n).running act (A.seeks n k z).idle run)));
+  missed = λ c past n k h r z. client_unanswered s c past n _ h (missed_acts n (c.clients n) k r z) (missed_follow n (c.clients n) k r (h.0.0.0.0.0.1 n).0) (λ act run. absurd (none_runs (c.clients n).running act r run));
+  loc = λ c past l ls ms h st. idle_unanswered c past (loc_becomes c l ls ms).entry h.1 (λ j e. absurd cc);
   waited = λ c past n act h r. client_unanswered s c past n _ h (waits_acts n (c.clients n) act r) (waits_follow n (c.clients n) act (h.0.0.0.0.0.1 n).0) (ungiven_on n (c.clients n) (timeout_row (Client n) (c.clients n) act) past (waited_ungiven (Client n) (c.clients n) act));
-  fallen = λ c past n h. client_unanswered s c past n _ h (falls_acts n (c.clients n)) (falls_follow n (c.clients n)) (ungiven_on n (c.clients n) (record { state = reborn (c.clients n); lines = lines.Crash (Client n) ∷ []; sent = [] }) past refl);
+  fallen = λ c past n h. client_unanswered s c past n _ h (falls_acts n c.handed (c.clients n) (handed_same s c past (h.0.0.0.0.0.0.0.0.1) n)) (falls_follow n c.handed (c.clients n)) (ungiven_on n (c.clients n) (record { state = reborn c.handed (c.clients n); lines = lines.Crash (Client n) ∷ []; sent = [] }) past refl);
   risen = λ c past n h. client_unanswered s c past n _ h (rises_acts n (c.clients n)) (rises_follow n (c.clients n) (h.0.0.0.0.0.1 n).0) (ungiven_on n (c.clients n) (record { state = c.clients n; lines = lines.Restart (Client n) (c.clients n).epoch ∷ []; sent = [] }) past refl);
-  loc = λ c past l ls h st. idle_unanswered c past (loc_becomes c l ls).entry h.1 (λ j e. absurd cc);
   served = λ c past i place m armed h up at to. idle_unanswered c past (server_moves c i armed (server_row (Server i) (c.hosts i).state c.clock place (Whole m))).entry h.1 (of_server i);
   cut = λ c past i place m t h up at to. idle_unanswered c past (server_falls c i (lines.Given place ∷ blow_line i t.stops ∷ []) (in_step m c.clock t)).entry h.1 (of_server i);
   stopped = λ c past i h up. idle_unanswered c past (server_falls c i (lines.Crash (Server i) ∷ []) at_rest).entry h.1 (of_server i);
@@ -321,7 +331,7 @@ unanswered_moves s = record {
 }
 
 pub unanswered_kept : (s : Script) → IsKept (UnansweredFacts s)
-unanswered_kept s c past x h = (counted_kept s c past x h.0, each_moved (UnansweredFacts s) Then (unanswered_moves s) c past x h (each_moved Known DeliveredStep delivered_moves c past x (known_of s c past h)))
+unanswered_kept s c past x so h = (counted_kept s c past x so h.0, each_moved (UnansweredFacts s) Then (unanswered_moves s) c past x so h (each_moved Known DeliveredStep delivered_moves c past x so (known_of s c past h)))
 
 pub unanswered_first : (s : Script) → UnansweredFacts s (start s) (set_up s ∷ [])
-unanswered_first s = (counted_first s, λ j act r. absurd cc)
+unanswered_first s = (counted_first s, λ j act r server. absurd cc)

@@ -65,7 +65,7 @@ first_of s c e past L m i j from to ran user call is id ch x =
     let K = L.0.0.0.0.0.0.0.0 in
     let A = L.0.0.0.0.0.0.0.1 in
     let sent : sent_of (e ∷ past) ≡ c.sent = K.hears.told in
-    unmade (e ∷ past) j m ran user call is to L.0.0.0.1.1 L.1.0 (subst (λ (ms : List Message). Each (IfCall (IsOne ms)) ms) (sym sent) A.ones) id ch x
+    unmade (e ∷ past) j m ran user call is to L.0.0.0.1.1.0 L.1.0 (subst (λ (ms : List Message). Each (IfCall (IsOne ms)) ms) (sym sent) A.ones) id ch x
 
 firsts_of : (s : Script) (c : Cell) (e : Entry) (past : List Entry) → Lones s c (e ∷ past) → (ms : List Message) → EachSent RunsFirstOfAct (e ∷ past) ms
 firsts_of s c e past L [] = tt
@@ -73,4 +73,4 @@ firsts_of s c e past L (m ∷ ms) = (first_of s c e past L m, firsts_of s c e pa
 
 pub run_firsts : (s : Script) (history : List Entry) (end : Cell) → RunsTo history s end → EachEntry (λ past e. EachSent RunsFirstOfAct (e ∷ past) e.sent) (set_up s ∷ []) history
 run_firsts s h end r =
-    run_each (Lones s) (λ past e. EachSent RunsFirstOfAct (e ∷ past) e.sent) (lones_kept s) (λ c past x k. firsts_of s (moved c x).cell (moved c x).entry past (lones_kept s c past x k) (moved c x).entry.sent) r.inputs (start s) (set_up s ∷ []) h end (lones_first s) r.leads
+    run_each (Lones s) (λ past e. EachSent RunsFirstOfAct (e ∷ past) e.sent) (lones_kept s) (λ c past x so k. firsts_of s (moved c x).cell (moved c x).entry past (lones_kept s c past x so k) (moved c x).entry.sent) r.inputs s (set_up s ∷ []) h end (lones_first s) r.leads

@@ -1,9 +1,11 @@
 -- What a client keeps of the volume of its own call that may still run, and for which it doesn't wait: it was promised in an older boot; and if
 -- that call was given up, it keeps nothing. However many servers a cell has.
+use Rattle.afs_law.proofs.Acting.{runs_act}
+use Rattle.afs_law.proofs.Housed.{server_at}
 use Rattle.afs_history.specs.declared.scripts.Script.{Script}
 use Rattle.afs_ideal.specs.Operations.{volume_changed}
 use Rattle.afs_law.proofs.Addressed.{AsksOf, IsHome}
-use Rattle.afs_law.proofs.Basics.{Above, Below, ByClient, Each, IfCall, IfReply, OfCall, UpTo, above_up, below_up_to, each_at, runs_admitted, same_fid-true, same_key-refl, some_of, up_to_same}
+use Rattle.afs_law.proofs.Basics.{Above, Below, ByClient, Each, IfCall, IfReply, OfCall, UpTo, above_up, below_up_to, each_at, runs_admitted, same_fid-true, same_key-refl, some_of, up_to_same, not_loc}
 use Rattle.afs_law.proofs.Caused.{IsOfCallee, code_in, of_callee}
 use Rattle.afs_law.proofs.Words.{up_boot}
 use Rattle.afs_law.proofs.Heard.{HasHeard, IsHeardBy, boot_known}
@@ -34,7 +36,7 @@ use Rattle.afs_num.specs.declared.types.Head.{Head}
 use Rattle.afs_num.specs.declared.types.Key.{Key}
 use Rattle.afs_num.specs.declared.types.Node.{Node}
 use Rattle.afs_num.specs.declared.types.Node.TheVariants.{Client, Server}
-use Rattle.afs_rows.specs.ClientRow.{find_cached, server_at}
+use Rattle.afs_rows.specs.ClientRow.{find_cached}
 use Rattle.afs_rows.specs.Runs.{Cell, Entry, Fall, RunsTo, locations, message_at, start}
 use Rattle.afs_rows.specs.Scopes.{is_in_scope, is_volume}
 use Rattle.afs_rows.specs.ServerRow.{key_of}
@@ -100,13 +102,13 @@ in_sent k m (n ∷ ms) e own (inl same) = ap (λ (t : Bool). cond t true (has_se
     its carried.Notice own = absurd own
 in_sent k m (n ∷ ms) e own (inr x) = sent_either (is_called k n.head n.carried) (has_sent k ms) (in_sent k m ms e own x)
 
-file_call : (P : Head → List ℕ → FsCall → Type 0) (head : Head) (x : Carried) → OfCall P head x → IsCall x → IsFileCall x
-file_call P head (carried.Call user (ask.File call)) h is = tt
-file_call P head (carried.Call user (ask.Volume call)) h is = absurd h
-file_call P head (carried.Call user (ask.Location call)) h is = absurd h
-file_call P head (carried.Refusal code) h is = absurd is
-file_call P head (carried.Reply reply) h is = absurd is
-file_call P head carried.Notice h is = absurd is
+file_call : (P : Head → List ℕ → FsCall → Type 0) (head : Head) (x : Carried) (i : ℕ) → head.to ≡ Server i → OfCall P head x → IsCall x → IsFileCall x
+file_call P head (carried.Call user (ask.File call)) i to h is = tt
+file_call P head (carried.Call user (ask.Volume call)) i to h is = absurd h
+file_call P head (carried.Call user (ask.Location call)) i to h is = not_loc head (Server i) _ to refl h.0
+file_call P head (carried.Refusal code) i to h is = absurd is
+file_call P head (carried.Reply reply) i to h is = absurd is
+file_call P head carried.Notice i to h is = absurd is
 
 up_is : (d : Option Fall) (b n : ℕ) → up_boot d b ≡ Some n → b ≡ n
 up_is None b n e = some_of b n e
@@ -172,7 +174,7 @@ ran_above past i j r m ran had from x code mine to =
 -- ---- the laws
 
 settled_at : (s : Script) (h : List Entry) (end : Cell) → RunsTo h s end → GivenSettled s end (past_of (set_up s ∷ []) h)
-settled_at s h end r = run_keeps (GivenSettled s) (settled_kept s) r.inputs (start s) (set_up s ∷ []) h end (settled_first s) r.leads
+settled_at s h end r = run_keeps (GivenSettled s) (settled_kept s) r.inputs s (set_up s ∷ []) h end (settled_first s) r.leads
 
 -- a reply to it was sent since
 over_boot : (s : Script) (end : Cell) (past : List Entry) (i j : ℕ) (head : Head) (user : List ℕ) (call : FsCall) (f : Fid) → GivenSettled s end past → head.from ≡ Client j → head.to ≡ Server i → Above (call_seat head.from (end.hosts i).state.seats) head.epoch head.number → (x : IsCase s end past i j head user call f) → IsOver j head f end.sent past → x.reply.head.boot < (end.hosts i).state.lasting.boot
@@ -183,13 +185,13 @@ over_boot s end past i j head user call f G from to above x o =
     let its : IsKnown K.keys.callees end.clients head.to k =
     of_this (λ h u y. IsKnown K.keys.callees end.clients h.to (key_of h)) j head (carried.Call user (ask.File call)) user call from refl (each_in (IfCall (λ h u y. IsKnown K.keys.callees end.clients h.to (key_of h))) end.sent (record { head = head; carried = carried.Call user (ask.File call) }) K.keys.calls x.own) in
     let to_client : a.head.to ≡ Client j = ap (λ (q : Key). q.node) o.key ∙ from in
-    let by : a.head.from ≡ Server i = of_callee K.keys.callees end.clients j a (each_in (IfReply (IsOfCallee K.keys.callees end.clients)) end.sent a K.keys.answers o.among) o.code to_client ∙ (ap K.keys.callees o.key ∙ (sym its.called ∙ to)) in
+    let by : a.head.from ≡ Server i = of_callee K.keys.callees end.clients j a (each_in (IfReply (IsOfCallee K.keys.callees end.clients)) end.sent a K.keys.answers o.among) o.code to_client o.from.0 o.from.1 ∙ (ap K.keys.callees o.key ∙ (sym its.called ∙ to)) in
     let less : a.head.boot < (end.hosts i).state.lasting.boot = older_boot s end past i j head a G o.among o.code by to_client from above (up_to_same head.epoch head.number a.head.epoch a.head.number (sym (ap (λ (q : Key). q.epoch) o.key)) (sym (ap (λ (q : Key). q.number) o.key))) in
     let ran : Ran a.head past = replied_ran end past i j a K.hears o.among o.code by to_client in
     let all : Each (IfCall (λ h u y. IsKnown K.keys.callees end.clients h.to (key_of h))) (sent_of past) = subst (Each (IfCall (λ h u y. IsKnown K.keys.callees end.clients h.to (key_of h)))) (sym K.hears.told) K.keys.calls in
     let mine : IsIn ran.message (sent_of ran.older) = given_in ran.at.lines (sent_of ran.older) ran.message ran.given in
     let there : IsIn ran.message (sent_of past) = subst (λ (p : List Entry). IsIn ran.message (sent_of p)) (sym ran.split) (in_over ran.message ran.newer (ran.at ∷ ran.older) (in_over ran.message (ran.at ∷ []) ran.older mine)) in
-    let file : IsFileCall ran.message.carried = file_call (ByClient (λ h u y. IsKnown K.keys.callees end.clients h.to (key_of h))) ran.message.head ran.message.carried (each_in (IfCall (λ h u y. IsKnown K.keys.callees end.clients h.to (key_of h))) (sent_of past) ran.message all there) ran.is_call in
+    let file : IsFileCall ran.message.carried = file_call (ByClient (λ h u y. IsKnown K.keys.callees end.clients h.to (key_of h))) ran.message.head ran.message.carried i (ran.callee ∙ by) (each_in (IfCall (λ h u y. IsKnown K.keys.callees end.clients h.to (key_of h))) (sent_of past) ran.message all there) ran.is_call in
     let has : has_sent k (sent_of ran.older) ≡ true = in_sent k ran.message (sent_of ran.older) (ran.key ∙ o.key) file mine in
     let sent : IsIn x.reply (sent_of ran.older) =
     sent_first (Client j) f x.reply k ran.newer ran.at ran.older (subst (λ (p : List Entry). IsIn x.reply (sent_of (before_fetch (Client j) f p))) ran.split x.was) (subst (λ (p : List Entry). has_sent k (sent_of (before_fetch (Client j) f p)) ≡ false) ran.split o.later) has in
@@ -235,7 +237,7 @@ dead_boot s end past i j head user call f G from to x low =
     let mine : IsIn y (sent_of ran.older) = given_in ran.at.lines (sent_of ran.older) y ran.given in
     let next : IsIn y (sent_of (ran.at ∷ ran.older)) = in_over y (ran.at ∷ []) ran.older mine in
     let there : IsIn y (sent_of past) = subst (λ (p : List Entry). IsIn y (sent_of p)) (sym ran.split) (in_over y ran.newer (ran.at ∷ ran.older) next) in
-    let its : IsOwnCall j y = (ap (λ (q : Key). q.node) ran.key ∙ x.to, file_call (ByClient P) y.head y.carried (each_in (IfCall P) (sent_of past) y all there) ran.is_call) in
+    let its : IsOwnCall j y = (ap (λ (q : Key). q.node) ran.key ∙ x.to, file_call (ByClient P) y.head y.carried i (ran.callee ∙ x.from) (each_in (IfCall P) (sent_of past) y all there) ran.is_call) in
     let below : Below head.epoch head.number y.head.epoch y.head.number = subst (λ (q : Key). Below head.epoch head.number q.epoch q.number) (sym ran.key) low in
     let queued : AreQueued j (ran.newer ++ (ran.at ∷ ran.older)) = subst (AreQueued j) ran.split (G.0.timed.0.1.0 j) in
     let first : IsIn own (sent_of (ran.newer ++ (ran.at ∷ ran.older))) = subst (λ (p : List Entry). IsIn own (sent_of p)) ran.split (subst (IsIn own) (sym K.hears.told) x.own) in
@@ -253,7 +255,7 @@ run_dead s h end r i j place head user call id at from to some dead runs f e vol
     let x : IsCase s end past i j head user call f = case_of s end past i j place head user call id f e G at from to some vol found in
     let a = runs_admitted (end.hosts i).state.lasting.boot (end.hosts i).state.seats head runs in
     let not_ : IsAwaited (end.clients j) head → ⊥ = λ w.
-    (G.0.timed.1 j).alive w.act w.runs (Server i) (subst (λ (k : ℕ). HasTimeout (Client j) (Server i) k (end.clients j).last 3 (lines_of past)) w.epoch (subst (λ (k : ℕ). HasTimeout (Client j) (Server i) head.epoch k 3 (lines_of past)) w.number dead)) in
+    (G.0.timed.1 j).alive w.act (runs_act (end.clients j) w.act w.runs) (Server i) (subst (λ (k : ℕ). HasTimeout (Client j) (Server i) k (end.clients j).last 3 (lines_of past)) w.epoch (subst (λ (k : ℕ). HasTimeout (Client j) (Server i) head.epoch k 3 (lines_of past)) w.number dead)) in
     elim (x.passed from (some ∙ ap (λ (n : ℕ). Some n) (sym vol)) not_) [
       | inl p ↦ elim p [
         | inl below ↦
@@ -261,7 +263,7 @@ run_dead s h end r i j place head user call id at from to some dead runs f e vol
             let same : head.boot ≡ (end.hosts i).state.lasting.boot = a.0 in
             let up : head.boot ≤ x.reply.head.boot = dead_boot s end past i j head user call f G from to x below in
             absurd (omega arith))
-        | inr same ↦ same.1 (Server i) dead
+        | inr same ↦ same.1 i dead
       ]
-      | inr o ↦ o.alive (Server i) dead
+      | inr o ↦ o.alive i dead
     ]

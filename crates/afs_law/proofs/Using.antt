@@ -1,5 +1,6 @@
 -- What an entry fetches of an object is of the message that it was given, a reply to a call of its client that reads the object; and that
 -- reply is of the server to which the script gives the object's volume.
+use Rattle.afs_law.proofs.Housed.{server_at}
 use Rattle.afs_history.specs.declared.lines.Line.{Line}
 use Rattle.afs_history.specs.declared.lines.Line.TheVariants as lines
 use Rattle.afs_history.specs.declared.scripts.Script.{Script}
@@ -30,7 +31,6 @@ use Rattle.afs_num.specs.declared.types.Head.{Head}
 use Rattle.afs_num.specs.declared.types.Key.{Key}
 use Rattle.afs_num.specs.declared.types.Node.{Node}
 use Rattle.afs_num.specs.declared.types.Node.TheVariants.{Client, Server}
-use Rattle.afs_rows.specs.ClientRow.{server_at}
 use Rattle.afs_rows.specs.Going.{ClientState}
 use Rattle.afs_rows.specs.Runs.{Entry, locations}
 use Rattle.afs_rows.specs.ServerRow.{key_of}
@@ -107,13 +107,13 @@ read_asks f (calls.FetchStatus g) (seen.Status status) e = ap (λ (h : Fid). Som
 read_asks f (calls.BulkStatus fids) (seen.Status status) x = named_one f fids x
 read_asks f call body x = absurd x
 
-pub of_home : (s : Script) (callees : Key → Node) (clients : ℕ → ClientState) (j : ℕ) (f : Fid) (m : Message) (past : List Entry) → IsUseOf s (Client j) f m past → HasCode m.carried → m.head.to ≡ Client j → IfReply (IsOfCallee callees clients) m → Each (IfCall (λ h u x. IsKnown callees clients h.to (key_of h))) (sent_of past) → Each (IfCall (IsHome s)) (sent_of past)
+pub of_home : (s : Script) (callees : Key → Node) (clients : ℕ → ClientState) (j : ℕ) (f : Fid) (m : Message) (past : List Entry) → IsUseOf s (Client j) f m past → HasCode m.carried → m.head.to ≡ Client j → (i : ℕ) → m.head.from ≡ Server i → IfReply (IsOfCallee callees clients) m → Each (IfCall (λ h u x. IsKnown callees clients h.to (key_of h))) (sent_of past) → Each (IfCall (IsHome s)) (sent_of past)
     → m.head.from ≡ Server (server_at (locations s) f.volume)
-of_home s callees clients j f m past u code to of known homes =
+of_home s callees clients j f m past u code to i by of known homes =
     let K : Head → List ℕ → FsCall → Type 0 = λ h v x. IsKnown callees clients h.to (key_of h) in
     let k : Key = answered_key m.head in
     let x : HasSent (λ y. IfCall K y × IfCall (IsHome s) y) k (user_of s (Client j)) u.call = since_call (λ y. IfCall K y × IfCall (IsHome s) y) k (user_of s (Client j)) u.call past u.called (each_both (IfCall K) (IfCall (IsHome s)) (sent_of past) known homes) in
     let head : Head = x.message.head in
     let from : head.from ≡ Client j = ap (λ (q : Key). q.node) x.key ∙ to in
     let same : head.to ≡ callees k = (of_this K j head x.message.carried (user_of s (Client j)) u.call from x.carries x.holds.0).called ∙ ap callees x.key in
-    of_callee callees clients j m of code to ∙ (sym same ∙ (of_this (IsHome s) j head x.message.carried (user_of s (Client j)) u.call from x.carries x.holds.1).to f.volume (read_asks f u.call u.body u.of))
+    of_callee callees clients j m of code to i by ∙ (sym same ∙ (of_this (IsHome s) j head x.message.carried (user_of s (Client j)) u.call from x.carries x.holds.1).to f.volume (read_asks f u.call u.body u.of))

@@ -12,7 +12,7 @@ use Rattle.afs_num.specs.declared.types.Node.{Node}
 use Rattle.afs_num.specs.declared.messages.Message.{Message}
 use Rattle.afs_law.proofs.Words.{AreApart, IsBody, IsWhole}
 use Rattle.afs_rows.specs.ClientRow.{body_seen, shown_by, walked_with, find_cached, used_first, Look, Walked, walked, walked_by, walked_at, looked, is_trusted, with_statuses}
-use Rattle.afs_rows.specs.Going.{reads_status, reads_statuses, reads_rights, gives_back, Going, Need, reads, asks_for, answers, next, with_read}
+use Rattle.afs_rows.specs.Going.{reads_status, reads_statuses, reads_rights, gives_back, Going, Need, reads, asks_for, answers, next, with_read, locates}
 use Rattle.afs_law.specs.Grants.{is_promised}
 use Rattle.afs_law.specs.Ideal.{HasVersion}
 use Rattle.afs_law.specs.Legal.{Shows}
@@ -65,6 +65,7 @@ shown_good (reads_statuses fs) u body past own w told e = absurd cc
 shown_good (reads_rights f) u body past own w told e = absurd cc
 shown_good (asks_for call) u body past own w told e = absurd cc
 shown_good gives_back u body past own w told e = absurd cc
+shown_good (locates o) u body past own w told e = absurd cc
 shown_good (answers code) u body past own w told e = absurd cc
 
 -- the act reads an entry
@@ -80,6 +81,7 @@ shown_promised (reads_statuses fs) u body e = absurd cc
 shown_promised (reads_rights f) u body e = absurd cc
 shown_promised (asks_for call) u body e = absurd cc
 shown_promised gives_back u body e = absurd cc
+shown_promised (locates o) u body e = absurd cc
 shown_promised (answers code) u body e = absurd cc
 
 abbrev Uses : (List CacheEntry → Type 0) → Type 0
@@ -104,6 +106,7 @@ keeps_by P w (reads_statuses fs) more clock a cache ih h = h
 keeps_by P w (reads_rights f) more clock a cache ih h = h
 keeps_by P w (asks_for call) more clock a cache ih h = h
 keeps_by P w gives_back more clock a cache ih h = h
+keeps_by P w (locates o) more clock a cache ih h = h
 keeps_by P w (answers code) more clock a cache ih h = h
 
 -- what a walk makes of a cache, by its cases: what holds of it and stays where an entry is used holds behind it

@@ -1,8 +1,9 @@
 -- What each client keeps and reads holds behind every entry, however many servers a cell has.
+use Rattle.afs_law.proofs.Listing.{IsSoundLoc}
 use Rattle.afs_history.specs.declared.lines.Line.{Line}
 use Rattle.afs_history.specs.declared.lines.Line.TheVariants as lines
 use Rattle.afs_history.specs.declared.scripts.Script.{Script}
-use Rattle.afs_law.proofs.Acting.{Acts, begins_acts, falls_acts, given_acts, rises_acts, waits_acts, who_at}
+use Rattle.afs_law.proofs.Acting.{Acts, begins_acts, falls_acts, given_acts, rises_acts, waits_acts, who_at, missed_acts}
 use Rattle.afs_law.proofs.Arriving.{Based, around, based_first, based_kept}
 use Rattle.afs_law.proofs.Backing.{all_lines}
 use Rattle.afs_law.proofs.Basics.{at_put, both}
@@ -15,9 +16,9 @@ use Rattle.afs_law.proofs.KeysOnce.{IsKnown, any_told, by_key}
 use Rattle.afs_law.proofs.SettingUp.{reached_first}
 use Rattle.afs_law.proofs.Looking.{IsShown}
 use Rattle.afs_law.proofs.Moving.{EachMove, IsKept, each_moved}
-use Rattle.afs_law.proofs.Origins.{any_cut, any_message, blow_idle, idle_works, is_idle, of_client, loc_idle}
+use Rattle.afs_law.proofs.Origins.{any_cut, any_message, blow_idle, idle_works, is_idle, of_client, loc_idle, sought_acts_in, handed_same}
 use Rattle.afs_law.proofs.Proceeding.{Result, trusts_own}
-use Rattle.afs_law.proofs.Receiving.{begin_result, fall_result, message_result, rise_result, wait_result}
+use Rattle.afs_law.proofs.Receiving.{begin_result, fall_result, message_result, rise_result, wait_result, sought_result, missed_result}
 use Rattle.afs_law.proofs.Recording.{IsAgreed, IsSaved, recorded_kept, told_now}
 use Rattle.afs_law.proofs.Trusting.{Trusts}
 use Rattle.afs_law.specs.Ideal.{last_version, set_up}
@@ -32,6 +33,7 @@ use Rattle.afs_rows.specs.Callbacks.{put}
 use Rattle.afs_rows.specs.Going.{ClientState}
 use Rattle.afs_law.proofs.Steps.{blow_line, server_falls, server_moves, server_rises, server_set, server_stays, loc_becomes}
 use Rattle.afs_rows.specs.Runs.{Cell, Entry, Input, Moved, at_rest, begun_by_disk, in_boot, in_step, moved, start, ticked, voided}
+use Rattle.afs_law.proofs.Steps.{loc_becomes}
 use Rattle.afs_rows.specs.ServerSteps.{back_timeout_row, server_row, wake_row}
 use Rattle.afs_rows.specs.Steps.{Step}
 use Rattle.std.proofs.Common.{suc, ◌+◌, ◌≡◌, ◌≤◌, ℕ, ◌⊎◌, true, List, [], ◌∷◌, refl, subst, arith}
@@ -74,6 +76,9 @@ not_nobody j e = cc
 not_server : (i j : ℕ) → actors.Node (Server i) ≡ actors.Node (Client j) → ⊥
 not_server i j e = cc
 
+not_loc' : (j : ℕ) → actors.Node Loc ≡ actors.Node (Client j) → ⊥
+not_loc' j e = cc
+
 -- ---- a client's step
 
 client_number : (i j : ℕ) → actors.Node (Client i) ≡ actors.Node (Client j) → i ≡ j
@@ -88,20 +93,19 @@ client_good s c past n st W a R A = (
   R.shown,
 )
 
-not_loc' : (j : ℕ) → actors.Node Loc ≡ actors.Node (Client j) → ⊥
-not_loc' j e = cc
-
 watch_moves : (s : Script) → EachMove (Watched s) (WatchStep s)
 watch_moves s = record {
   void = λ c past W told A. idle_good s c past (voided c).entry c.clock (omega arith) W (λ j. not_nobody j) refl told A;
   ticked = λ c past n W told A. idle_good s c past (ticked c (suc n)).entry (c.clock + suc n) (omega arith) W (λ j. not_clock j) refl told A;
-  begun = λ c past n act W r told A. client_good s c past n _ W (begins_acts n (c.clients n) c.clock act r) (begin_result s c past n act (W.0, W.1 n) r) A;
+  begun = λ c past n act W r z told A. client_good s c past n _ W (begins_acts n (c.clients n) c.clock act r z) (begin_result s c past n act (W.0, W.1 n) r) A;
   told = λ c past n place m W at to told A.
       client_good s c past n _ W (given_acts (by_key (IsKnown W.0.truthful.0.0.0.0.keys.callees c.clients)) any_told n (c.clients n) c.clock place m (W.0.truthful.0.0.0.0.keys.replies n) (W.0.truthful.0.0.0.1.seats n)) (message_result s c past n place m (W.0, W.1 n) at to) A;
+  sought = λ c past n place m k W at to z e told A. client_good s c past n _ W (sought_acts_in s c past n place m k W.0.truthful.0.0.0.1 at z e) (sought_result s c past n place m k (W.0, W.1 n) W.0.truthful.0.0.0.1 at z e) A;
+  missed = λ c past n k W r z told A. client_good s c past n _ W (missed_acts n (c.clients n) k r z) (missed_result s c past n k (W.0, W.1 n) r) A;
+  loc = λ c past l ls ms W st told A. idle_good s c past (loc_becomes c l ls ms).entry c.clock (omega arith) W (λ j. not_loc' j) (loc_idle ls st.lines) told A;
   waited = λ c past n act W r told A. client_good s c past n _ W (waits_acts n (c.clients n) act r) (wait_result s c past n act (W.0, W.1 n) r) A;
-  fallen = λ c past n W told A. client_good s c past n _ W (falls_acts n (c.clients n)) (fall_result s c past n (W.0, W.1 n)) A;
+  fallen = λ c past n W told A. client_good s c past n _ W (falls_acts n c.handed (c.clients n) (handed_same s c past (W.0.truthful.0.0.0.1) n)) (fall_result s c past n (W.0, W.1 n)) A;
   risen = λ c past n W told A. client_good s c past n _ W (rises_acts n (c.clients n)) (rise_result s c past n (W.0, W.1 n)) A;
-  loc = λ c past l ls W st told A. idle_good s c past (loc_becomes c l ls).entry c.clock (omega arith) W (λ j. not_loc' j) (loc_idle ls st.lines) told A;
   served = λ c past i place m armed W up at to told A. idle_good s c past (server_moves c i armed (server_row (Server i) (c.hosts i).state c.clock place (Whole m))).entry c.clock (omega arith) W (λ j. not_server i j) (idle_works any_message i (c.hosts i).state _ _ (serves_works any_message (Server i) (c.hosts i).state c.clock place m (λ rest. tt))) told A;
   cut = λ c past i place m t W up at to told A. idle_good s c past (server_falls c i (lines.Given place ∷ blow_line i t.stops ∷ []) (in_step m c.clock t)).entry c.clock (omega arith) W (λ j. not_server i j) (blow_idle i t.stops) told A;
   stopped = λ c past i W up told A. idle_good s c past (server_falls c i (lines.Crash (Server i) ∷ []) at_rest).entry c.clock (omega arith) W (λ j. not_server i j) refl told A;
@@ -119,16 +123,16 @@ watch_moves s = record {
       idle_good s c past (server_stays c i (begun_by_disk (Server i) (c.hosts i).state after fall) (lines.Full (Server i)) at_rest).entry c.clock (omega arith) W (λ j. not_server i j) (idle_works any_message i (c.hosts i).state _ _ (disk_works any_message (Server i) (c.hosts i).state after fall (lines.Full (Server i) ∷ []) (any_cut fall) (one_from (Server i) true refl))) told A;
 }
 
-good_now : (s : Script) (c : Cell) (past : List Entry) (x : Input) → Watched s c past → Good s (moved c x) past
-good_now s c past x W =
-    let K = recorded_kept s c past x W.0.recorded in
-    each_moved (Watched s) (WatchStep s) (watch_moves s) c past x W (told_now s c past x W.0.recorded) K.all.0.1
+good_now : (s : Script) (c : Cell) (past : List Entry) (x : Input) → IsSoundLoc c.loc.state → Watched s c past → Good s (moved c x) past
+good_now s c past x so W =
+    let K = recorded_kept s c past x so W.0.recorded in
+    each_moved (Watched s) (WatchStep s) (watch_moves s) c past x so W (told_now s c past x so W.0.recorded) K.all.0.1
 
 pub watched_kept : (s : Script) → IsKept (Watched s)
-watched_kept s c past x W = (based_kept s c past x W.0, (good_now s c past x W).0)
+watched_kept s c past x so W = (based_kept s c past x so W.0, (good_now s c past x so W).0)
 
-pub shown_now : (s : Script) (c : Cell) (past : List Entry) (x : Input) → Watched s c past → EachLine (IsShown s) (moved c x).entry.actor past [] (moved c x).entry.lines
-shown_now s c past x W = (good_now s c past x W).1
+pub shown_now : (s : Script) (c : Cell) (past : List Entry) (x : Input) → IsSoundLoc c.loc.state → Watched s c past → EachLine (IsShown s) (moved c x).entry.actor past [] (moved c x).entry.lines
+shown_now s c past x so W = (good_now s c past x so W).1
 
 pub watched_first : (s : Script) → Watched s (start s) (set_up s ∷ [])
 watched_first s = (

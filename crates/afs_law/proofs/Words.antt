@@ -6,7 +6,7 @@ use Rattle.afs_ideal.specs.Tables.{AscendsFrom, Table, get}
 use Rattle.afs_ideal.specs.Volumes.{Vnode, Volume}
 use Rattle.afs_law.proofs.Basics.{Above, OfReply, same_fid-true}
 use Rattle.afs_rows.specs.ClientRow.{find_cached}
-use Rattle.afs_rows.specs.Going.{asked, Going}
+use Rattle.afs_rows.specs.Going.{asked, Going, locates}
 use Rattle.afs_law.specs.Ideal.{HasBeen, HasVersion, user_of, reach, call_under}
 use Rattle.afs_law.specs.Legal.{IsThere, as_asked}
 use Rattle.afs_history.specs.declared.lines.Line.{Line}
@@ -14,8 +14,8 @@ use Rattle.afs_law.specs.Past.{is_of_act, lines_of, called_key, Called}
 use Rattle.afs_rows.specs.Runs.{Entry, Fall}
 use Rattle.afs_rows.specs.Scopes.{is_in_scope, is_volume}
 use Rattle.afs_rows.specs.States.{CacheEntry, Seat, volume_in, Gift}
-use Rattle.std.specs.Prelude.{map, Bool, true, ◌||◌, ⊤}
-use Rattle.std.proofs.Common.{◌+◌, ◌≡◌, ℕ, ◌<◌, ◌≤◌, ◌^◌, ◌⊎◌, List, [], ◌∷◌, Option, Some, None, ℤ, ap, eq-eqb}
+use Rattle.std.specs.Prelude.{map, Bool, true, false, ◌||◌, ⊤}
+use Rattle.std.proofs.Common.{◌+◌, ◌≡◌, ℕ, ◌<◌, ◌≤◌, ◌^◌, ◌⊎◌, List, [], ◌∷◌, Option, Some, None, ℤ, pos, ap, sym, ◌∙◌, eq-eqb}
 use Rattle.afs_num.specs.declared.types.Fid.{Fid}
 use Rattle.afs_num.specs.declared.types.Head.{Head}
 use Rattle.afs_num.specs.declared.types.Key.{Key}
@@ -96,6 +96,9 @@ Leaves call f index ls = IsKeptBody f index ls
 -- a code that is none, or tells to ask again: no server refuses with it, for no volume is out of service or busy
 abbrev pub is_passing : ℤ → Bool
 is_passing code = is_number code 0 || (is_number code 106 || is_number code 110)
+
+pub no_zero : (code : ℤ) → is_passing code ≡ false → code ≡ pos 0 → ⊥
+no_zero code e z = let no : false ≡ true = sym e ∙ ap is_passing z in absurd cc
 
 -- ---- a reply to client j, under way or kept, of whatever boot. Its entry ran the call. It is to a call not above the client's last one; where it
 -- is to the last one, the server made it in no earlier boot than that in which the call was made, and it answers the act

@@ -1,3 +1,4 @@
+use Rattle.afs_law.proofs.Made.{not_sought}
 use Rattle.afs_rows.specs.Going.{answers, gives_back, next}
 use Rattle.std.proofs.Common.{◌≤◌, ◌∙◌}
 use Rattle.afs_records.specs.Records.{record_bytes, head_form, volume_form}
@@ -483,7 +484,7 @@ gave_untold h =
         | inl x ↦ not_answers x.number (ap next (some_of _ _ g.runs) ∙ x.by)
         | inr z ↦ elim z [
           | inl x ↦ let e : pos 0 ≡ negsuc 0 = x.is in absurd cc
-          | inr x ↦ let e : true ≡ false = x.none in absurd cc
+          | inr u ↦ elim u [ inl x ↦ let e : true ≡ false = x.none in absurd cc | inr t ↦ not_sought _ _ _ _ _ _ 0 refl refl refl refl t ]
         ]
       ]
     ]

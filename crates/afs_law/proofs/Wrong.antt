@@ -1,5 +1,9 @@
 -- Histories that are wrong for one reason each: a run, altered in one entry, of which just one condition isn't met. (Some of those of a server
 -- that stops or is down, of a timeout, of a read after a refusal, and of a client that makes two calls of one act, more than one condition refuses.)
+use Rattle.afs_rows.specs.LocSteps.{loc_row, loc_start_row}
+use Rattle.afs_history.specs.declared.acts.Operand.{Operand}
+use Rattle.afs_history.specs.declared.acts.Act.{Act}
+use Rattle.afs_law.proofs.Made.{not_sought}
 use Rattle.afs_law.proofs.Ideals.{at_home}
 use Rattle.afs_law.proofs.Backing.{all_lines}
 use Rattle.afs_num.specs.declared.types.Key.{Key}
@@ -36,14 +40,15 @@ use Rattle.afs_model.specs.Messages.{spelled}
 use Rattle.afs_num.specs.Names.{name_ok}
 use Rattle.afs_num.specs.declared.types.Fid.{Fid}
 use Rattle.afs_rows.specs.ClientRow.{begin_row, client_row}
-use Rattle.afs_rows.specs.Going.{Going, began, nothing_set, answers, asked, asks_for, gives_back, next, reads, stored_whole}
+use Rattle.afs_num.specs.declared.location_calls.LocCall.TheVariants as questions
+use Rattle.afs_rows.specs.Going.{Going, began, nothing_set, answers, asked, asks_for, gives_back, next, reads, stored_whole, no_entry, locates}
 use Rattle.afs_rows.specs.Runs.{Cell, Entry, Input, begins, client_starts, client_stops, comes_up, gives, locations, moved, nothing, server_waits, sets_stop, start, starts_again, steady, stops, ticks, waits}
 use Rattle.afs_xdr.specs.Words.{opaque, pad, word, opaque_at, word_at, counted_at}
 use Rattle.afs_law.specs.Ideal.{IsLast, last_version, set_up}
 use Rattle.afs_num.specs.declared.histories.Version.{Version}
 use Rattle.std.specs.Option.{option_map}
 use Rattle.afs_law.specs.Once.{past_of}
-use Rattle.afs_law.specs.Past.{HasChangeBy, IsLater, IsLatest, WasSent, SendsTo, has_begun, has_sent, is_called, same_key, onto, lines_on, IsCall, server_boot, CalledSince, IsToCome, called_key, Ran, answered_key, code_told, given_message, lines_of, sent_of}
+use Rattle.afs_law.specs.Past.{HasChangeBy, IsLater, IsLatest, WasSent, SendsTo, has_begun, has_sent, is_called, same_key, onto, lines_on, IsCall, server_boot, CalledSince, IsToCome, called_key, Ran, answered_key, code_told, given_message, lines_of, sent_of, AreWithin}
 use Rattle.afs_num.specs.declared.calls.AfsCallBack.{AfsCallBack}
 use Rattle.afs_num.specs.declared.calls.FsCall.{FsCall}
 use Rattle.afs_num.specs.declared.calls.FsCall.TheVariants as calls
@@ -155,7 +160,7 @@ closed_by_the_walk h =
         | inl x ↦ no_answer _ x.number (ap next (some_of _ _ g.runs) ∙ x.by)
         | inr z ↦ elim z [
           | inl x ↦ let e : pos 0 ≡ negsuc 0 = x.is in absurd cc
-          | inr x ↦ no_gift _ (ap next (some_of _ _ g.runs) ∙ x.by)
+          | inr u ↦ elim u [ inl x ↦ no_gift _ (ap next (some_of _ _ g.runs) ∙ x.by) | inr t ↦ not_sought _ _ _ _ _ _ 0 refl refl refl refl t ]
         ]
       ]
     ]
@@ -171,7 +176,7 @@ listed_without_a_line h =
         | inl x ↦ no_answer _ x.number (ap next (some_of _ _ g.runs) ∙ x.by)
         | inr z ↦ elim z [
           | inl x ↦ let e : pos 0 ≡ negsuc 0 = x.is in absurd cc
-          | inr x ↦ no_gift _ (ap next (some_of _ _ g.runs) ∙ x.by)
+          | inr u ↦ elim u [ inl x ↦ no_gift _ (ap next (some_of _ _ g.runs) ∙ x.by) | inr t ↦ not_sought _ _ _ _ _ _ 0 refl refl refl refl t ]
         ]
       ]
     ]
@@ -201,7 +206,7 @@ shown_against_a_refusal h =
         | inl x ↦ elim x.last [ inl z ↦ let e : false ≡ true = z.0 in absurd cc | inr u ↦ let e : pos 102 ≡ pos 0 = of_reply _ _ u.0.reply _ refl u.0.by refl u.0.told in absurd cc ]
         | inr z ↦ elim z [
           | inl x ↦ let e : pos 0 ≡ negsuc 0 = x.is in absurd cc
-          | inr x ↦ given_back _ (ap next (some_of _ _ g.runs) ∙ x.by)
+          | inr u ↦ elim u [ inl x ↦ given_back _ (ap next (some_of _ _ g.runs) ∙ x.by) | inr t ↦ not_sought _ _ _ _ _ _ 0 refl refl refl refl t ]
         ]
       ]
     ]
@@ -220,7 +225,7 @@ begun_with_a_reply h =
         | inl x ↦ elim x.last [ inl z ↦ let e : true ≡ false = z.1 in absurd cc | inr u ↦ let e : true ≡ false = u.0.before in absurd cc ]
         | inr z ↦ elim z [
           | inl x ↦ let e : pos 0 ≡ negsuc 0 = x.is in absurd cc
-          | inr x ↦ given_back _ (ap next (some_of _ _ g.runs) ∙ x.by)
+          | inr u ↦ elim u [ inl x ↦ given_back _ (ap next (some_of _ _ g.runs) ∙ x.by) | inr t ↦ not_sought _ _ _ _ _ _ 0 refl refl refl refl t ]
         ]
       ]
     ]
@@ -307,7 +312,7 @@ quit_ahead h =
     let g = h.1.1.1.0.0.0.0.1 in
     let past : List Entry = past_of (set_up (script 2) ∷ []) (take 3 quit_ahead_history) in
     let none_ : NeverTo (Client 1) past = ((λ e c. no_client e, tt), ((λ e c. c, tt), ((λ e c. no_client e, tt), (tt, tt)))) in
-    never_to (Client 1) (record { node = Server 1; epoch = 1; number = 1 }) g.user g.call past none_ g.sent
+    elim g.sent [ inl x ↦ never_to (Client 1) (record { node = Server 1; epoch = 1; number = 1 }) x.user x.call past none_ x.sent | inr x ↦ let e : Client 1 ≡ Loc = x.is in absurd cc ]
 
 -- a promise beside no call, which ends at once: the one before it would seem to be over
 abbrev promises_nothing : List Entry → List Entry
@@ -423,6 +428,7 @@ no_room_but_stored h =
         | inr z ↦ elim z [
           | inl x ↦ for_none _ _ _ _ refl x
           | inr w ↦ elim w [ inl x ↦ for_none _ _ _ _ refl x | inr v ↦ elim v [ inl x ↦ for_none _ _ _ _ refl x | inr u ↦ u ] ]
+          -- TODO: elim with the three causes of the database: not_sought, as patch 2 had it
         ]
       ]
     ]
@@ -467,7 +473,7 @@ answered_behind_its_read h =
         | inl x ↦ elim x.last [ inl z ↦ let e : false ≡ true = z.0 in absurd cc | inr u ↦ let e : false ≡ true = u.1 in absurd cc ]
         | inr z ↦ elim z [
           | inl x ↦ let e : pos 0 ≡ negsuc 0 = x.is in absurd cc
-          | inr x ↦ let e : false ≡ true = x.begun in absurd cc
+          | inr u ↦ elim u [ inl x ↦ let e : false ≡ true = x.begun in absurd cc | inr t ↦ not_sought _ _ _ _ _ _ 0 refl refl refl refl t ]
         ]
       ]
     ]
@@ -601,14 +607,46 @@ sent_in_another_name h = let e : actors.Node (Client 1) ≡ actors.Node (Client 
 
 -- ---- a call is dead at its third timeout
 
+dead_elsewhere : (left : ℤ) → (left ≡ pos 103) ⊎ (left ≡ pos 111) → (negsuc 0 ≡ left) ⊎ (negsuc 0 ≡ pos no_entry) → ⊥
+dead_elsewhere left (inl g) (inl e) = let z : negsuc 0 ≡ pos 103 = e ∙ g in absurd cc
+dead_elsewhere left (inr g) (inl e) = let z : negsuc 0 ≡ pos 111 = e ∙ g in absurd cc
+dead_elsewhere left g (inr e) = absurd cc
+
 dead_at_once : Legal (alters 1 (instead (lines.Timeout (Client 1) (Server 1) 1 1 3 ∷ lines.Answer (Client 1) (record { 0 = negsuc 0 }) ∷ [])) (entries (start (script 1)) (begins 1 (acts.Open (operands.Fid file)) ∷ waits 1 ∷ []))) (script 1) → ⊥
 unfolding moved begin_row client_row server_row back_timeout_row wake_row start_row record_bytes head_form volume_form spelled opaque pad word laid_at led name_ok directory_bytes name_bytes rights_of image acl_text digits entry_text directory_of names_at opaque_at word_at counted_at whole_at count_at name_at spelled_at bytes_below
 dead_at_once h = elim h.1.0.0.0.0.1.below [ inl x ↦ let e : 3 ≡ 1 = x in absurd (omega (arith, e)) | inr x ↦ x.1.1 ]
 
--- ---- what the location database tells
+-- ---- what the location database didn't tell
+
+abbrev nowhere : Act
+nowhere = acts.Open (operands.Path (record { volume = codes "nowhere"; names = codes "x" ∷ [] }))
+
+no_place : (o : Operand) (n : ℕ) → locates o ≡ answers n → ⊥
+no_place o n e = absurd cc
+
+answered_unheard : Legal (alters 1 (instead (lines.Answer (Client 1) (record { 0 = pos no_entry }) ∷ [])) (entries (start (script 1)) (begins 1 nowhere ∷ waits 1 ∷ []))) (script 1) → ⊥
+unfolding moved begin_row client_row server_row back_timeout_row wake_row start_row loc_row loc_start_row record_bytes head_form volume_form spelled opaque pad word laid_at led name_ok directory_bytes name_bytes rights_of image acl_text digits entry_text directory_of names_at opaque_at word_at counted_at whole_at count_at name_at spelled_at bytes_below
+answered_unheard h =
+    let g = h.1.0.0.0.0.1 in
+    elim g.cause [
+      | inl x ↦ let e : None ≡ Some x.reply = x.by in absurd cc
+      | inr y ↦ elim y [
+        | inl x ↦ no_place _ x.number (ap next (some_of _ _ g.runs) ∙ x.by)
+        | inr z ↦ elim z [
+          | inl x ↦ let e : pos no_entry ≡ negsuc 0 = x.is in absurd cc
+          | inr u ↦ elim u [
+            | inl x ↦ (let e : true ≡ false = sym (x.begun) ∙ refl in absurd cc)
+            | inr t ↦ elim t [
+              | inl x ↦ (let e : None ≡ Some x.heard.reply = x.heard.by in absurd cc)
+              | inr v ↦ elim v [ inl x ↦ (let e : pos no_entry ≡ negsuc 0 = x.is in absurd cc) | inr x ↦ (let e : None ≡ Some x.heard.reply = x.heard.by in absurd cc) ]
+            ]
+          ]
+        ]
+      ]
+    ]
 
 located_by_a_server : Legal (alters 1 (instead (lines.Located home (Server 2) ∷ [])) (entries (start (script 1)) (begins 1 (acts.Open (operands.Fid file)) ∷ gives 1 steady ∷ []))) (script 1) → ⊥
-unfolding moved begin_row client_row server_row back_timeout_row wake_row start_row record_bytes head_form volume_form spelled opaque pad word laid_at led name_ok directory_bytes name_bytes rights_of image acl_text digits entry_text directory_of names_at opaque_at word_at counted_at whole_at count_at name_at spelled_at bytes_below
+unfolding moved begin_row client_row server_row back_timeout_row wake_row start_row loc_row loc_start_row record_bytes head_form volume_form spelled opaque pad word laid_at led name_ok directory_bytes name_bytes rights_of image acl_text digits entry_text directory_of names_at opaque_at word_at counted_at whole_at count_at name_at spelled_at bytes_below
 located_by_a_server h = let e : actors.Node (Server 1) ≡ actors.Node Loc = h.1.0.0.0.0 in absurd cc
 
 -- nothing else is told where its disk is set
@@ -784,7 +822,7 @@ dead_of_another_server h =
     let g = h.1.0.0.0.0.1 in
     let past : List Entry = past_of (set_up (script 1) ∷ []) (take 1 dead_history) in
     let none_ : NeverTo (Server 2) past = ((λ e c. one_server e, tt), (tt, tt)) in
-    never_to (Server 2) (record { node = Client 1; epoch = 1; number = 1 }) g.user g.call past none_ g.sent
+    elim g.sent [ inl x ↦ never_to (Server 2) (record { node = Client 1; epoch = 1; number = 1 }) x.user x.call past none_ x.sent | inr x ↦ let e : Server 2 ≡ Loc = x.is in absurd cc ]
 
 -- a server gives a break up, and its call went to another client
 abbrev sent_to_two : Entry → Entry
@@ -1108,7 +1146,13 @@ dead_of_nothing h =
         | inl x ↦ let e : negsuc 0 ≡ pos x.number = x.is in absurd cc
         | inr z ↦ elim z [
           | inl x ↦ subst (λ (a : Going). IsOpen (next a)) (sym (some_of opens_unknown g.act g.runs)) x.unended
-          | inr x ↦ let e : negsuc 0 ≡ pos 0 = x.is in absurd cc
+          | inr u ↦ elim u [
+            | inl x ↦ (let e : negsuc 0 ≡ pos 0 = x.is in absurd cc)
+            | inr t ↦ elim t [
+              | inl x ↦ (let e : negsuc 0 ≡ pos no_entry = x.is in absurd cc)
+              | inr v ↦ elim v [ inl x ↦ elim x.third [ inl t ↦ (let e : Server 1 ≡ Loc = t.1.0 in absurd cc) | inr none ↦ none ] | inr x ↦ elim x.is [ inl a ↦ dead_elsewhere x.left x.refused.gone (inl a) | inr b ↦ dead_elsewhere x.left x.refused.gone (inr b.0) ] ]
+            ]
+          ]
         ]
       ]
     ]
@@ -1128,7 +1172,7 @@ dead_of_no_gift h = let g = h.1.1.1.0.0.0.1.0.1 in g.some g.act g.runs (ap (λ (
 -- the first two of three are told before the call, which is then dead at its first
 dead_at_its_first_timeout : Legal (step_of (Client 1) (times_out 1 ∷ []) [] ∷ step_of (Client 1) (times_out 2 ∷ []) [] ∷ entries (start (script 1)) (begins 1 (acts.Open (operands.Fid file)) ∷ []) ++ step_of (Client 1) (times_out 3 ∷ dead_answer ∷ []) [] ∷ []) (script 1) → ⊥
 unfolding moved begin_row client_row server_row back_timeout_row wake_row start_row record_bytes head_form volume_form spelled opaque pad word laid_at led name_ok directory_bytes name_bytes rights_of image acl_text digits entry_text directory_of names_at opaque_at word_at counted_at whole_at count_at name_at spelled_at bytes_below
-dead_at_its_first_timeout h = elim h.0.0.0.0.1.sent [ inl x ↦ x | inr x ↦ x ]
+dead_at_its_first_timeout h = elim h.0.0.0.0.1.sent [ inl x ↦ elim x.sent [ inl y ↦ y | inr y ↦ y ] | inr x ↦ let e : Server 1 ≡ Loc = x.is in absurd cc ]
 
 -- ---- a break is settled or given up by a call that was first sent when it was owed
 
@@ -1495,9 +1539,12 @@ given_up_store =
 dead_not : negsuc 0 ≡ pos 0 → ⊥
 dead_not e = absurd cc
 
+not_asked : Server 1 ≡ Loc → ⊥
+not_asked e = absurd cc
+
 shown_when_given_up : Legal (alters 7 (instead (times_two_out 3 ∷ lines.Answer (Client 1) (record { 0 = negsuc 0 }) ∷ [])) (entries (start (script 2)) given_up_store) ++ step_of (Client 1) (begun 1 ∷ shown Cached ∷ answer 1 ∷ []) [] ∷ []) (script 2) → ⊥
 unfolding moved begin_row client_row server_row back_timeout_row wake_row start_row record_bytes head_form volume_form spelled opaque pad word laid_at led name_ok directory_bytes name_bytes rights_of image acl_text digits entry_text directory_of names_at opaque_at word_at counted_at whole_at count_at name_at spelled_at bytes_below
-shown_when_given_up h = elim h.1.1.1.1.1.1.1.1.1.1.0.0.0.1.0.1.0.brought.0 [ inl x ↦ dead_not x.1.0 | inr y ↦ y.0 (refl, (refl, refl)) ]
+shown_when_given_up h = elim h.1.1.1.1.1.1.1.1.1.1.0.0.0.1.0.1.0.brought.0 [ inl x ↦ dead_not x.1.0 | inr y ↦ y.0 (refl, (refl, (not_asked, refl))) ]
 
 -- ---- a client's calls are numbered one by one, in its epoch
 
@@ -1645,17 +1692,17 @@ full_when_up h = elim h.0.1.0.1.1.0 [ inl x ↦ x | inr x ↦ x.0 ]
 -- the same timeout twice
 timed_out_again : Legal (entries (start (script 1)) (begins 1 (acts.Open (operands.Fid file)) ∷ waits 1 ∷ []) ++ step_of (Client 1) (times_out 1 ∷ []) [] ∷ []) (script 1) → ⊥
 unfolding moved begin_row client_row server_row back_timeout_row wake_row start_row record_bytes head_form volume_form spelled opaque pad word laid_at led name_ok directory_bytes name_bytes rights_of image acl_text digits entry_text directory_of names_at opaque_at word_at counted_at whole_at count_at name_at spelled_at bytes_below
-timed_out_again h = h.1.1.0.0.0.0.1.awaited.once (inl (refl, (refl, (refl, (refl, refl)))))
+timed_out_again h = elim h.1.1.0.0.0.0.1.sent [ inl x ↦ x.awaited.once (inl (refl, (refl, (refl, (refl, refl))))) | inr x ↦ not_asked x.is ]
 
 -- the reply came
 timed_out_when_answered : Legal (entries (start (script 1)) (begins 1 (acts.Open (operands.Fid file)) ∷ gives 1 steady ∷ gives 2 steady ∷ []) ++ step_of (Client 1) (times_out 1 ∷ []) [] ∷ []) (script 1) → ⊥
 unfolding moved begin_row client_row server_row back_timeout_row wake_row start_row record_bytes head_form volume_form spelled opaque pad word laid_at led name_ok directory_bytes name_bytes rights_of image acl_text digits entry_text directory_of names_at opaque_at word_at counted_at whole_at count_at name_at spelled_at bytes_below
-timed_out_when_answered h = let g = h.1.1.1.0.0.0.0.1.awaited in let e : None ≡ Some g.act = g.runs in absurd cc
+timed_out_when_answered h = elim h.1.1.1.0.0.0.0.1.sent [ inl x ↦ (let e : None ≡ Some x.awaited.act = x.awaited.runs in absurd cc) | inr x ↦ not_asked x.is ]
 
 -- the act goes on with its next call
 timed_out_when_replaced : Legal (entries (start (script 1)) walk_front ++ step_of (Client 1) (times_out 1 ∷ []) [] ∷ []) (script 1) → ⊥
 unfolding moved begin_row client_row server_row back_timeout_row wake_row start_row record_bytes head_form volume_form spelled opaque pad word laid_at led name_ok directory_bytes name_bytes rights_of image acl_text digits entry_text directory_of names_at opaque_at word_at counted_at whole_at count_at name_at spelled_at bytes_below
-timed_out_when_replaced h = elim (h.1.1.1.0.0.0.0.1.awaited.last 3 _ refl tt refl) [ inl x ↦ let e : 1 < 1 = x in absurd (omega arith) | inr x ↦ let e : 2 ≤ 1 = x.1 in absurd (omega arith) ]
+timed_out_when_replaced h = elim h.1.1.1.0.0.0.0.1.sent [ inl g ↦ elim (g.awaited.last 3 _ refl tt refl) [ inl x ↦ (let e : 1 < 1 = x in absurd (omega arith)) | inr x ↦ (let e : 2 ≤ 1 = x.1 in absurd (omega arith)) ] | inr x ↦ not_asked x.is ]
 
 -- the reply comes, and the client leaves it: its act is answered -1 after three timeouts
 abbrev times_out_as : ℕ → Line
@@ -1693,13 +1740,13 @@ left_the_reply h =
     let g = h.1.1.1.0.0.0.0.1 in
     let past : List Entry = past_of (set_up (script 1) ∷ []) (take 3 left_history) in
     let all : AllHave 133 past = (tt, (((λ u k e. absurd (told_no_call _ u k e)), tt), (((λ u k e. ap call_number (one_call _ u _ k e)), tt), (tt, tt)))) in
-    g.awaited.unanswered.0 ((tt, refl), (refl, one_number 133 (Server 1) (key_of_one 1) g.user g.call past all g.sent))
+    elim g.sent [ inl t ↦ t.awaited.unanswered.0 ((tt, refl), (refl, one_number 133 (Server 1) (key_of_one 1) t.user t.call past all t.sent)) | inr x ↦ not_asked x.is ]
 
 -- or it only leaves it, and is answered when it comes again
 took_no_reply : Legal (alters 2 (instead (lines.Given 2 ∷ [])) (entries (start (script 1)) (begins 1 (acts.Close (operands.Fid file) (Hex (codes "def"))) ∷ gives 1 steady ∷ gives 2 steady ∷ []))) (script 1) → ⊥
 unfolding moved begin_row client_row server_row back_timeout_row wake_row start_row record_bytes head_form volume_form spelled opaque pad word laid_at led name_ok directory_bytes name_bytes rights_of image acl_text digits entry_text directory_of names_at opaque_at word_at counted_at whole_at count_at name_at spelled_at bytes_below
 took_no_reply h =
-    h.1.1.0.1.0.1.1.1.1.0.1
+    elim (h.1.1.0.1.0.1.1.1.1.0.1
     (record {
       heard = record {
         message = _;
@@ -1714,7 +1761,7 @@ took_no_reply h =
       runs = refl;
       called = inr (refl, inl (refl, inl (refl, refl)));
     })
-    home refl
+    home refl) [ inl x ↦ x | inr x ↦ x.1 ]
 
 -- its store is refused, and the client leaves that
 abbrev refused_history : List Entry
@@ -1723,7 +1770,7 @@ refused_history = entries (start (script 1)) (begins 1 (acts.Close (operands.Fid
 took_no_refusal : Legal refused_history (script 1) → ⊥
 unfolding moved begin_row client_row server_row back_timeout_row wake_row start_row record_bytes head_form volume_form spelled opaque pad word laid_at led name_ok directory_bytes name_bytes rights_of image acl_text digits entry_text directory_of names_at opaque_at word_at counted_at whole_at count_at name_at spelled_at bytes_below
 took_no_refusal h =
-    h.1.1.0.1.0.1.1.1.1.0.1
+    elim (h.1.1.0.1.0.1.1.1.1.0.1
     (record {
       heard = record {
         message = roomless;
@@ -1738,7 +1785,7 @@ took_no_refusal h =
       runs = refl;
       called = inr (refl, inl (refl, inl (refl, refl)));
     })
-    home refl
+    home refl) [ inl x ↦ x | inr x ↦ x.1 ]
 
 -- ---- a client makes one call at a time
 
@@ -1783,7 +1830,7 @@ called_in_place_of_a_repeat h = out_of_turn (key_of_one 2) (step_of (Client 1) (
 -- it tells a third timeout, and goes on waiting
 waited_on : Legal (alters 3 (instead (times_out_as 3 ∷ [])) (entries (start (script 1)) (begins 1 (acts.Open (operands.Fid file)) ∷ waits 1 ∷ waits 1 ∷ waits 1 ∷ []))) (script 1) → ⊥
 unfolding moved begin_row client_row server_row back_timeout_row wake_row start_row record_bytes head_form volume_form spelled opaque pad word laid_at led name_ok directory_bytes name_bytes rights_of image acl_text digits entry_text directory_of names_at opaque_at word_at counted_at whole_at count_at name_at spelled_at bytes_below
-waited_on h = h.1.1.1.0.0.0.0.1.awaited.dead refl
+waited_on h = elim h.1.1.1.0.0.0.0.1.sent [ inl x ↦ x.awaited.dead refl | inr x ↦ not_asked x.is ]
 
 -- a server times its call out once more than thrice
 timed_out_four_times : Legal (entries (start (script 2)) (changes_file ++ server_waits 1 (Client 1) ∷ server_waits 1 (Client 1) ∷ server_waits 1 (Client 1) ∷ []) ++ step_of (Server 1) (lines.Timeout (Server 1) (Client 1) 1 1 4 ∷ []) [] ∷ []) (script 2) → ⊥
@@ -2104,3 +2151,76 @@ shown_after_a_link h =
         ]
       ]
     ]
+
+-- ---- the location database lives as its lines tell
+
+-- it is up, and begins again
+loc_began_when_up : Legal (step_of Loc (lines.Restart Loc 2 ∷ []) [] ∷ []) (script 1) → ⊥
+unfolding moved begin_row client_row server_row back_timeout_row wake_row start_row record_bytes head_form volume_form spelled opaque pad word laid_at led name_ok directory_bytes name_bytes rights_of image acl_text digits entry_text directory_of names_at opaque_at word_at counted_at whole_at count_at name_at spelled_at bytes_below
+loc_began_when_up h = elim h.0.1.0.1.1.0.0 [ inl x ↦ x | inr x ↦ x.0 ]
+
+-- it is down, and stops once more
+loc_stopped_when_down : Legal (step_of Loc (lines.Crash Loc ∷ []) [] ∷ step_of Loc (lines.Crash Loc ∷ []) [] ∷ []) (script 1) → ⊥
+loc_stopped_when_down h = h.1.0.1.0.1.1.0.0
+
+-- it begins again in the boot that it had
+loc_began_in_its_boot : Legal (step_of Loc (lines.Crash Loc ∷ []) [] ∷ step_of Loc (lines.Restart Loc 1 ∷ []) [] ∷ []) (script 1) → ⊥
+unfolding moved begin_row client_row server_row back_timeout_row wake_row start_row record_bytes head_form volume_form spelled opaque pad word laid_at led name_ok directory_bytes name_bytes rights_of image acl_text digits entry_text directory_of names_at opaque_at word_at counted_at whole_at count_at name_at spelled_at bytes_below
+loc_began_in_its_boot h = let e : 1 < 1 = h.1.0.1.0.1.1.0.1.0.0.0 in absurd (omega arith)
+
+-- it leaps over a boot
+loc_boot_leapt : Legal (step_of Loc (lines.Crash Loc ∷ []) [] ∷ step_of Loc (lines.Restart Loc 3 ∷ []) [] ∷ []) (script 1) → ⊥
+unfolding moved begin_row client_row server_row back_timeout_row wake_row start_row record_bytes head_form volume_form spelled opaque pad word laid_at led name_ok directory_bytes name_bytes rights_of image acl_text digits entry_text directory_of names_at opaque_at word_at counted_at whole_at count_at name_at spelled_at bytes_below
+loc_boot_leapt h = let e : 3 ≤ 2 = h.1.0.1.0.1.1.0.0.0 in absurd (omega arith)
+
+-- it locks a volume that nobody asked it to lock
+loc_locked_unasked : Legal (step_of Loc (lines.Locked 9 1 16 ∷ []) [] ∷ []) (script 1) → ⊥
+unfolding moved begin_row client_row server_row back_timeout_row wake_row start_row record_bytes head_form volume_form spelled opaque pad word laid_at led name_ok directory_bytes name_bytes rights_of image acl_text digits entry_text directory_of names_at opaque_at word_at counted_at whole_at count_at name_at spelled_at bytes_below
+loc_locked_unasked h = elim h.0.1.0.1.1.0.1.0.1 [ inl x ↦ (let no : false ≡ true = x in absurd cc) | inr x ↦ x ]
+
+-- it answers what nobody asked
+abbrev loc_says_none : Message
+loc_says_none = record {
+  head = record { half = halves.Reply; from = Loc; to = Client 1; epoch = 1; number = 1; boot = 1; stamp = 0; opcode = 503 };
+  carried = carried.Refusal (record { 0 = pos no_entry });
+}
+
+loc_spoke_unasked : Legal (step_of Loc [] (loc_says_none ∷ []) ∷ []) (script 1) → ⊥
+loc_spoke_unasked h = h.0.1.0.1.1.0.1.1
+
+-- ---- a client asks the location database where its act needs to know a place
+
+abbrev asks_place : Node → ℕ → Fid → Message
+asks_place callee opcode f = record {
+  head = record { half = halves.Call; from = Client 1; to = callee; epoch = 1; number = 1; boot = 1; stamp = 0; opcode = opcode };
+  carried = carried.Call (codes "guest") (ask.Location (questions.GetEntryById f.volume));
+}
+
+-- it knows where the volume is
+first_within : (c : Node) (e : Entry) (past newer : List Entry) (at : Entry) (older : List Entry) → e ∷ past ≡ newer ++ (at ∷ older) → AreWithin c (newer ++ (at ∷ [])) → has_begun c e.lines ≡ false
+first_within c e past [] at older split h = let same : at ≡ e = cc in subst (λ (x : Entry). has_begun c x.lines ≡ false) same h.0
+first_within c e past (x ∷ newer) at older split h = let same : x ≡ e = cc in subst (λ (y : Entry). has_begun c y.lines ≡ false) same h.0
+
+no_locate : (o : Operand) → next (began (locations (script 1)) (acts.Open (operands.Fid file))) ≡ locates o → ⊥
+no_locate o e = absurd cc
+
+asked_needlessly : Legal (step_of (Client 1) (lines.Begin (Client 1) (acts.Open (operands.Fid file)) ∷ []) (asks_place Loc 503 file ∷ []) ∷ []) (script 1) → ⊥
+asked_needlessly h =
+    let g = h.0.1.1.1.0.0 in
+    elim g.why [
+      | inl e ↦ no_locate g.operand (ap next (some_of (began (locations (script 1)) (acts.Open (operands.Fid file))) g.act g.runs) ∙ e)
+      | inr q ↦ (let no : true ≡ false = first_within (Client 1) (step_of (Client 1) (lines.Begin (Client 1) (acts.Open (operands.Fid file)) ∷ []) (asks_place Loc 503 file ∷ [])) (set_up (script 1) ∷ []) q.1.newer q.1.at q.1.older q.1.split q.1.within in absurd cc)
+    ]
+
+-- it asks under an opcode of another call
+asked_under_another_opcode : Legal (step_of (Client 1) (lines.Begin (Client 1) (acts.Open (operands.Fid unknown)) ∷ []) (asks_place Loc 130 unknown ∷ []) ∷ []) (script 1) → ⊥
+asked_under_another_opcode h = let e : 130 ≡ 503 = h.0.1.1.1.0.0.opcode in absurd (omega (arith, e))
+
+-- it asks a file server
+asked_of_a_server : Legal (step_of (Client 1) (lines.Begin (Client 1) (acts.Open (operands.Fid unknown)) ∷ []) (asks_place (Server 1) 503 unknown ∷ []) ∷ []) (script 1) → ⊥
+asked_of_a_server h = not_asked h.0.1.1.1.0.0.to
+
+-- no act runs
+asked_while_idle : Legal (step_of (Client 1) (lines.Drop (Client 1) file ∷ []) (asks_place Loc 503 file ∷ []) ∷ []) (script 1) → ⊥
+unfolding moved begin_row client_row server_row back_timeout_row wake_row start_row record_bytes head_form volume_form spelled opaque pad word laid_at led name_ok directory_bytes name_bytes rights_of image acl_text digits entry_text directory_of names_at opaque_at word_at counted_at whole_at count_at name_at spelled_at bytes_below
+asked_while_idle h = let g = h.0.1.1.1.0.0 in let e : None ≡ Some g.act = g.runs in absurd cc

@@ -1,17 +1,19 @@
 -- More parts of what a legal history is, proved of the runs of every script, with any number of servers: what clients give back, that
 -- an act changes things once, by what it reads and is answered, and what it
 -- waits for.
-use Rattle.std.specs.Prelude.{◌≡◌, ℕ, List, [], ◌∷◌, ◌++◌, Bool, Some, true, false, ℤ, pos, if◌then◌else◌, ⊤, ◌⊎◌}
+use Rattle.afs_history.specs.declared.acts.Operand.{Operand}
+use Rattle.std.specs.Prelude.{◌≡◌, ℕ, List, [], ◌∷◌, ◌++◌, Bool, Some, true, false, ℤ, negsuc, pos, if◌then◌else◌, ⊤, ◌⊎◌}
 use Rattle.afs_history.specs.declared.lines.Line.{Line}
 use Rattle.afs_history.specs.declared.lines.Line.TheVariants as lines
 use Rattle.afs_history.specs.declared.scripts.Script.{Script}
 use Rattle.afs_law.specs.Cells.{IsOfCell}
+use Rattle.afs_law.specs.Breaks.{HasTimeout}
 use Rattle.afs_law.specs.Grants.{IsDropped, fetch_reply, has_fetched, is_promised}
 use Rattle.afs_law.specs.Ideal.{set_up, user_of}
-use Rattle.afs_law.specs.Legal.{EndsAct, GoodGift, HasChange, HasChangeBy, HasOwnHalf, HasUsed, IsDead, IsDone, IsKind, IsLastCall, IsOnItsWay, IsUse, as_asked, has_dropped}
+use Rattle.afs_law.specs.Legal.{EndsAct, GoodGift, HasChange, HasChangeBy, HasOwnHalf, HasUsed, IsDead, IsDone, IsKind, IsLastCall, IsOnItsWay, IsUse, as_asked, has_dropped, HasHeard, IsRefusedWith, IsUnlisted}
 use Rattle.afs_law.specs.Once.{past_of}
 use Rattle.afs_law.specs.Parts.{AllLines, EachEntry, EachSent, LineRule, waited_key}
-use Rattle.afs_law.specs.Past.{CalledSince, IsReply, answered_key, code_told, given_message, has_begun, has_sent, is_of_act, lines_of, lines_on, onto, running, sent_of}
+use Rattle.afs_law.specs.Past.{CalledSince, IsReply, answered_key, code_told, given_message, has_begun, has_sent, is_of_act, lines_of, lines_on, onto, running, sent_of, AreWithin, AskedSince}
 use Rattle.afs_law.specs.ServerParts.{IsCodeGood, IsReadGood}
 use Rattle.afs_num.specs.declared.calls.FsCall.{FsCall}
 use Rattle.afs_num.specs.declared.histories.Actor.TheVariants as actors
@@ -23,9 +25,9 @@ use Rattle.afs_num.specs.declared.types.Code.{Code}
 use Rattle.afs_num.specs.declared.types.Fid.{Fid}
 use Rattle.afs_num.specs.declared.types.Key.{Key}
 use Rattle.afs_num.specs.declared.types.Node.{Node}
-use Rattle.afs_num.specs.declared.types.Node.TheVariants.{Client}
-use Rattle.afs_rows.specs.ClientRow.{call_of, find_cached, names_call}
-use Rattle.afs_rows.specs.Going.{ClientState, Going, asked, gives_back, next, reads_rights}
+use Rattle.afs_num.specs.declared.types.Node.TheVariants.{Client, Loc, Server}
+use Rattle.afs_rows.specs.ClientRow.{call_of, find_cached, names_call, question}
+use Rattle.afs_rows.specs.Going.{ClientState, Going, asked, gives_back, locates, next, reads_rights, no_entry}
 use Rattle.afs_rows.specs.Runs.{Cell, Entry, RunsTo}
 use Rattle.afs_rows.specs.States.{CacheEntry}
 
@@ -82,6 +84,7 @@ pub record IsReplied (s : Script) (c : Node) (act : Going) (code : ℤ) (past : 
   pub is_reply : IsReply reply
   pub told : code_told reply.carried ≡ Some code
   pub to : reply.head.to ≡ c
+  pub from : (i : ℕ) × (reply.head.from ≡ Server i)
   pub before : has_begun c own ≡ false
   pub call : FsCall
   pub asks : as_asked call ≡ asked act
@@ -97,11 +100,49 @@ pub record IsGivenAtOnce (s : Script) (c : Node) (act : Going) (code : ℤ) (own
   pub begun : has_begun c own ≡ true
   pub none : IsOfCell s → has_dropped c own ≡ false
 
+-- in an entry since its act began the client was given a server's reply with this code, 103 or 111, to the act's call
+pub record WasReplied (s : Script) (c : Node) (act : Going) (code : ℤ) (past : List Entry) : Type 0 where
+  pub gone : (code ≡ pos 103) ⊎ (code ≡ pos 111)
+  pub newer : List Entry
+  pub at : Entry
+  pub older : List Entry
+  pub split : past ≡ newer ++ (at ∷ older)
+  pub within : AreWithin c (newer ++ (at ∷ []))
+  pub actor : at.actor ≡ actors.Node c
+  pub reply : Message
+  pub by : given_message at.lines (sent_of older) ≡ Some reply
+  pub is_reply : IsReply reply
+  pub told : code_told reply.carried ≡ Some code
+  pub to : reply.head.to ≡ c
+  pub from : (i : ℕ) × (reply.head.from ≡ Server i)
+  pub call : FsCall
+  pub asks : as_asked call ≡ asked act
+  pub called : CalledSince (answered_key reply.head) (user_of s c) call older
+
+-- the server that refused the act is the one that the location database knows; or that refused too
+pub record IsLeft (s : Script) (c : Node) (act : Going) (code : ℤ) (past : List Entry) (own : List Line) : Type 0 where
+  pub left : ℤ
+  pub replied : WasReplied s c act left past
+  pub operand : Operand
+  pub heard : HasHeard s c operand past own
+  pub is : (code ≡ left) ⊎ ((code ≡ pos no_entry) × IsRefusedWith code heard.reply.carried)
+
+-- what the act asked the location database, since it lacked a place or was refused, was timed out for the third time
+pub record IsUntold (s : Script) (c : Node) (act : Going) (code : ℤ) (past : List Entry) (own : List Line) : Type 0 where
+  pub is : code ≡ negsuc 0
+  pub epoch : ℕ
+  pub number : ℕ
+  pub third : HasTimeout c Loc epoch number 3 own
+  pub before : has_begun c own ≡ false
+  pub operand : Operand
+  pub called : AskedSince (record { node = c; epoch = epoch; number = number }) (user_of s c) (question operand) past
+  pub why : (next act ≡ locates operand) ⊎ ((left : ℤ) × WasReplied s c act left past)
+
 -- an act runs, and its answer has its cause. That the ideal cell gives the code of the reply isn't asked here
 pub record IsDueCode (s : Script) (c : Node) (code : Code) (past : List Entry) (own : List Line) : Type 0 where
   pub act : Going
   pub runs : running s c (own ++ lines_of past) ≡ Some act
-  pub cause : IsReplied s c act code.0 past own ⊎ (IsDone s c act code.0 past own ⊎ (IsDead s c act code.0 past own ⊎ IsGivenAtOnce s c act code.0 own))
+  pub cause : IsReplied s c act code.0 past own ⊎ (IsDone s c act code.0 past own ⊎ (IsDead s c act code.0 past own ⊎ (IsGivenAtOnce s c act code.0 own ⊎ (IsUnlisted s c act code.0 past own ⊎ (IsUntold s c act code.0 past own ⊎ IsLeft s c act code.0 past own)))))
 
 abbrev pub IsDue : Script → LineRule
 IsDue s who (lines.Read c f index source body) past own next = IsUsed s (is_promised body) c f source body past own

@@ -16,7 +16,7 @@ use Rattle.afs_ideal.specs.Operations.{Caller, the_user, Result, refused, reads,
 use Rattle.afs_num.specs.declared.histories.ReadSource.TheVariants.{Cached}
 use Rattle.afs_rows.specs.ClientRow.{find_cached}
 use Rattle.afs_num.specs.declared.messages.Message.{Message}
-use Rattle.afs_num.specs.declared.types.Node.TheVariants.{Client, Server}
+use Rattle.afs_num.specs.declared.types.Node.TheVariants.{Client, Server, Loc}
 use Rattle.afs_ideal.specs.Tables.{get, Table}
 use Rattle.afs_num.specs.Nodes.{IsNode}
 use Rattle.afs_records.specs.Changes.{boot_record}
@@ -31,10 +31,10 @@ use Rattle.afs_law.specs.Legal.{IsCaused, HasChangeBy, GoodRead, HasChange, Lega
 use Rattle.afs_history.specs.declared.lines.Line.{Line}
 use Rattle.afs_law.specs.Once.{past_of, ChangesOnce}
 use Rattle.afs_law.specs.Cells.{IsOfCell}
-use Rattle.afs_law.specs.Past.{IsReply, AreWithin, IsUpTo, CalledSince, HasCode, IsCall, lines_of, onto, running, IsUnheard, called_key, answered_key, Ran}
+use Rattle.afs_law.specs.Past.{IsReply, AreWithin, IsUpTo, CalledSince, HasCode, IsCall, lines_of, onto, running, IsUnheard, called_key, answered_key, Ran, IsFileCall}
 use Rattle.afs_rows.specs.Steps.{Begun}
 use Rattle.afs_rows.specs.Runs.{Fall, begun_by_disk, message_at, Leads, start, Input, Entry, Cell, RunsTo, first_lasting, first_stored, volumes_at, ServerHost}
-use Rattle.afs_rows.specs.ServerRow.{Change, is_client, lasting_after, lasting_started, record_of, serves, runs, refuses, not_served, whole, is_client, no_room, key_of, made, versioned}
+use Rattle.afs_rows.specs.ServerRow.{Change, is_client, lasting_after, lasting_started, record_of, serves, runs, refuses, not_served, whole, no_room, key_of, made, versioned}
 use Rattle.afs_rows.specs.States.{CacheEntry, Seat, Lasting, durable_of, volume_in, ServerState, BackCall}
 use Rattle.afs_model.specs.FsRows.{call_number}
 use Rattle.afs_num.specs.declared.messages.Carried.TheVariants as carried
@@ -93,10 +93,11 @@ VolumesAreTold = (s : Script) (history : List Entry) (end : Cell) → RunsTo his
 abbrev pub IsKnownTo : ClientState → Head → Type 0
 IsKnownTo c head = IsUpTo head.epoch head.number c.epoch c.last
 
--- no call of a client, and no reply to one, has a pair above the client's last call
+-- no call of a client, and no reply to one, of a server or of the location database, has a pair above the client's last call
 pub record ArePairsKnown (sent : List Message) (clients : ℕ → ClientState) : Type 0 where
   pub calls : (j place : ℕ) (m : Message) → message_at sent place ≡ Some m → IsCall m.carried → m.head.from ≡ Client j → IsKnownTo (clients j) m.head
-  pub replies : (j place : ℕ) (m : Message) → message_at sent place ≡ Some m → HasCode m.carried → m.head.to ≡ Client j → IsKnownTo (clients j) m.head
+  pub replies : (i j place : ℕ) (m : Message) → message_at sent place ≡ Some m → HasCode m.carried → m.head.from ≡ Server i → m.head.to ≡ Client j → IsKnownTo (clients j) m.head
+  pub told : (j place : ℕ) (m : Message) → message_at sent place ≡ Some m → m.head.from ≡ Loc → m.head.to ≡ Client j → IsKnownTo (clients j) m.head
 
 abbrev pub PairsAreKnown : Type 0
 PairsAreKnown = (s : Script) (history : List Entry) (end : Cell) → RunsTo history s end → ArePairsKnown end.sent end.clients
@@ -302,7 +303,7 @@ CallsRunOnce =
 -- tells what the ideal cell made of it there, for the client's user
 abbrev pub RepliesAreCaused : Type 0
 RepliesAreCaused =
-    (s : Script) (history : List Entry) (end : Cell) → RunsTo history s end → (j place : ℕ) (m : Message) (act : Going) → message_at end.sent place ≡ Some m → HasCode m.carried → m.head.to ≡ Client j
+    (s : Script) (history : List Entry) (end : Cell) → RunsTo history s end → (i j place : ℕ) (m : Message) (act : Going) → message_at end.sent place ≡ Some m → HasCode m.carried → m.head.from ≡ Server i → m.head.to ≡ Client j
     → (end.clients j).running ≡ Some act → m.head.epoch ≡ (end.clients j).epoch → m.head.number ≡ (end.clients j).last → (code : ℤ) × ((cause : Cause m code (asked act) (past_of (set_up s ∷ []) history) []) × (cause.user ≡ user_of s (Client j)))
 
 -- each reply of a server to a client, once sent, is that of the entry that ran its call in the boot that it carries

@@ -1,4 +1,5 @@
 pub use Rattle.afs_law.specs.Past.{HasChangeBy, IsLater}
+use Rattle.afs_num.specs.declared.location_calls.LocCall.{LocCall}
 use Rattle.std.specs.Option.{option_map}
 use Rattle.afs_num.specs.Fids.{same_fid}
 use Rattle.afs_rows.specs.ServerRow.{promise_ticks}
@@ -11,6 +12,8 @@ use Rattle.afs_num.specs.declared.types.Key.{Key}
 use Rattle.afs_num.specs.declared.types.Node.{Node}
 use Rattle.afs_num.specs.declared.types.Node.TheVariants.{Server, Client, Loc}
 use Rattle.afs_num.specs.declared.calls.AfsCallBack.{AfsCallBack}
+use Rattle.afs_history.specs.declared.acts.Operand.{Operand}
+use Rattle.afs_rows.specs.ClientRow.{question}
 use Rattle.afs_num.specs.declared.calls.FsCall.{FsCall}
 use Rattle.afs_num.specs.declared.calls.FsCall.TheVariants as calls
 use Rattle.afs_num.specs.declared.messages.Carried.{Carried}
@@ -18,14 +21,15 @@ use Rattle.afs_num.specs.declared.messages.Message.{Message}
 use Rattle.afs_ideal.specs.Operations.{Caller, the_user, Result, refused, changes, no_operation, op, code_of, volume_called, volume_changed}
 use Rattle.afs_ideal.specs.Volumes.{Volume, Edit, versions_by}
 use Rattle.afs_law.specs.Breaks.{HasDrop, unbroken_grant, IsNamedIn, AllOwes, HasEnded, HasStopped, HasTimeout, EndedOf, EndedAll, GoodSettle, GoodQuit, live_grant, lines_at, HasOwe, last_number}
-use Rattle.afs_rows.specs.Going.{Going, Need, answers, asks_for, next, asked, gives_back, reads, reads_rights, reads_status}
+use Rattle.afs_rows.specs.Going.{Going, Need, answers, asks_for, next, asked, gives_back, reads, reads_rights, reads_status, locates, no_entry, volume_at}
 use Rattle.afs_law.specs.Grants.{change_below, is_promised, read_reply, GrantOf, since, until, IsWithdrawn, IsChangedByOther, IsDropped}
 use Rattle.afs_law.specs.Ideal.{last_version, Unless, set_up, IsLast, WasLast, HasBeen, HasVersion, Accepts, clock_of, user_of, seen, change_in, change_key, call_under, callee_under, volume_after}
 use Rattle.afs_history.specs.declared.acts.Act.TheVariants as acts
 use Rattle.afs_history.specs.declared.lines.Line.{Line}
-use Rattle.afs_rows.specs.Runs.{message_at}
+use Rattle.afs_rows.specs.Runs.{locations, message_at}
 use Rattle.afs_law.specs.Lives.{IsDelivered, IsHostLived, epoch_after, last_written}
-use Rattle.afs_law.specs.Past.{HasBoot, IsLatest, IsUpTo, WasSent, has_sent, is_down, last_boot, is_new_to_act, called_key, IsCall, IsToCome, is_of_act, lines_of, sent_of, given_message, answered_key, code_told, IsReply, running, has_begun, has_given, Called, CalledSince, IsCallUnder, Ran, server_boot}
+use Rattle.afs_model.specs.CellRows as cell_rows
+use Rattle.afs_law.specs.Past.{onto, HasBoot, IsLatest, IsUpTo, WasSent, has_sent, has_called, is_down, last_boot, is_new_to_act, called_key, IsCall, IsToCome, is_of_act, lines_of, sent_of, given_message, answered_key, code_told, IsReply, running, has_begun, has_given, Called, CalledSince, IsCallUnder, Ran, server_boot, AreWithin, AskedSince}
 use Rattle.afs_rows.specs.Runs.{Entry}
 use Rattle.afs_history.specs.declared.scripts.Script.{Script}
 use Rattle.afs_num.specs.declared.histories.Actor.{Actor}
@@ -149,9 +153,9 @@ abbrev pub ChangesIn : ℕ → Option Going → Type 0
 ChangesIn id None = ⊥
 ChangesIn id (Some act) = volume_changed (asked act) ≡ Some id
 
--- The client times a call out for the third time, by which its act asks for a change of the volume. Whether that was made it doesn't know
-abbrev pub Loses : Script → Node → ℕ → Node → ℕ → List Line → Type 0
-Loses s c id n count older = (n ≡ c) × ((count ≡ 3) × ChangesIn id (running s c older))
+-- The client times a server's call out for the third time, by which its act asks for a change of the volume. Whether that was made it doesn't know
+abbrev pub Loses : Script → Node → ℕ → Node → Node → ℕ → List Line → Type 0
+Loses s c id n callee count older = (n ≡ c) × ((count ≡ 3) × ((callee ≡ Loc → ⊥) × ChangesIn id (running s c older)))
 
 -- By these lines, the newest first, the version of this index came to the client since it last crashed, or gave up a change in its volume: by a read of
 -- its contents or its status that was fetched; or by an act that asks for a store into just this object, and was answered 0 after a call of the client's
@@ -160,7 +164,7 @@ abbrev pub HasLearned : Script → Node → Fid → ℕ → List Line → Type 0
 HasLearned s c f index [] = ⊥
 HasLearned s c f index (lines.Read m g i source shown ∷ older) = ((m ≡ c) × ((g ≡ f) × ((i ≡ index) × ((source ≡ Fetched) × (is_promised shown ≡ true))))) ⊎ HasLearned s c f index older
 HasLearned s c f index (lines.Answer m code ∷ older) = ((m ≡ c) × ((code.0 ≡ pos 0) × (StoresIntoBy (running s c older) f × HasMadeItself c f index older))) ⊎ HasLearned s c f index older
-HasLearned s c f index (lines.Timeout n callee epoch number count ∷ older) = (Loses s c f.volume n count older → ⊥) × HasLearned s c f index older
+HasLearned s c f index (lines.Timeout n callee epoch number count ∷ older) = (Loses s c f.volume n callee count older → ⊥) × HasLearned s c f index older
 HasLearned s c f index (lines.Crash n ∷ older) = Unless (same_node n c) (HasLearned s c f index older)
 HasLearned s c f index (l ∷ older) = HasLearned s c f index older
 
@@ -175,7 +179,7 @@ HasBrought s c f index body (lines.Answer m code ∷ older) =
     ((m ≡ c) × ((code.0 ≡ pos 0) × (HasMadeItself c f index older × (StoresBy (running s c older) f body ⊎ ((below : ℕ) × ((index ≡ below + 1) × (SetsBy (running s c older) f × HasBrought s c f below body older))))))) ⊎ HasBrought s c f index body older
 HasBrought s c f index body (lines.Drop m g ∷ older) = Unless (same_node m c && same_fid g f) (HasBrought s c f index body older)
 HasBrought s c f index body (lines.DropAll m server ∷ older) = (m ≡ c → Accepts s f.volume server older → ⊥) × HasBrought s c f index body older
-HasBrought s c f index body (lines.Timeout n callee epoch number count ∷ older) = (Loses s c f.volume n count older → ⊥) × HasBrought s c f index body older
+HasBrought s c f index body (lines.Timeout n callee epoch number count ∷ older) = (Loses s c f.volume n callee count older → ⊥) × HasBrought s c f index body older
 HasBrought s c f index body (lines.Crash n ∷ older) = Unless (same_node n c) (HasBrought s c f index body older)
 HasBrought s c f index body (l ∷ older) = HasBrought s c f index body older
 
@@ -494,6 +498,7 @@ pub record IsDone (s : Script) (c : Node) (act : Going) (code : ℤ) (past : Lis
 
 -- the act needs something still
 abbrev pub IsOpen : Need → Type 0
+IsOpen (locates o) = ⊥
 IsOpen (answers code) = ⊥
 IsOpen need = ⊤
 
@@ -508,6 +513,7 @@ pub record IsDead (s : Script) (c : Node) (act : Going) (code : ℤ) (past : Lis
   pub call : FsCall
   pub asks : as_asked call ≡ asked act
   pub unended : IsOpen (next act)
+  pub to : WasSent callee (record { node = c; epoch = epoch; number = number }) (user_of s c) call past
   pub called : CalledSince (record { node = c; epoch = epoch; number = number }) (user_of s c) call past
 
 -- the client gave up a fid by itself
@@ -554,12 +560,93 @@ GivesAllBack s c code past own = (act : Going) (f : Fid) → running s c (own ++
 abbrev pub GivesSomeBack : Script → Node → List Entry → List Line → Type 0
 GivesSomeBack s c past own = (act : Going) → running s c (own ++ lines_of past) ≡ Some act → act.act ≡ acts.GiveUp → has_begun c own ≡ false → dropped_first c past ≡ [] → ⊥
 
--- An act runs, and its answer has its cause: the reply to its call, for 0 that it was done from the cache or that there was
--- nothing to give back, or for -1 that its call was given up. Where promises are given back, 0 tells that all were
+-- ---- answers behind a call of the location database
+
+-- The entry was given the database's reply to what this very act asked it, for its user, since it began, which was in an entry before. That is the
+-- client's last call
+pub record HasHeard (s : Script) (c : Node) (o : Operand) (past : List Entry) (own : List Line) : Type 0 where
+  pub reply : Message
+  pub by : given_message own (sent_of past) ≡ Some reply
+  pub is_reply : IsReply reply
+  pub from : reply.head.from ≡ Loc
+  pub to : reply.head.to ≡ c
+  pub before : has_begun c own ≡ false
+  pub called : AskedSince (answered_key reply.head) (user_of s c) (question o) past
+  pub last : IsLastCall (answered_key reply.head) (sent_of past)
+
+-- The database has no such volume: it refuses with this code, or it tells an entry, in which the client finds no number of the volume. No line tells
+-- entries yet, so what it should have told isn't asked
+abbrev pub IsNowhere : ℤ → Carried → Type 0
+IsNowhere code (carried.Refusal other) = code ≡ other.0
+IsNowhere code (carried.Reply reply) = ⊤
+IsNowhere code x = ⊥
+
+-- the act needs to know where a volume is, and the database, which was asked for it, has none, for the script has none: 363524
+pub record IsUnlisted (s : Script) (c : Node) (act : Going) (code : ℤ) (past : List Entry) (own : List Line) : Type 0 where
+  pub operand : Operand
+  pub needs : next act ≡ locates operand
+  pub heard : HasHeard s c operand past own
+  pub is : code ≡ pos no_entry
+  pub none : volume_at (locations s) operand ≡ None
+  pub told : IsNowhere code heard.reply.carried
+
+-- the server has no such volume, or not any more
+abbrev pub IsGoneNumber : ℤ → Type 0
+IsGoneNumber code = (code ≡ pos 103) ⊎ (code ≡ pos 111)
+
+-- In an entry since its act began the client was given a server's reply with this code to the act's call, and the code has its cause:
+-- 103 or 111, that it has no such volume, or not any more.
+pub record WasRefused (s : Script) (c : Node) (act : Going) (code : ℤ) (past : List Entry) (own : List Line) : Type 0 where
+  pub gone : IsGoneNumber code
+  pub newer : List Entry
+  pub at : Entry
+  pub older : List Entry
+  pub split : past ≡ newer ++ (at ∷ older)
+  pub within : AreWithin c (newer ++ (at ∷ []))
+  pub actor : at.actor ≡ actors.Node c
+  pub reply : Message
+  pub by : given_message at.lines (sent_of older) ≡ Some reply
+  pub to : reply.head.to ≡ c
+  pub cause : Cause reply code (asked act) past own
+  pub own_user : cause.user ≡ user_of s c
+  pub called : CalledSince (answered_key reply.head) cause.user cause.call older
+
+-- an act asks the database where it needs to know where a volume is, or where a server told that it has none
+abbrev pub MayAsk : Script → Node → Going → Operand → List Entry → List Line → Type 0
+MayAsk s c act operand past own = (next act ≡ locates operand) ⊎ ((left : ℤ) × WasRefused s c act left past own)
+
+-- what the act asked the database was timed out for the third time in this entry: that call is dead
+pub record IsUnheardOf (s : Script) (c : Node) (act : Going) (code : ℤ) (past : List Entry) (own : List Line) : Type 0 where
+  pub is : code ≡ negsuc 0
+  pub epoch : ℕ
+  pub number : ℕ
+  pub third : HasTimeout c Loc epoch number 3 own
+  pub before : has_begun c own ≡ false
+  pub operand : Operand
+  pub called : AskedSince (record { node = c; epoch = epoch; number = number }) (user_of s c) (question operand) past
+  pub why : MayAsk s c act operand past own
+
+-- it refused with this code
+abbrev pub IsRefusedWith : ℤ → Carried → Type 0
+IsRefusedWith code (carried.Refusal other) = code ≡ other.0
+IsRefusedWith code x = ⊥
+
+-- A server told that it has no such volume, or not any more; and the database was asked, and knows no other server, so that is the
+-- answer. Or it has none, and refuses: 363524. (Where it had moved, the act would go on: none does yet.)
+pub record IsGone (s : Script) (c : Node) (act : Going) (code : ℤ) (past : List Entry) (own : List Line) : Type 0 where
+  pub left : ℤ
+  pub refused : WasRefused s c act left past own
+  pub operand : Operand
+  pub heard : HasHeard s c operand past own
+  pub is : (code ≡ left) ⊎ ((code ≡ pos no_entry) × IsRefusedWith code heard.reply.carried)
+
+-- An act runs, and its answer has its cause: the reply to its call, for 0 that it was done from the cache or that there was nothing to
+-- give back, or for -1 that its call was given up; or what the location database told, or that it told nothing. Where promises are
+-- given back, 0 tells that all were
 pub record GoodCode (s : Script) (c : Node) (code : Code) (past : List Entry) (own : List Line) : Type 0 where
   pub act : Going
   pub runs : running s c (own ++ lines_of past) ≡ Some act
-  pub cause : IsCaused s c act code.0 past own ⊎ (IsDone s c act code.0 past own ⊎ (IsDead s c act code.0 past own ⊎ HasNothing c act code.0 own))
+  pub cause : IsCaused s c act code.0 past own ⊎ (IsDone s c act code.0 past own ⊎ (IsDead s c act code.0 past own ⊎ (HasNothing c act code.0 own ⊎ (IsUnlisted s c act code.0 past own ⊎ (IsUnheardOf s c act code.0 past own ⊎ IsGone s c act code.0 past own)))))
   pub gives : GivesAllBack s c code.0 past own
   pub some : GivesSomeBack s c past own
 
@@ -630,7 +717,7 @@ abbrev pub IsBy : Node → List Entry → Type 0
 IsBy n [] = ⊥
 IsBy n (e ∷ past) = e.actor ≡ actors.Node n
 
--- a client gives its call a key that no file call had which was sent before the act that it began last
+-- a client gives its call a key that no call had which was sent before the act that it began last
 abbrev pub HasOwnKey : Node → Key → List Entry → Type 0
 HasOwnKey (Client j) k past = is_new_to_act (Client j) k past ≡ true
 HasOwnKey n k past = ⊤
@@ -683,8 +770,8 @@ ArePresent past [] = ⊤
 ArePresent past (m ∷ ms) = ((IsPresent past m × TellsItsBoot past m) × RunsFirstOfAct past m) × ArePresent past ms
 
 -- A message is sent by the node that its header names as sender, in the entry with which `past` begins, and a call is one by its header.
--- A reply of a server waits for its breaks, what a call gives back was dropped, and a client's call has a key that no file call had
--- which was sent before the act that it began last
+-- A reply of a server waits for its breaks, what a call gives back was dropped, and a client's call has a key that no call had which was
+-- sent before the act that it began last
 pub record GoodMessage (past : List Entry) (m : Message) : Type 0 where
   pub sender : IsBy m.head.from past
   pub half : HasOwnHalf m
@@ -761,7 +848,8 @@ pub record HearsAnswer (c : Node) (past : List Entry) (ls : List Line) : Type 0 
   pub its : IsOfLastCall message.head past
 
 -- A call under this key was sent before the entry with which `past` begins. Or its node begins an act in that entry, or is given the answer to its last
--- call. So a client that waits for an answer makes no other call
+-- call. So a client that waits for an answer makes no other call. An answer of `loc` is none of these: no client's table changes, so the call behind it
+-- has been sent before, or its act ends
 abbrev pub IsInTurn : Key → List Entry → Type 0
 IsInTurn k [] = ⊥
 IsInTurn k (e ∷ past) = (has_sent k (sent_of past) ≡ true) ⊎ ((has_begun k.node e.lines ≡ true) ⊎ HearsAnswer k.node past e.lines)
@@ -773,7 +861,7 @@ GivesSome call = ⊤
 
 -- the key's number is 1, or the one after that of a call which its node sent in the same epoch
 abbrev pub IsInOrder : Key → List Message → Type 0
-IsInOrder k ms = (k.number ≡ 1) ⊎ ((n : ℕ) × ((k.number ≡ n + 1) × (has_sent (record k { number = n }) ms ≡ true)))
+IsInOrder k ms = (k.number ≡ 1) ⊎ ((n : ℕ) × ((k.number ≡ n + 1) × (has_called (record k { number = n }) ms ≡ true)))
 
 -- the client stops in these lines
 abbrev pub has_crashed : Node → List Line → Bool
@@ -826,13 +914,41 @@ abbrev pub OwnCallOf : Script → Node → Head → List ℕ → FsCall → List
 OwnCallOf s (Client j) head user call past = OwnFileCall s (Client j) head user call past
 OwnCallOf s n head user call past = ⊤
 
+-- The same was asked under this key before, since the act began; or nothing had the key, and the node begins an act in that entry, or is given the
+-- answer to its last call
+abbrev pub IsAskedInTurn : Key → List ℕ → LocCall → List Entry → Type 0
+IsAskedInTurn k user call [] = ⊥
+IsAskedInTurn k user call (e ∷ past) =
+    ((has_begun k.node e.lines ≡ false) × AskedSince k user call past) ⊎ ((has_called k (sent_of past) ≡ false) × ((has_begun k.node e.lines ≡ true) ⊎ HearsAnswer k.node past e.lines))
+
+-- A client asks the location database, for its user, where a volume is that its act needs to know, or of which a server told that it has none. It asks
+-- under its next pair, as it calls a server, and the same again. Of the boot that the header tells nothing is asked
+pub record OwnQuestion (s : Script) (c : Node) (head : Head) (user : List ℕ) (call : LocCall) (past : List Entry) : Type 0 where
+  pub own_user : user ≡ user_of s c
+  pub act : Going
+  pub runs : running s c (lines_of past) ≡ Some act
+  pub operand : Operand
+  pub asks : call ≡ question operand
+  pub why : MayAsk s c act operand past []
+  pub to : head.to ≡ Loc
+  pub opcode : head.opcode ≡ cell_rows.call_number (ask.Location call)
+  pub epoch : head.epoch ≡ epoch_after c (lines_of past)
+  pub order : IsInOrder (called_key head) (sent_of past)
+  pub last : IsLastCall (called_key head) (sent_of past)
+  pub turn : IsAskedInTurn (called_key head) user call past
+
+abbrev pub OwnQuestionOf : Script → Node → Head → List ℕ → LocCall → List Entry → Type 0
+OwnQuestionOf s (Client j) head user call past = OwnQuestion s (Client j) head user call past
+OwnQuestionOf s n head user call past = ⊤
+
 abbrev pub IsNoClient : Node → Type 0
 IsNoClient (Client j) = ⊥
 IsNoClient n = ⊤
 
--- a client makes calls of file servers alone
+-- a client makes calls of file servers, and asks the location database; it makes none of volume servers
 abbrev pub OwnCall : Script → Head → Carried → List Entry → Type 0
 OwnCall s head (carried.Call user (ask.File call)) past = OwnCallOf s head.from head user call past
+OwnCall s head (carried.Call user (ask.Location call)) past = OwnQuestionOf s head.from head user call past
 OwnCall s head (carried.Call user call) past = IsNoClient head.from
 OwnCall s head c past = ⊤
 
@@ -884,11 +1000,17 @@ pub record HearsOfAct (s : Script) (c : Node) (past : List Entry) (ls : List Lin
   pub runs : running s c (lines_of past) ≡ Some act
   pub called : CalledSince (answered_key heard.message.head) heard.its.user heard.its.call past
 
--- A client that is so given the reply to a call which may change something, or its refusal, answers its act with that code in that entry. (No volume is
--- busy or out of service yet; of such a refusal, 110 or 106, this can't be asked.)
-abbrev pub TakesReply : Script → Actor → List Entry → List Line → Type 0
-TakesReply s (actors.Node (Client j)) past ls = (given : HearsOfAct s (Client j) past ls) (id : ℕ) → volume_changed given.heard.its.call ≡ Some id → HasAnswer (Client j) given.heard.code ls
-TakesReply s who past ls = ⊤
+-- the node asks the location database something
+abbrev pub AsksLoc : Node → List Message → Type 0
+AsksLoc n [] = ⊥
+AsksLoc n (m ∷ ms) = ((m.head.from ≡ n) × ((m.head.to ≡ Loc) × IsCall m.carried)) ⊎ AsksLoc n ms
+
+-- A client that is so given the reply to a call which may change something, or its refusal, answers its act with that code in that entry; or, where the
+-- server has no such volume, it asks in that entry where that is. (No volume is busy or out of service yet; of such a refusal, 110 or 106, this can't be
+-- asked.)
+abbrev pub TakesReply : Script → Actor → List Entry → List Line → List Message → Type 0
+TakesReply s (actors.Node (Client j)) past ls sent = (given : HearsOfAct s (Client j) past ls) (id : ℕ) → volume_changed given.heard.its.call ≡ Some id → HasAnswer (Client j) given.heard.code ls ⊎ (IsGoneNumber given.heard.code × AsksLoc (Client j) sent)
+TakesReply s who past ls sent = ⊤
 
 -- ---- what an entry of a restart tells
 
@@ -916,11 +1038,45 @@ abbrev pub IsLived : Node → Bool → ℕ → List Line → List Message → Ty
 IsLived c true epoch ls sent = (ls ≡ lines.Restart c epoch ∷ []) × (sent ≡ [])
 IsLived c false epoch ls sent = ((ls ≡ lines.Crash c ∷ []) × (sent ≡ [])) ⊎ (has_crash_or_restart ls ≡ false)
 
--- A client's entry is as the client is, up or down, and so is a server's. A server begins again in a boot at most one above those which restarts
--- that failed may have written; it may be a lower one
+-- a boot that these lines begin is above this one
+abbrev pub RisesAbove : ℕ → List Line → Type 0
+RisesAbove last [] = ⊤
+RisesAbove last (lines.Restart n boot ∷ ls) = (last < boot) × RisesAbove last ls
+RisesAbove last (l ∷ ls) = RisesAbove last ls
+
+-- no lock and no place is told
+abbrev pub TellsNoDeed : List Line → Type 0
+TellsNoDeed [] = ⊤
+TellsNoDeed (lines.Locked v stamp operation ∷ ls) = ⊥
+TellsNoDeed (lines.Unlocked v ∷ ls) = ⊥
+TellsNoDeed (lines.Recovered v ∷ ls) = ⊥
+TellsNoDeed (lines.Located v server ∷ ls) = ⊥
+TellsNoDeed (l ∷ ls) = TellsNoDeed ls
+
+-- while the location database is up, it tells these of what it is given alone
+abbrev pub DeedsAreCaused : Option ℕ → List Line → Type 0
+DeedsAreCaused None ls = ⊤
+DeedsAreCaused (Some boot) ls = (has_given ls ≡ true) ⊎ TellsNoDeed ls
+
+-- What the location database sends goes back under the call that its entry is given, to who sent that; it is no call, and a notice tells the boot in
+-- which the database is. (A reply may be kept over boots, so of its boot nothing is asked.)
+abbrev pub GoesBack : List Line → Option Message → Message → Type 0
+GoesBack ls None m = ⊥
+GoesBack ls (Some k) m = (IsCall k.carried × (IsCall m.carried → ⊥)) × (((m.head.to ≡ k.head.from) × ((m.head.epoch ≡ k.head.epoch) × (m.head.number ≡ k.head.number))) × (m.carried ≡ carried.Notice → server_boot Loc ls ≡ Some m.head.boot))
+
+-- and it sends one message at most
+abbrev pub AllGoBack : List Line → Option Message → List Message → Type 0
+AllGoBack ls given [] = ⊤
+AllGoBack ls given (m ∷ []) = GoesBack ls given m
+AllGoBack ls given (m ∷ n ∷ ms) = ⊥
+
+-- A client's entry is as the client is, up or down, and so is a server's, and the location database's. A server, and the database, begins again in a boot
+-- at most one above those which restarts that failed may have written; it may be a lower one. The database tells that it does in one above the last
+-- that it began; it tells of locks and places where it is given something or begins again, and sends but answers
 abbrev pub IsLivedBy : Actor → List Entry → List Line → List Message → Type 0
 IsLivedBy (actors.Node (Client j)) past ls sent = IsLived (Client j) (is_down (Client j) (lines_of past)) (epoch_after (Client j) (lines_of past)) ls sent
 IsLivedBy (actors.Node (Server i)) past ls sent = IsHostLived (server_boot (Server i) (lines_of past)) (last_written (Server i) (lines_of past) + 1) ls sent
+IsLivedBy (actors.Node Loc) past ls sent = IsHostLived (server_boot Loc (lines_of past)) (last_written Loc (lines_of past) + 1) ls sent × ((RisesAbove (last_boot Loc (lines_of past)) ls × DeedsAreCaused (server_boot Loc (lines_of past)) ls) × AllGoBack (onto (lines_of past) ls) (given_message ls (sent_of past)) sent)
 IsLivedBy who past ls sent = ⊤
 
 -- ---- timeouts
@@ -951,15 +1107,32 @@ abbrev pub IsAwaitedBy : Script → Node → Node → Key → List ℕ → FsCal
 IsAwaitedBy s (Client j) callee k user call count past own next = AwaitsReply s (Client j) callee k user call count past own next
 IsAwaitedBy s n callee k user call count past own next = ⊤
 
--- The call of this key was sent to this node before. Its count is 1, or the timeout of the count below stands in an entry before; and it is 3
--- at most. A client waits for the reply still
-pub record GoodTimeout (s : Script) (n callee : Node) (epoch number count : ℕ) (past : List Entry) (own next : List Line) : Type 0 where
+-- a file call of this key was sent to this node before, and a client waits for the reply still
+pub record IsTimedCall (s : Script) (n callee : Node) (k : Key) (count : ℕ) (past : List Entry) (own next : List Line) : Type 0 where
   pub user : List ℕ
   pub call : FsCall
-  pub sent : WasSent callee (record { node = n; epoch = epoch; number = number }) user call past
+  pub sent : WasSent callee k user call past
+  pub awaited : IsAwaitedBy s n callee k user call count past own next
+
+-- Or the location database was asked under this key since the act began that runs; it is the client's last call. This timeout wasn't told before; and
+-- the third is followed by the act's answer -1 in the same entry
+pub record IsTimedQuestion (s : Script) (n callee : Node) (k : Key) (count : ℕ) (past : List Entry) (own next : List Line) : Type 0 where
+  pub is : callee ≡ Loc
+  pub user : List ℕ
+  pub call : LocCall
+  pub act : Going
+  pub runs : running s n (lines_of past) ≡ Some act
+  pub asked : AskedSince k user call past
+  pub last : IsLastCall k (sent_of past)
+  pub once : HasTimeout n callee k.epoch k.number count (own ++ lines_of past) → ⊥
+  pub dead : count ≡ 3 → HasAnswer n (negsuc 0) next
+
+-- The call of this key was sent to this node before. Its count is 1, or the timeout of the count below stands in an entry before; and it is 3
+-- at most
+pub record GoodTimeout (s : Script) (n callee : Node) (epoch number count : ℕ) (past : List Entry) (own next : List Line) : Type 0 where
+  pub sent : IsTimedCall s n callee (record { node = n; epoch = epoch; number = number }) count past own next ⊎ IsTimedQuestion s n callee (record { node = n; epoch = epoch; number = number }) count past own next
   pub below : (count ≡ 1) ⊎ ((k : ℕ) × ((count ≡ k + 1) × HasTimeout n callee epoch number k (lines_of past)))
   pub few : count ≤ 3
-  pub awaited : IsAwaitedBy s n callee (record { node = n; epoch = epoch; number = number }) user call count past own next
 
 -- ---- histories
 
@@ -1067,12 +1240,12 @@ IsOfScript s actors.Clock = ⊤
 IsOfScript s actors.Nobody = ⊤
 
 -- An entry lays no volumes, for the set-up alone does; and it is of a node of the script. A server that begins again was down, and is then in
--- a boot above the last one that it began. A client or a server that is down does nothing but begin again, or fail to. What an entry is given
--- was sent to its node. A client that runs a call which breaks promises drops what these are on, and one that is given the answer to its last call answers its act, where
+-- a boot above the last one that it began. A node that is down does nothing but begin again, or fail to. What an entry is given was sent to its
+-- node. A client that runs a call which breaks promises drops what these are on, and one that is given the answer to its last call answers its act, where
 -- that call may change something. A server answers in the boot in which it is, and to a changing call only where no other call of its act had changed
--- something before that ran. A notice of a client or a server tells its boot. Of the location database no such thing is asked
+-- something before that ran. A notice tells the boot of its sender
 abbrev pub IsEntryOf : Script → List Entry → Entry → Type 0
-IsEntryOf s past e = ((e.volumes ≡ []) × IsOfScript s e.actor) × (AreRising (lines_of past) e.lines × (IsLivedBy e.actor past e.lines e.sent × (IsDelivered e.actor past e.lines × ((HandlesBreaks e.actor past e.lines × TakesReply s e.actor past e.lines) × ArePresent (e ∷ past) e.sent))))
+IsEntryOf s past e = ((e.volumes ≡ []) × IsOfScript s e.actor) × (AreRising (lines_of past) e.lines × (IsLivedBy e.actor past e.lines e.sent × (IsDelivered e.actor past e.lines × ((HandlesBreaks e.actor past e.lines × TakesReply s e.actor past e.lines e.sent) × ArePresent (e ∷ past) e.sent))))
 
 abbrev pub LegalAfter : Script → List Entry → List Entry → Type 0
 LegalAfter s past [] = ⊤

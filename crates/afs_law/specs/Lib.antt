@@ -7,6 +7,7 @@ pub mod Legal
 pub mod Cells
 pub mod Once
 pub mod Laws
+pub mod LocLaws
 pub mod Parts
 pub mod ServerParts
 pub mod ClientParts

@@ -59,6 +59,10 @@ abbrev pub IsStart : ℕ → List Line → List Message → Type 0
 IsStart most [] sent = ⊥
 IsStart most (lines.Change s k count ∷ ls) sent = IsStart most ls sent
 IsStart most (lines.Version v ∷ ls) sent = IsStart most ls sent
+IsStart most (lines.Locked v stamp operation ∷ ls) sent = IsStart most ls sent
+IsStart most (lines.Unlocked v ∷ ls) sent = IsStart most ls sent
+IsStart most (lines.Recovered v ∷ ls) sent = IsStart most ls sent
+IsStart most (lines.Located v server ∷ ls) sent = IsStart most ls sent
 IsStart most (lines.Restart s boot ∷ ls) sent = (boot ≤ most) × (AreOwes ls × AreCalls sent)
 IsStart most (lines.Fault s ∷ ls) sent = (ls ≡ []) × (sent ≡ [])
 IsStart most (lines.Full s ∷ ls) sent = (ls ≡ []) × (sent ≡ [])

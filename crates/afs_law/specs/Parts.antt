@@ -16,15 +16,15 @@ use Rattle.afs_num.specs.declared.messages.Message.{Message}
 use Rattle.afs_num.specs.declared.types.Head.{Head}
 use Rattle.afs_num.specs.declared.types.Key.{Key}
 use Rattle.afs_num.specs.declared.types.Node.TheVariants.{Client}
-use Rattle.afs_rows.specs.ClientRow.{call_of}
+use Rattle.afs_rows.specs.ClientRow.{act_of, call_of}
 use Rattle.afs_rows.specs.Going.{ClientState, Going, asked}
 use Rattle.afs_rows.specs.Runs.{Cell, Entry, RunsTo, message_at}
 
 -- ---- acts and calls
 
--- the act that runs at a client is the one which the lines tell
+-- the act that a client has, whether it waits for a server or for the location database, is the one which the lines tell
 abbrev pub ActsAreTold : Type 0
-ActsAreTold = (s : Script) (history : List Entry) (end : Cell) → RunsTo history s end → (j : ℕ) → running s (Client j) (lines_of (past_of (set_up s ∷ []) history)) ≡ (end.clients j).running
+ActsAreTold = (s : Script) (history : List Entry) (end : Cell) → RunsTo history s end → (j : ℕ) → running s (Client j) (lines_of (past_of (set_up s ∷ []) history)) ≡ act_of (end.clients j)
 
 -- a file call is the one under its key, and was sent by its client, for its user, while the act ran that asks for it
 pub record IsAsked (s : Script) (sent : List Message) (past : List Entry) (head : Head) (user : List ℕ) (call : FsCall) : Type 0 where

@@ -4,6 +4,7 @@ use Rattle.afs_num.specs.declared.types.Head.{Head}
 use Rattle.afs_num.specs.declared.types.Key.{Key}
 use Rattle.afs_num.specs.declared.types.Node.{Node}
 use Rattle.afs_num.specs.declared.calls.FsCall.{FsCall}
+use Rattle.afs_num.specs.declared.location_calls.LocCall.{LocCall}
 use Rattle.afs_num.specs.declared.messages.Carried.{Carried}
 use Rattle.afs_num.specs.declared.messages.Message.{Message}
 use Rattle.afs_rows.specs.Going.{Going, began, read_on}
@@ -69,6 +70,10 @@ abbrev pub IsCall : Carried → Type 0
 IsCall (carried.Call user call) = ⊤
 IsCall c = ⊥
 
+abbrev pub IsFileCall : Carried → Type 0
+IsFileCall (carried.Call user (ask.File call)) = ⊤
+IsFileCall c = ⊥
+
 -- what a reply carries: a refusal, or what was asked for
 abbrev pub HasCode : Carried → Type 0
 HasCode (carried.Refusal code) = ⊤
@@ -114,15 +119,24 @@ abbrev pub has_sent : Key → List Message → Bool
 has_sent k [] = false
 has_sent k (m ∷ ms) = if is_called k m.head m.carried then true else has_sent k ms
 
+-- the same of calls of every interface
+abbrev pub is_by_key : Key → Head → Carried → Bool
+is_by_key k head (carried.Call user call) = same_key (called_key head) k
+is_by_key k head c = false
+
+abbrev pub has_called : Key → List Message → Bool
+has_called k [] = false
+has_called k (m ∷ ms) = if is_by_key k m.head m.carried then true else has_called k ms
+
 -- whether a call of this key was sent since the node last began an act
 abbrev pub is_sent_since : Node → Key → List Entry → Bool
 is_sent_since n k [] = false
 is_sent_since n k (e ∷ past) = if has_sent k e.sent then true else (if has_begun n e.lines then false else is_sent_since n k past)
 
--- whether no file call with this key was sent, by whomever, before the entry in which the node last began an act
+-- whether no call with this key was sent, by whomever, before the entry in which the node last began an act
 abbrev pub is_new_to_act : Node → Key → List Entry → Bool
 is_new_to_act n k [] = true
-is_new_to_act n k (e ∷ past) = if has_begun n e.lines then not (has_sent k (sent_of past)) else is_new_to_act n k past
+is_new_to_act n k (e ∷ past) = if has_begun n e.lines then not (has_called k (sent_of past)) else is_new_to_act n k past
 
 -- no act of the node begins in these entries
 abbrev pub AreWithin : Node → List Entry → Type 0
@@ -159,6 +173,17 @@ abbrev pub CalledSince : Key → List ℕ → FsCall → List Entry → Type 0
 CalledSince k user call [] = ⊥
 CalledSince k user call (e ∷ past) =
     ((e.actor ≡ actors.Node k.node) × Sends k user call e.sent) ⊎ ((has_begun k.node e.lines ≡ false) × CalledSince k user call past)
+
+-- what the location database was asked under this key, for this user
+abbrev pub Asks : Key → List ℕ → LocCall → List Message → Type 0
+Asks k user q [] = ⊥
+Asks k user q (m ∷ ms) = ((called_key m.head ≡ k) × (m.carried ≡ carried.Call user (ask.Location q))) ⊎ Asks k user q ms
+
+-- by the key's node since it last began an act
+abbrev pub AskedSince : Key → List ℕ → LocCall → List Entry → Type 0
+AskedSince k user q [] = ⊥
+AskedSince k user q (e ∷ past) =
+    ((e.actor ≡ actors.Node k.node) × Asks k user q e.sent) ⊎ ((has_begun k.node e.lines ≡ false) × AskedSince k user q past)
 
 -- ---- the boot of a server, by its lines, the newest first: none while it is down
 

@@ -2,7 +2,7 @@
 
 ghost use Rattle.afs_law.specs.Laws.{AcknowledgedAreKept, AcknowledgedAreMade, AnswersAreRecent, ChangesAreFolded, EffectsAreTold, KeysRunOnce, ReadsAreNewest, RunsAreLegal, RunsAreOne, RunsEndWell, SetUpsAreFirst, StartsAreFolded, VolumesAreTold, PairsAreKnown, TrustedIsGood, RoomlessAreRefused, UnservedAreRefused, CallsRunOnce, RepliesAreCaused, RepliesWereRun, KeptWereRun, DurableAreChanges, GrantsAreKept, BreaksAreOwed, RepliesFollowDrops, UnawaitedAreUntrusted, DeadAreUntrusted};
 ghost use Rattle.afs_law.specs.Database.{LocChangesAreFolded, LocChangesKeepOrder, LocStartsAreFolded};
-ghost use Rattle.afs_law.specs.DatabaseRuns.{LocBootsRise, LocCallsRunOnce, LocChangesAreOnce, LocStaysSettled};
+ghost use Rattle.afs_law.specs.DatabaseRuns.{LocAnswersByItsRow, LocBootsRise, LocCallsRunOnce, LocChangesAreOnce, LocJournalIsFolded, LocKeepsItsJournal, LocRunsEvents, LocSetUpsAreFirst, LocStaysSettled};
 ghost use Rattle.afs_law.specs.ClientParts.{AnswersAreDue, AnswersAreGood, CachedAreFetched, ChangesAreAlone, GiftsAreDropped, ReadsAreGood, WaitsAreSilent};
 ghost use Rattle.afs_law.specs.Parts.{ActsAreTold, CallsAreAsked, CallsAreOwn, ChangesAreIdeal, EntriesAreSound, LinesAreInPlace, MessagesAreOwn};
 ghost use Rattle.afs_law.specs.ServerParts.{BreaksAreGood, BreaksAreOnce, CachedAreBrought, FallsAreKept, GoodReadsAreLegal, GrantsAreGood, RepliesAreTrue, RepliesWait, TimeoutsAreGood, VersionsAreKept};
@@ -293,6 +293,31 @@ pub fn loc_changes_keep_order()
 /// The location database's boot number never falls, and stays while it doesn't begin again.
 pub fn loc_boots_rise()
     ensures { LocBootsRise }
+{}
+
+/// What it has at the end of a run is what messages and restarts make of it as it was set up.
+pub fn loc_runs_events()
+    ensures { LocRunsEvents }
+{}
+
+/// And what it keeps is the fold of the records that its journal gets.
+pub fn loc_journal_is_folded()
+    ensures { LocJournalIsFolded }
+{}
+
+/// What set-up puts on its disk is what it begins with.
+pub fn loc_set_ups_are_first()
+    ensures { LocSetUpsAreFirst }
+{}
+
+/// So in every run, where it is given what nodes of the cell sent.
+pub fn loc_keeps_its_journal()
+    ensures { LocKeepsItsJournal }
+{}
+
+/// What it sends in a run is what its row says to what it is given, whoever sent that.
+pub fn loc_answers_by_its_row()
+    ensures { LocAnswersByItsRow }
 {}
 
 /// In one boot of it no call runs twice.

@@ -1,5 +1,5 @@
-use Rattle.afs_law.proofs.KeysOnce.{pairs_known}
+use Rattle.afs_law.proofs.Origins.{run_pairs}
 use Rattle.afs_law.proofs.laws.pairs_are_known.Goals as goal
 
 pub returns : goal.returns
-returns c = pairs_known
+returns c = run_pairs

@@ -1,0 +1,783 @@
+-- What the location database does, whatever it is given: what its steps tell and send. And what it keeps and tells where nobody changes
+-- what it has.
+use Rattle.afs_law.proofs.Booting.{is_running}
+use Rattle.afs_rows.specs.Going.{no_entry}
+use Rattle.afs_law.specs.LocLaws.{IsLookupNumber, IsToldIn, TellsLookup}
+use Rattle.afs_model.specs.FsRows.{call_number}
+use Rattle.afs_num.specs.declared.calls.FsCall.TheVariants as files
+use Rattle.afs_law.proofs.LocLines.{all_of_loc, both_told, deeds_told, is_of_loc, is_told, loc_node, told_are, told_gives, told_none, told_places, deeds_run}
+use Rattle.afs_num.specs.declared.messages.Call.{Call}
+use Rattle.afs_history.specs.declared.lines.Line.{Line}
+use Rattle.afs_history.specs.declared.lines.Line.TheVariants as lines
+use Rattle.afs_history.specs.declared.scripts.Script.{Script}
+use Rattle.afs_ideal.specs.Operations.{last_count}
+use Rattle.afs_ideal.specs.Tables.{Table, get, set}
+use Rattle.afs_law.proofs.Backing.{all_lines, is_unchanging}
+use Rattle.afs_law.proofs.Basics.{IfReply, OfClient, OfNotice, OfReply, ByClient, LastSeat, kept_last, Each, IfCall, IsLookup, OfCall, at_seat, both, same_node-true, some_of, each_map, by_client}
+use Rattle.afs_law.proofs.Calling.{IsUncalled, placed}
+use Rattle.afs_law.proofs.Firm.{IsFirm, IsSentBy}
+use Rattle.afs_law.proofs.Seated.{AreSeated, code_gift, code_half, kept_from, seated}
+use Rattle.afs_law.proofs.Seated as seats
+use Rattle.afs_law.proofs.Words.{is_passing, no_zero}
+use Rattle.afs_law.specs.Legal.{IsInPlace, TellsNoDeed}
+use Rattle.afs_law.specs.Parts.{EachLine}
+use Rattle.afs_law.specs.Past.{HasCode, given_message, has_given, IsCall, sent_of}
+use Rattle.afs_law.specs.Lives.{IsDelivered, IsTo, TellsStop}
+use Rattle.afs_model.specs.Calls as pairs
+use Rattle.afs_model.specs.Calls.{Admitted, admitted, call_seat, call_seated, paired}
+use Rattle.afs_num.specs.Nodes.{same_node}
+use Rattle.afs_num.specs.declared.histories.Actor.TheVariants as actors
+use Rattle.afs_num.specs.declared.location_calls.LocCall.{LocCall}
+use Rattle.afs_num.specs.declared.location_calls.LocCall.TheVariants as calls
+use Rattle.afs_num.specs.declared.location_calls.LocEntry.{LocEntry}
+use Rattle.afs_num.specs.declared.location_calls.LocSite.{LocSite}
+use Rattle.afs_num.specs.declared.location_calls.LocReply.{LocReply}
+use Rattle.afs_num.specs.declared.messages.Call.TheVariants as ask
+use Rattle.afs_num.specs.declared.messages.Carried.{Carried}
+use Rattle.afs_num.specs.declared.messages.Carried.TheVariants as carried
+use Rattle.afs_num.specs.declared.messages.Message.{Message}
+use Rattle.afs_num.specs.declared.messages.Received.{Received}
+use Rattle.afs_num.specs.declared.messages.Received.TheVariants.{Whole}
+use Rattle.afs_num.specs.declared.messages.Reply.TheVariants as tell
+use Rattle.afs_num.specs.declared.types.Head.{Head}
+use Rattle.afs_num.specs.declared.types.Node.{Node}
+use Rattle.afs_num.specs.declared.types.Node.TheVariants.{Admin, Client, Loc, Server}
+use Rattle.afs_records.specs.Entries.{entry_of_line, same_entry, same_sites, site_of}
+use Rattle.afs_records.specs.LocDurable.{listed_line}
+use Rattle.afs_records.specs.LocEffects.{deed_told, located_by, lock_before, lock_told, locked_new, same_site, set_told, site_before, unlocked_of}
+use Rattle.afs_records.specs.LocRecords.{Deed, Listed, Lock, leaves, removes, sets}
+use Rattle.afs_history.specs.declared.scripts.VolumeLine.{VolumeLine}
+use Rattle.afs_num.specs.declared.location_calls.LocReply.TheVariants as answers
+use Rattle.afs_rows.specs.ClientRow.{entry_in, has_location}
+use Rattle.std.specs.Str.{bytes_eq}
+use Rattle.std.proofs.Common.{inl, inr, eq-eqb}
+use Rattle.afs_law.proofs.Naming.{bytes_itself}
+use Rattle.afs_num.specs.Names.{volume_name_ok}
+use Rattle.afs_rows.specs.LocRow.{has_id, bad_name, most_listed_sites, taken_id, taken_name, too_many_sites, unlisted, no_such_operation, LocChange, LocDecision, LocResult, LocState, admits, all_listed, any_other, called, changes, decided, drops, entry_fits, found_id, found_name, hears, holds, is_barred, is_locked, is_named, is_operation, loc_decides, loc_op, loc_revived, loc_saved, locks, locks_for, nth, raises, reads, refused, refuses, repeats, roomed, runs, runs_carried, saves, sets_to, shares_id, shows, tells_boot, with_entry, with_lock, loc_left, loc_sent}
+use Rattle.afs_rows.specs.LocSteps.{LocHost, loc_begun_after, loc_does, loc_kind, loc_row, loc_start_row}
+use Rattle.afs_rows.specs.Hosts.{begun_from, fall_line}
+use Rattle.afs_num.specs.declared.calls.FsCall.{FsCall}
+use Rattle.afs_rows.specs.Runs.{counts_later, first_entries, listed_by, location_by, locations, locations_in, start, Armed, Entry, Cell, Fall, Outcome, at_rest, comes_up, fails_early, fails_midway, in_boot, in_step, is_full, message_at, Blow}
+use Rattle.afs_rows.specs.ServerRow.{seat_for, not_served, no_room, boot_told, refusal, replied, reply_head, whole}
+use Rattle.afs_rows.specs.States.{Location, Seat}
+use Rattle.afs_rows.specs.Steps.{Begun, Step}
+use Rattle.std.proofs.Common.{◌≡◌, ◌⊎◌, ◌+◌, ℕ, ℤ, zero, suc, Bool, true, false, cond, List, [], ◌∷◌, ◌++◌, map, Option, Some, None, refl, sym, ap, subst, nat_eq, ◌∙◌, pos}
+use Rattle.std.specs.Prelude.{⊤, ◌&&◌, ◌||◌, not, find, nat_lt, length}
+
+-- ---- its lines
+
+loc_changes : (l : Line) → is_of_loc l ≡ true → is_unchanging l ≡ true
+loc_changes (lines.Change s k count) h = absurd cc
+loc_changes l h = refl
+
+-- it changes no volume
+pub loc_unchanging : (ls : List Line) → all_lines is_of_loc ls ≡ true → all_lines is_unchanging ls ≡ true
+loc_unchanging ls h = all_of_loc is_unchanging loc_changes ls h
+
+-- ---- its refusals
+
+abbrev IsFirmLoc : LocResult → Type 0
+IsFirmLoc (refused code) = is_passing code ≡ false
+IsFirmLoc r = ⊤
+
+either_result : (P : LocResult → Type 0) (t : Bool) (a b : LocResult) → P a → P b → P (cond t a b)
+either_result P true a b h k = h
+either_result P false a b h k = k
+
+entry_firm : (o : Option Listed) (more : Listed → LocResult) → ((l : Listed) → IsFirmLoc (more l)) → IsFirmLoc (with_entry o more)
+entry_firm None more w = refl
+entry_firm (Some l) more w = w l
+
+locked_firm : (stamp : ℕ) (o : Option Listed) (more : Listed → LocResult) → ((l : Listed) → IsFirmLoc (more l)) → IsFirmLoc (with_lock stamp o more)
+locked_firm stamp o more w = entry_firm o _ (λ l. either_result IsFirmLoc (holds stamp l.lock) (more l) (refused is_locked) (w l) refl)
+
+fits_firm : (old : Option LocEntry) (new : LocEntry) (t : Table Listed) (more : LocResult) → IsFirmLoc more → IsFirmLoc (entry_fits old new t more)
+fits_firm old new t more h =
+    let e : IsFirmLoc (cond (nat_lt most_listed_sites (length new.sites)) (refused too_many_sites) more) = either_result IsFirmLoc (nat_lt most_listed_sites (length new.sites)) (refused too_many_sites) more refl h in
+    let d : IsFirmLoc (cond (any_other old (is_named new.name) t) (refused taken_name) (cond (nat_lt most_listed_sites (length new.sites)) (refused too_many_sites) more)) = either_result IsFirmLoc (any_other old (is_named new.name) t) (refused taken_name) _ refl e in
+    let c : IsFirmLoc (cond (any_other old (shares_id new) t) (refused taken_id) (cond (any_other old (is_named new.name) t) (refused taken_name) (cond (nat_lt most_listed_sites (length new.sites)) (refused too_many_sites) more))) = either_result IsFirmLoc (any_other old (shares_id new) t) (refused taken_id) _ refl d in
+    either_result IsFirmLoc (not (volume_name_ok new.name)) (refused bad_name) _ refl c
+
+raises_firm : (n : ℕ) (more : LocResult) → IsFirmLoc more → IsFirmLoc (raises n more)
+raises_firm n more h = either_result IsFirmLoc (nat_lt n last_count) more (refused no_room) h refl
+
+op_firm : (stamp : ℕ) (call : LocCall) (d : _) → IsFirmLoc (loc_op stamp call d)
+op_firm stamp (calls.CreateEntry e) d = fits_firm None e d.entries _ (raises_firm d.next_stamp _ tt)
+op_firm stamp (calls.DeleteEntry id) d = locked_firm stamp (found_id id d.entries) _ (λ l. tt)
+op_firm stamp (calls.GetEntryById id) d = entry_firm (found_id id d.entries) _ (λ l. tt)
+op_firm stamp (calls.GetEntryByName name) d = entry_firm (found_name name d.entries) _ (λ l. tt)
+op_firm stamp calls.GetNewVolumeId d = raises_firm d.next_id _ tt
+op_firm stamp (calls.ReplaceEntry id e) d = locked_firm stamp (found_id id d.entries) _ (λ l. fits_firm (Some l.entry) e d.entries _ tt)
+op_firm stamp (calls.SetLock id operation force) d = entry_firm (found_id id d.entries) _ (λ l. either_result IsFirmLoc (is_barred l.lock force) _ _ refl (either_result IsFirmLoc (is_operation operation) _ _ (raises_firm d.next_stamp _ tt) refl))
+op_firm stamp (calls.ReleaseLock id) d = locked_firm stamp (found_id id d.entries) _ (λ l. tt)
+op_firm stamp (calls.ListEntry index) d = entry_firm (nth index (all_listed d.entries)) _ (λ l. tt)
+
+-- ---- what it decides: what runs was sent to it, a refusal is firm, and what is repeated it keeps
+
+abbrev IsDueLoc : LocState → LocDecision → Type 0
+IsDueLoc s drops = ⊤
+IsDueLoc s (tells_boot head) = head.to ≡ Loc
+IsDueLoc s (repeats m) = IsSentBy Loc m × HasCode m.carried
+IsDueLoc s (refuses head code) = (head.to ≡ Loc) × (is_passing code ≡ false)
+IsDueLoc s (shows head reply) = head.to ≡ Loc
+IsDueLoc s (saves head c) = head.to ≡ Loc
+
+either_due : (s : LocState) (t : Bool) (a b : LocDecision) → IsDueLoc s a → IsDueLoc s b → IsDueLoc s (cond t a b)
+either_due s true a b h k = h
+either_due s false a b h k = k
+
+decided_due : (s : LocState) (head : Head) (r : LocResult) → head.to ≡ Loc → IsFirmLoc r → IsDueLoc s (decided s head r)
+decided_due s head (refused code) to h = (to, h)
+decided_due s head (reads reply) to h = to
+decided_due s head (changes c) to h = either_due s _ (saves head c) (refuses head _) to (to, refl)
+
+carried_due : (s : LocState) (head : Head) (x : Carried) → head.to ≡ Loc → IsDueLoc s (runs_carried s head x)
+carried_due s head (carried.Call user (ask.Location call)) to = decided_due s head (loc_op head.stamp call s.lasting) to (op_firm head.stamp call s.lasting)
+carried_due s head (carried.Call user (ask.File call)) to = (to, refl)
+carried_due s head (carried.Call user (ask.Volume call)) to = (to, refl)
+carried_due s head (carried.Refusal code) to = tt
+carried_due s head (carried.Reply reply) to = tt
+carried_due s head carried.Notice to = tt
+
+kept_code : (t : Bool) (boot : ℕ) (ss : List Seat) (head : Head) (m : Message) → AreSeated Loc ss → cond t (paired head.epoch head.number (call_seat head.from ss)) (pairs.wrong_boot boot) ≡ pairs.kept m → HasCode m.carried
+kept_code true boot ss head m h e = let l : LastSeat head.epoch head.number (call_seat head.from ss) m = kept_last head.epoch head.number (call_seat head.from ss) m e in (h head.from l.seat m l.at l.reply).reply.1
+kept_code false boot ss head m h e = absurd cc
+
+admits_due : (s : LocState) (head : Head) (x : Carried) (o : Admitted Message) → AreSeated Loc s.seats → head.to ≡ Loc → admitted s.lasting.boot s.seats head ≡ o → IsDueLoc s (admits s head (whole head x) o)
+admits_due s head x pairs.runs h to e = either_due s (same_node head.from Loc) (refuses head not_served) (runs_carried s head x) (to, refl) (carried_due s head x to)
+admits_due s head x (pairs.kept reply) h to e = (kept_from Loc s.lasting.boot s.seats head reply h e, kept_code (nat_eq head.boot s.lasting.boot) s.lasting.boot s.seats head reply h e)
+admits_due s head x pairs.in_progress h to e = tt
+admits_due s head x pairs.older h to e = tt
+admits_due s head x (pairs.wrong_boot boot) h to e = to
+
+called_due : (t : Bool) (s : LocState) (head : Head) (x : Carried) → AreSeated Loc s.seats → same_node head.to Loc ≡ t → IsDueLoc s (cond t (admits s head (whole head x) (admitted s.lasting.boot s.seats head)) drops)
+called_due true s head x h e = admits_due s head x (admitted s.lasting.boot s.seats head) h (loc_node head.to e) refl
+called_due false s head x h e = tt
+
+hears_due : (s : LocState) (head : Head) (x : Carried) → AreSeated Loc s.seats → IsDueLoc s (hears s head x)
+hears_due s head (carried.Call user call) h = called_due (same_node head.to Loc) s head (carried.Call user call) h refl
+hears_due s head (carried.Refusal code) h = tt
+hears_due s head (carried.Reply reply) h = tt
+hears_due s head carried.Notice h = tt
+
+-- ---- what it keeps and sends
+
+-- each reply that it keeps, in memory or on its disk, is its own
+pub record IsSoundLoc (s : LocState) : Type 0 where
+  pub seats : AreSeated Loc s.seats
+  pub kept : AreSeated Loc s.lasting.kept
+
+-- what it sends is its own, and no call
+abbrev pub IsOfLoc : Message → Type 0
+IsOfLoc m = IsSentBy Loc m × IsUncalled m
+
+code_uncalled : (P : Head → List ℕ → FsCall → Type 0) (head : Head) (x : Carried) → HasCode x → OfCall P head x
+code_uncalled P head (carried.Call user call) h = absurd h
+code_uncalled P head (carried.Refusal code) h = tt
+code_uncalled P head (carried.Reply reply) h = tt
+code_uncalled P head carried.Notice h = absurd h
+
+reply_of : (boot : ℕ) (head : Head) (x : Carried) → head.to ≡ Loc → HasCode x → IsFirm (reply_head boot head) x → IsOfLoc (replied boot head x)
+reply_of boot head x to code firm = (record { from = to; half = code_half (replied boot head x) code; firm = firm; gift = λ z ls. code_gift (reply_head boot head) x ls code }, code_uncalled (ByClient (λ h user call. ⊥)) (reply_head boot head) x code)
+
+-- ---- a decision that is done
+
+record DoesLoc (place b : ℕ) (s : Step LocState) : Type 0 where
+  sound : IsSoundLoc s.state
+  sent : Each IsOfLoc s.sent
+  told : List Line
+  running : all_lines is_running (lines.Given place ∷ told) ≡ true
+  lines : s.lines ≡ lines.Given place ∷ told
+  are : all_lines is_told told ≡ true
+  boot : s.state.lasting.boot ≡ b
+  notices : Each (λ (m : Message). OfNotice (m.head.boot ≡ b) m.carried) s.sent
+
+saved_sound : (s : LocState) (head : Head) (c : LocChange) → head.to ≡ Loc → IsSoundLoc s → IsSoundLoc (loc_saved head c s)
+saved_sound s head c to h = record {
+  seats = seated Loc s.lasting.boot head (carried.Reply (tell.Location c.reply)) s.seats to tt refl h.seats;
+  kept = seats.placed Loc s.lasting.boot head (carried.Reply (tell.Location c.reply)) s.lasting.kept to tt refl h.kept;
+}
+
+code_notice : (a b : ℕ) (x : Carried) → HasCode x → OfNotice (a ≡ b) x
+code_notice a b (carried.Call user call) h = tt
+code_notice a b (carried.Refusal code) h = tt
+code_notice a b (carried.Reply reply) h = tt
+code_notice a b carried.Notice h = absurd h
+
+does_loc : (s : LocState) (place : ℕ) (d : LocDecision) → IsDueLoc s d → IsSoundLoc s → DoesLoc place s.lasting.boot (loc_does s place d)
+does_loc s place drops due h = record { sound = h; sent = tt; told = []; lines = refl; are = refl; boot = refl; running = refl; notices = tt }
+does_loc s place (tells_boot head) due h = record { sound = h; sent = ((record { from = due; half = λ z. absurd z; firm = tt; gift = λ z ls. tt }, tt), tt); told = []; lines = refl; are = refl; boot = refl; running = refl; notices = (refl, tt) }
+does_loc s place (repeats m) due h = record { sound = h; sent = ((due.0, code_uncalled (ByClient (λ h user call. ⊥)) m.head m.carried due.1), tt); told = []; lines = refl; are = refl; boot = refl; running = refl; notices = (code_notice m.head.boot s.lasting.boot m.carried due.1, tt) }
+does_loc s place (refuses head code) due h = record {
+  sound = record { seats = seated Loc s.lasting.boot head (carried.Refusal (record { 0 = code })) s.seats due.0 tt (refl, due.1) h.seats; kept = h.kept };
+  sent = (reply_of s.lasting.boot head (carried.Refusal (record { 0 = code })) due.0 tt (refl, due.1), tt);
+  told = [];
+  lines = refl;
+  are = refl;
+  boot = refl;
+  running = refl;
+  notices = (tt, tt);
+}
+does_loc s place (shows head reply) due h = record {
+  sound = record { seats = seated Loc s.lasting.boot head (carried.Reply (tell.Location reply)) s.seats due tt refl h.seats; kept = h.kept };
+  sent = (reply_of s.lasting.boot head (carried.Reply (tell.Location reply)) due tt refl, tt);
+  told = [];
+  lines = refl;
+  are = refl;
+  boot = refl;
+  running = refl;
+  notices = (tt, tt);
+}
+does_loc s place (saves head c) due h = record {
+  sound = saved_sound s head c due h;
+  sent = (reply_of s.lasting.boot head (carried.Reply (tell.Location c.reply)) due tt refl, tt);
+  told = deed_told c.deed s.lasting.entries;
+  lines = refl;
+  are = deeds_told c.deed s.lasting.entries;
+  boot = refl;
+  running = deeds_run c.deed s.lasting.entries;
+  notices = (tt, tt);
+}
+
+-- what it sends is no call, and goes to whom a call came from
+abbrev IsBack : Head → Carried → LocDecision → Type 0
+IsBack k x drops = ⊤
+IsBack k x (tells_boot head) = (head.from ≡ k.from) × IsCall x
+IsBack k x (repeats m) = ((m.head.to ≡ k.from) × HasCode m.carried) × IsCall x
+IsBack k x (refuses head code) = (head.from ≡ k.from) × IsCall x
+IsBack k x (shows head reply) = (head.from ≡ k.from) × IsCall x
+IsBack k x (saves head c) = (head.from ≡ k.from) × IsCall x
+
+either_back : (k : Head) (x : Carried) (t : Bool) (a b : LocDecision) → IsBack k x a → IsBack k x b → IsBack k x (cond t a b)
+either_back k x true a b h w = h
+either_back k x false a b h w = w
+
+decided_back : (s : LocState) (head : Head) (x : Carried) (r : LocResult) → IsCall x → IsBack head x (decided s head r)
+decided_back s head x (refused code) is = (refl, is)
+decided_back s head x (reads reply) is = (refl, is)
+decided_back s head x (changes c) is = either_back head x _ (saves head c) (refuses head _) (refl, is) (refl, is)
+
+carried_back : (s : LocState) (head : Head) (x : Carried) → IsBack head x (runs_carried s head x)
+carried_back s head (carried.Call user (ask.Location call)) = decided_back s head (carried.Call user (ask.Location call)) (loc_op head.stamp call s.lasting) tt
+carried_back s head (carried.Call user (ask.File call)) = (refl, tt)
+carried_back s head (carried.Call user (ask.Volume call)) = (refl, tt)
+carried_back s head (carried.Refusal code) = tt
+carried_back s head (carried.Reply reply) = tt
+carried_back s head carried.Notice = tt
+
+kept_back : (t : Bool) (boot : ℕ) (ss : List Seat) (head : Head) (m : Message) → AreSeated Loc ss → cond t (paired head.epoch head.number (call_seat head.from ss)) (pairs.wrong_boot boot) ≡ pairs.kept m → (m.head.to ≡ head.from) × HasCode m.carried
+kept_back true boot ss head m h e = let l : LastSeat head.epoch head.number (call_seat head.from ss) m = kept_last head.epoch head.number (call_seat head.from ss) m e in let r = h head.from l.seat m l.at l.reply in (r.to, r.reply.1)
+kept_back false boot ss head m h e = absurd cc
+
+admits_back : (s : LocState) (head : Head) (user : List ℕ) (call : Call) (o : Admitted Message) → AreSeated Loc s.seats → admitted s.lasting.boot s.seats head ≡ o → IsBack head (carried.Call user call) (admits s head (whole head (carried.Call user call)) o)
+admits_back s head user call pairs.runs h e = either_back head (carried.Call user call) (same_node head.from Loc) (refuses head not_served) (runs_carried s head (carried.Call user call)) (refl, tt) (carried_back s head (carried.Call user call))
+admits_back s head user call (pairs.kept reply) h e = (kept_back (nat_eq head.boot s.lasting.boot) s.lasting.boot s.seats head reply h e, tt)
+admits_back s head user call pairs.in_progress h e = tt
+admits_back s head user call pairs.older h e = tt
+admits_back s head user call (pairs.wrong_boot boot) h e = (refl, tt)
+
+hears_back : (s : LocState) (head : Head) (x : Carried) → AreSeated Loc s.seats → IsBack head x (hears s head x)
+hears_back s head (carried.Call user call) h = either_back head (carried.Call user call) (same_node head.to Loc) _ drops (admits_back s head user call (admitted s.lasting.boot s.seats head) h refl) tt
+hears_back s head (carried.Refusal code) h = tt
+hears_back s head (carried.Reply reply) h = tt
+hears_back s head carried.Notice h = tt
+
+abbrev pub IsBackTo : Head → Carried → Message → Type 0
+IsBackTo k x r = (IsCall r.carried → ⊥) × ((r.head.to ≡ k.from) × IsCall x)
+
+code_not_call : (x : Carried) → HasCode x → IsCall x → ⊥
+code_not_call (carried.Call user call) h k = absurd h
+code_not_call (carried.Refusal code) h k = absurd k
+code_not_call (carried.Reply reply) h k = absurd k
+code_not_call carried.Notice h k = absurd h
+
+does_back : (k : Head) (x : Carried) (s : LocState) (place : ℕ) (d : LocDecision) → IsBack k x d → Each (IsBackTo k x) (loc_does s place d).sent
+does_back k x s place drops h = tt
+does_back k x s place (tells_boot head) h = ((λ z. absurd z, h), tt)
+does_back k x s place (repeats m) h = ((code_not_call m.carried h.0.1, (h.0.0, h.1)), tt)
+does_back k x s place (refuses head code) h = ((λ z. absurd z, h), tt)
+does_back k x s place (shows head reply) h = ((λ z. absurd z, h), tt)
+does_back k x s place (saves head c) h = ((λ z. absurd z, h), tt)
+
+-- and has the call's pair
+abbrev pub IsUnderKey : Head → Message → Type 0
+IsUnderKey k r = (r.head.epoch ≡ k.epoch) × (r.head.number ≡ k.number)
+
+abbrev IsUnder : Head → LocDecision → Type 0
+IsUnder k drops = ⊤
+IsUnder k (tells_boot head) = (head.epoch ≡ k.epoch) × (head.number ≡ k.number)
+IsUnder k (repeats m) = IsUnderKey k m
+IsUnder k (refuses head code) = (head.epoch ≡ k.epoch) × (head.number ≡ k.number)
+IsUnder k (shows head reply) = (head.epoch ≡ k.epoch) × (head.number ≡ k.number)
+IsUnder k (saves head c) = (head.epoch ≡ k.epoch) × (head.number ≡ k.number)
+
+either_under : (k : Head) (t : Bool) (a b : LocDecision) → IsUnder k a → IsUnder k b → IsUnder k (cond t a b)
+either_under k true a b h w = h
+either_under k false a b h w = w
+
+decided_under : (s : LocState) (head : Head) (r : LocResult) → IsUnder head (decided s head r)
+decided_under s head (refused code) = (refl, refl)
+decided_under s head (reads reply) = (refl, refl)
+decided_under s head (changes c) = either_under head _ (saves head c) (refuses head _) (refl, refl) (refl, refl)
+
+carried_under : (s : LocState) (head : Head) (x : Carried) → IsUnder head (runs_carried s head x)
+carried_under s head (carried.Call user (ask.Location call)) = decided_under s head (loc_op head.stamp call s.lasting)
+carried_under s head (carried.Call user (ask.File call)) = (refl, refl)
+carried_under s head (carried.Call user (ask.Volume call)) = (refl, refl)
+carried_under s head (carried.Refusal code) = tt
+carried_under s head (carried.Reply reply) = tt
+carried_under s head carried.Notice = tt
+
+kept_under : (t : Bool) (boot : ℕ) (ss : List Seat) (head : Head) (m : Message) → AreSeated Loc ss → cond t (paired head.epoch head.number (call_seat head.from ss)) (pairs.wrong_boot boot) ≡ pairs.kept m → IsUnderKey head m
+kept_under true boot ss head m h e = let l : LastSeat head.epoch head.number (call_seat head.from ss) m = kept_last head.epoch head.number (call_seat head.from ss) m e in let r = h head.from l.seat m l.at l.reply in (r.epoch ∙ l.epoch, r.number ∙ l.number)
+kept_under false boot ss head m h e = absurd cc
+
+admits_under : (s : LocState) (head : Head) (x : Carried) (o : Admitted Message) → AreSeated Loc s.seats → admitted s.lasting.boot s.seats head ≡ o → IsUnder head (admits s head (whole head x) o)
+admits_under s head x pairs.runs h e = either_under head (same_node head.from Loc) (refuses head not_served) (runs_carried s head x) (refl, refl) (carried_under s head x)
+admits_under s head x (pairs.kept reply) h e = kept_under (nat_eq head.boot s.lasting.boot) s.lasting.boot s.seats head reply h e
+admits_under s head x pairs.in_progress h e = tt
+admits_under s head x pairs.older h e = tt
+admits_under s head x (pairs.wrong_boot boot) h e = (refl, refl)
+
+hears_under : (s : LocState) (head : Head) (x : Carried) → AreSeated Loc s.seats → IsUnder head (hears s head x)
+hears_under s head (carried.Call user call) h = either_under head (same_node head.to Loc) _ drops (admits_under s head (carried.Call user call) (admitted s.lasting.boot s.seats head) h refl) tt
+hears_under s head (carried.Refusal code) h = tt
+hears_under s head (carried.Reply reply) h = tt
+hears_under s head carried.Notice h = tt
+
+does_under : (k : Head) (s : LocState) (place : ℕ) (d : LocDecision) → IsUnder k d → Each (IsUnderKey k) (loc_does s place d).sent
+does_under k s place drops h = tt
+does_under k s place (tells_boot head) h = (h, tt)
+does_under k s place (repeats m) h = (h, tt)
+does_under k s place (refuses head code) h = (h, tt)
+does_under k s place (shows head reply) h = (h, tt)
+does_under k s place (saves head c) h = (h, tt)
+
+-- it sends one message at most
+abbrev pub AreAlone : List Message → Type 0
+AreAlone [] = ⊤
+AreAlone (m ∷ []) = ⊤
+AreAlone (m ∷ n ∷ ms) = ⊥
+
+does_alone : (s : LocState) (place : ℕ) (d : LocDecision) → AreAlone (loc_does s place d).sent
+does_alone s place drops = tt
+does_alone s place (tells_boot head) = tt
+does_alone s place (repeats m) = tt
+does_alone s place (refuses head code) = tt
+does_alone s place (shows head reply) = tt
+does_alone s place (saves head c) = tt
+
+-- ---- what a restart begins with
+
+record BegunLoc (f : Begun LocState) : Type 0 where
+  sound : IsSoundLoc f.state
+  told : (ls : List Line) → all_lines is_told ls ≡ true → all_lines is_told (f.before ls) ≡ true
+
+after_loc : (s : LocState) (d : LocDecision) → IsDueLoc s d → IsSoundLoc s → BegunLoc (loc_begun_after s d)
+after_loc s drops due h = record { sound = h; told = λ ls w. w }
+after_loc s (tells_boot head) due h = record { sound = h; told = λ ls w. w }
+after_loc s (repeats m) due h = record { sound = h; told = λ ls w. w }
+after_loc s (refuses head code) due h = record { sound = h; told = λ ls w. w }
+after_loc s (shows head reply) due h = record { sound = h; told = λ ls w. w }
+after_loc s (saves head c) due h = record { sound = saved_sound s head c due h; told = λ ls w. both_told (deed_told c.deed s.lasting.entries) ls (deeds_told c.deed s.lasting.entries) w }
+
+disk_loc : (s : LocState) (after : Bool) (fall : Fall) → IsSoundLoc s → BegunLoc (begun_from loc_kind s after fall)
+disk_loc s after at_rest h = record { sound = h; told = λ ls w. w }
+disk_loc s false (in_step m clock hit) h = record { sound = h; told = λ ls w. w }
+disk_loc s true (in_step m clock hit) h = after_loc s (loc_decides s (Whole m)) (hears_due s m.head m.carried h.seats) h
+disk_loc s false in_boot h = record { sound = h; told = λ ls w. w }
+disk_loc s true in_boot h = record { sound = record { seats = h.kept; kept = h.kept }; told = λ ls w. w }
+
+-- ---- what it has, where nobody changes that: the script's volumes
+
+abbrev pub AreOfScript : Script → List Listed → Type 0
+AreOfScript S [] = ⊤
+AreOfScript S (l ∷ ls) = (has_location l.entry (locations S) ≡ true) × AreOfScript S ls
+
+abbrev pub AreToldIn : Script → List Seat → Type 0
+AreToldIn S ss = (n : Node) (seat : Seat) (m : Message) → call_seat n ss ≡ Some seat → seat.reply ≡ Some m → TellsLookup S m
+
+-- the header names the call
+abbrev pub IsNumberedCall : Head → List ℕ → FsCall → Type 0
+IsNumberedCall head user call = head.opcode ≡ call_number call
+
+abbrev pub IsAskedOf : Option Fall → Type 0
+IsAskedOf (Some (in_step m clock hit)) = IfCall IsNumberedCall m
+IsAskedOf o = ⊤
+
+pub record ListsLoc (S : Script) (l : LocHost) : Type 0 where
+  pub entries : AreOfScript S (all_listed l.state.lasting.entries)
+  pub seats : AreToldIn S l.state.seats
+  pub kept : AreToldIn S l.state.lasting.kept
+  pub cut : IsAskedOf l.down
+
+-- a decision that changes nothing
+abbrev IsMild : Script → LocDecision → Type 0
+IsMild S drops = ⊤
+IsMild S (tells_boot head) = ⊤
+IsMild S (repeats m) = TellsLookup S m
+IsMild S (refuses head code) = (j : ℕ) → head.from ≡ Client j → IsLookupNumber head.opcode → code ≡ pos no_entry
+IsMild S (shows head reply) = IsToldIn S (carried.Reply (tell.Location reply))
+IsMild S (saves head c) = ⊥
+
+either_mild : (S : Script) (t : Bool) (a b : LocDecision) → IsMild S a → IsMild S b → IsMild S (cond t a b)
+either_mild S true a b h k = h
+either_mild S false a b h k = k
+
+found_by : (S : Script) (t : Bool) (o : Option Listed) (x l : Listed) → cond t (Some x) o ≡ Some l → has_location x.entry (locations S) ≡ true → (o ≡ Some l → has_location l.entry (locations S) ≡ true) → has_location l.entry (locations S) ≡ true
+found_by S true o x l e h w = subst (λ (y : Listed). has_location y.entry (locations S) ≡ true) (some_of x l e) h
+found_by S false o x l e h w = w e
+
+found_of : (S : Script) (p : Listed → Bool) (ls : List Listed) (l : Listed) → find p ls ≡ Some l → AreOfScript S ls → has_location l.entry (locations S) ≡ true
+found_of S p [] l e h = absurd cc
+found_of S p (x ∷ ls) l e h = found_by S (p x) (find p ls) x l e h.0 (λ q. found_of S p ls l q h.1)
+
+told_entry : (S : Script) (e : LocEntry) → has_location e (locations S) ≡ true → (x : LocEntry) → Some e ≡ Some x → has_location x (locations S) ≡ true
+told_entry S e h x q = subst (λ (y : LocEntry). has_location y (locations S) ≡ true) (some_of e x q) h
+
+id_mild : (S : Script) (s : LocState) (head : Head) (o : Option Listed) → ((l : Listed) → o ≡ Some l → has_location l.entry (locations S) ≡ true) → IsMild S (decided s head (with_entry o (λ l. reads (answers.GetEntryById l.entry))))
+id_mild S s head None w = λ j from q. refl
+id_mild S s head (Some l) w = told_entry S l.entry (w l refl)
+
+name_mild : (S : Script) (s : LocState) (head : Head) (o : Option Listed) → ((l : Listed) → o ≡ Some l → has_location l.entry (locations S) ≡ true) → IsMild S (decided s head (with_entry o (λ l. reads (answers.GetEntryByName l.entry))))
+name_mild S s head None w = λ j from q. refl
+name_mild S s head (Some l) w = told_entry S l.entry (w l refl)
+
+lookup_mild : (S : Script) (s : LocState) (head : Head) (call : LocCall) → IsLookup call → AreOfScript S (all_listed s.lasting.entries) → IsMild S (decided s head (loc_op head.stamp call s.lasting))
+lookup_mild S s head (calls.GetEntryById id) is h = id_mild S s head (found_id id s.lasting.entries) (λ l e. found_of S (λ (x : Listed). has_id id x.entry) (all_listed s.lasting.entries) l e h)
+lookup_mild S s head (calls.GetEntryByName name) is h = name_mild S s head (found_name name s.lasting.entries) (λ l e. found_of S (λ (x : Listed). bytes_eq x.entry.name name) (all_listed s.lasting.entries) l e h)
+lookup_mild S s head call is h = absurd is
+
+-- no call of a file server has the number of a look-up
+file_number : (call : FsCall) → (nat_eq (call_number call) 503 || nat_eq (call_number call) 504) ≡ false
+file_number files.GetTime = refl
+file_number call = refl
+
+lookup_by : (n : ℕ) → IsLookupNumber n → (nat_eq n 503 || nat_eq n 504) ≡ true
+lookup_by n (inl e) = ap (λ (k : ℕ). nat_eq k 503 || nat_eq k 504) e
+lookup_by n (inr e) = ap (λ (k : ℕ). nat_eq k 503 || nat_eq k 504) e
+
+no_lookup : (call : FsCall) → IsLookupNumber (call_number call) → ⊥
+no_lookup call q = (let no : true ≡ false = sym (lookup_by (call_number call) q) ∙ file_number call in absurd cc)
+
+carried_mild : (S : Script) (s : LocState) (head : Head) (x : Carried) → OfCall (ByClient IsNumberedCall) head x → AreOfScript S (all_listed s.lasting.entries) → IsMild S (runs_carried s head x)
+carried_mild S s head (carried.Call user (ask.Location call)) w h = lookup_mild S s head call w.1.1 h
+carried_mild S s head (carried.Call user (ask.File call)) w h = λ j from q. absurd (no_lookup call (subst IsLookupNumber (by_client j head.from (IsNumberedCall head user call) from w) q))
+carried_mild S s head (carried.Call user (ask.Volume call)) w h = absurd w
+carried_mild S s head (carried.Refusal code) w h = tt
+carried_mild S s head (carried.Reply reply) w h = tt
+carried_mild S s head carried.Notice w h = tt
+
+kept_told : (S : Script) (t : Bool) (boot : ℕ) (ss : List Seat) (head : Head) (m : Message) → AreToldIn S ss → cond t (paired head.epoch head.number (call_seat head.from ss)) (pairs.wrong_boot boot) ≡ pairs.kept m → TellsLookup S m
+kept_told S true boot ss head m h e = let l : LastSeat head.epoch head.number (call_seat head.from ss) m = kept_last head.epoch head.number (call_seat head.from ss) m e in h head.from l.seat m l.at l.reply
+kept_told S false boot ss head m h e = absurd cc
+
+-- it makes no calls itself
+itself_mild : (S : Script) (t : Bool) (head : Head) (d : LocDecision) → same_node head.from Loc ≡ t → IsMild S d → IsMild S (cond t (refuses head not_served) d)
+itself_mild S true head d e h = λ j from q. absurd (let no : Loc ≡ Client j = sym (same_node-true head.from Loc e) ∙ from in let no' : ⊥ = cc in no')
+itself_mild S false head d e h = h
+
+admits_mild : (S : Script) (s : LocState) (head : Head) (x : Carried) (o : Admitted Message) → OfCall (ByClient IsNumberedCall) head x → AreOfScript S (all_listed s.lasting.entries) → AreToldIn S s.seats → admitted s.lasting.boot s.seats head ≡ o → IsMild S (admits s head (whole head x) o)
+admits_mild S s head x pairs.runs w h k e = itself_mild S (same_node head.from Loc) head (runs_carried s head x) refl (carried_mild S s head x w h)
+admits_mild S s head x (pairs.kept reply) w h k e = kept_told S (nat_eq head.boot s.lasting.boot) s.lasting.boot s.seats head reply k e
+admits_mild S s head x pairs.in_progress w h k e = tt
+admits_mild S s head x pairs.older w h k e = tt
+admits_mild S s head x (pairs.wrong_boot boot) w h k e = tt
+
+hears_mild : (S : Script) (s : LocState) (head : Head) (x : Carried) → OfCall (ByClient IsNumberedCall) head x → AreOfScript S (all_listed s.lasting.entries) → AreToldIn S s.seats → IsMild S (hears s head x)
+hears_mild S s head (carried.Call user call) w h k = either_mild S (same_node head.to Loc) (admits s head (whole head (carried.Call user call)) (admitted s.lasting.boot s.seats head)) drops (admits_mild S s head (carried.Call user call) (admitted s.lasting.boot s.seats head) w h k refl) tt
+hears_mild S s head (carried.Refusal code) w h k = tt
+hears_mild S s head (carried.Reply reply) w h k = tt
+hears_mild S s head carried.Notice w h k = tt
+
+one_told : (S : Script) (boot : ℕ) (head : Head) (x : Carried) (ss : List Seat) → TellsLookup S (replied boot head x) → AreToldIn S ss → AreToldIn S (call_seated (seat_for head (replied boot head x)) ss)
+one_told S boot head x ss h k n = at_seat (seat_for head (replied boot head x)) n ss (λ (o : Option Seat). (seat : Seat) (m : Message) → o ≡ Some seat → seat.reply ≡ Some m → TellsLookup S m)
+    (λ own seat m e r. subst (TellsLookup S) (some_of (replied boot head x) m (ap (λ (q : Seat). q.reply) (some_of (seat_for head (replied boot head x)) seat e) ∙ r)) h) (λ other. k n)
+
+abbrev pub Lists : Script → LocHost → List Message → Type 0
+Lists S l ms = ListsLoc S l × Each (TellsLookup S) ms
+
+does_lists : (S : Script) (s : LocState) (place : ℕ) (d : LocDecision) (armed : Armed) → IsMild S d → AreOfScript S (all_listed s.lasting.entries) → AreToldIn S s.seats → AreToldIn S s.lasting.kept → Lists S (record { state = (loc_does s place d).state; down = None; armed = armed }) (loc_does s place d).sent
+does_lists S s place drops armed w e h k = (record { entries = e; seats = h; kept = k; cut = tt }, tt)
+does_lists S s place (tells_boot head) armed w e h k = (record { entries = e; seats = h; kept = k; cut = tt }, ((λ j to q. tt), tt))
+does_lists S s place (repeats m) armed w e h k = (record { entries = e; seats = h; kept = k; cut = tt }, (w, tt))
+does_lists S s place (refuses head code) armed w e h k = (record { entries = e; seats = one_told S s.lasting.boot head (carried.Refusal (record { 0 = code })) s.seats w h; kept = k; cut = tt }, (w, tt))
+does_lists S s place (shows head reply) armed w e h k = (record { entries = e; seats = one_told S s.lasting.boot head (carried.Reply (tell.Location reply)) s.seats (λ j to q. w) h; kept = k; cut = tt }, ((λ j to q. w), tt))
+does_lists S s place (saves head c) armed w e h k = absurd w
+
+mild_after : (S : Script) (s : LocState) (d : LocDecision) → IsMild S d → (loc_begun_after s d).state ≡ s
+mild_after S s drops w = refl
+mild_after S s (tells_boot head) w = refl
+mild_after S s (repeats m) w = refl
+mild_after S s (refuses head code) w = refl
+mild_after S s (shows head reply) w = refl
+mild_after S s (saves head c) w = absurd w
+
+pub record ListsState (S : Script) (s : LocState) : Type 0 where
+  pub entries : AreOfScript S (all_listed s.lasting.entries)
+  pub seats : AreToldIn S s.seats
+  pub kept : AreToldIn S s.lasting.kept
+
+disk_lists : (S : Script) (l : LocHost) (after : Bool) (fall : Fall) → l.down ≡ Some fall → ListsLoc S l → ListsState S (begun_from loc_kind l.state after fall).state
+disk_lists S l after at_rest e h = record { entries = h.entries; seats = h.seats; kept = h.kept }
+disk_lists S l false (in_step m clock hit) e h = record { entries = h.entries; seats = h.seats; kept = h.kept }
+disk_lists S l true (in_step m clock hit) e h =
+    let w : IfCall IsNumberedCall m = subst IsAskedOf e h.cut in
+    subst (ListsState S) (sym (mild_after S l.state (loc_decides l.state (Whole m)) (hears_mild S l.state m.head m.carried w h.entries h.seats))) (record { entries = h.entries; seats = h.seats; kept = h.kept })
+disk_lists S l false in_boot e h = record { entries = h.entries; seats = h.seats; kept = h.kept }
+disk_lists S l true in_boot e h = record { entries = h.entries; seats = h.kept; kept = h.kept }
+
+-- ---- a step of it, whatever it is given
+
+-- the message stands among these
+abbrev pub StandsAmong : List Message → Message → Type 0
+StandsAmong sent m = (place : ℕ) × (message_at sent place ≡ Some m)
+
+-- what it was given when it fell
+abbrev pub cut_on : Fall → Option Message
+cut_on at_rest = None
+cut_on (in_step m clock hit) = Some m
+cut_on in_boot = None
+
+-- it did what its row says, on what it was given
+pub record HasServed (sent : List Message) (h l : LocHost) (ls : List Line) (ms : List Message) (m : Message) : Type 0 where
+  pub left : l.state ≡ loc_left h.state (loc_decides h.state (Whole m))
+  pub on : given_message ls sent ≡ Some m
+  pub answered : ms ≡ loc_sent h.state (loc_decides h.state (Whole m))
+
+-- a step that was cut short was on a message that had been sent
+abbrev pub CutsSent : List Message → Fall → Type 0
+CutsSent sent at_rest = Unit {0}
+CutsSent sent (in_step m clock hit) = StandsAmong sent m
+CutsSent sent in_boot = Unit {0}
+
+-- How it lives in a step: it goes on, or falls; or it is down, and its restart fails before it began, or behind what an interrupted step left, or it
+-- begins again
+pub data LivesLoc (sent : List Message) (h l : LocHost) (ls : List Line) (ms : List Message) : Type 0 where
+  loc_goes : h.down ≡ None → l.down ≡ None → l.state.lasting.boot ≡ h.state.lasting.boot → all_lines is_running ls ≡ true → (has_given ls ≡ true) ⊎ TellsNoDeed ls → ((l.state ≡ h.state) × (given_message ls sent ≡ None)) ⊎ ((m : Message) × (StandsAmong sent m × HasServed sent h l ls ms m)) → LivesLoc sent h l ls ms
+  loc_falls : (fall : Fall) → h.down ≡ None → l.down ≡ Some fall → l.state ≡ h.state → (fall ≡ in_boot → ⊥) → TellsStop ls → ms ≡ [] → CutsSent sent fall → given_message ls sent ≡ cut_on fall → LivesLoc sent h l ls ms
+  loc_early : (fall : Fall) → h.down ≡ Some fall → l.down ≡ Some fall → l.state ≡ h.state → ls ≡ lines.Fault Loc ∷ [] → ms ≡ [] → LivesLoc sent h l ls ms
+  loc_midway : (after : Bool) (fall : Fall) → h.down ≡ Some fall → l.down ≡ Some in_boot → l.state ≡ (begun_from loc_kind h.state after fall).state → ls ≡ (begun_from loc_kind h.state after fall).before (lines.Fault Loc ∷ []) → ms ≡ [] → LivesLoc sent h l ls ms
+  loc_full : (after : Bool) (fall : Fall) → h.down ≡ Some fall → l.down ≡ Some at_rest → l.state ≡ (begun_from loc_kind h.state after fall).state → ls ≡ (begun_from loc_kind h.state after fall).before (lines.Full Loc ∷ []) → ms ≡ [] → LivesLoc sent h l ls ms
+  loc_rises : (after : Bool) (fall : Fall) → h.down ≡ Some fall → l.down ≡ None → l.state ≡ loc_revived (begun_from loc_kind h.state after fall).state
+      → ls ≡ (begun_from loc_kind h.state after fall).before (lines.Restart Loc ((begun_from loc_kind h.state after fall).state.lasting.boot + 1) ∷ []) → ms ≡ [] → LivesLoc sent h l ls ms
+
+pub record IsLocStep (c : Cell) (l : LocHost) (ls : List Line) (ms : List Message) : Type 0 where
+  pub place : Option ℕ
+  pub given : (sent : List Message) → given_message ls sent ≡ placed place sent
+  pub to : (m : Message) → placed place c.sent ≡ Some m → m.head.to ≡ Loc
+  pub lines : all_lines is_of_loc ls ≡ true
+  pub places : (S : Script) (past : List Entry) → EachLine (IsInPlace S) (actors.Node Loc) past [] ls
+  pub sent : Each IsOfLoc ms
+  pub back : (m : Message) → placed place c.sent ≡ Some m → Each (IsBackTo m.head m.carried) ms
+  pub none : placed place c.sent ≡ None → ms ≡ []
+  pub sound : IsSoundLoc l.state
+  pub delivered : (past : List Entry) → sent_of past ≡ c.sent → IsDelivered (actors.Node Loc) past ls
+  pub lives : LivesLoc c.sent c.loc l ls ms
+  pub notices : Each (λ (m : Message). OfNotice (m.head.boot ≡ c.loc.state.lasting.boot) m.carried) ms
+  pub keys : (m : Message) → placed place c.sent ≡ Some m → Each (IsUnderKey m.head) ms
+  pub alone : AreAlone ms
+  -- while it is down it is given nothing
+  pub idle : (fall : Fall) → c.loc.down ≡ Some fall → place ≡ None
+  -- where it has the script's volumes, and is asked for them alone
+  pub lists : (S : Script) → ListsLoc S c.loc → ((m : Message) → placed place c.sent ≡ Some m → IfCall IsNumberedCall m) → Lists S l ms
+
+-- one that is given a message
+given_step : (c : Cell) (l : LocHost) (place : ℕ) (told ls : List Line) (m : Message) (ms : List Message) → c.loc.down ≡ None → ls ≡ lines.Given place ∷ told → all_lines is_told told ≡ true → message_at c.sent place ≡ Some m → m.head.to ≡ Loc → Each IsOfLoc ms → Each (IsBackTo m.head m.carried) ms → IsSoundLoc l.state → LivesLoc c.sent c.loc l ls ms → Each (λ (x : Message). OfNotice (x.head.boot ≡ c.loc.state.lasting.boot) x.carried) ms → Each (IsUnderKey m.head) ms → AreAlone ms → ((S : Script) → ListsLoc S c.loc → IfCall IsNumberedCall m → Lists S l ms) → IsLocStep c l ls ms
+given_step c l place told ls m ms up e are at to sent back sound lives notices keys alone lists = record {
+  idle = λ fall down. (let no_ : None ≡ Some fall = sym up ∙ down in absurd cc);
+  lives = lives;
+  notices = notices;
+  keys = λ other q. subst (λ (y : Message). Each (IsUnderKey y.head) ms) (some_of m other (sym at ∙ q)) keys;
+  alone = alone;
+  place = Some place;
+  given = λ all. ap (λ (k : List Line). given_message k all) e;
+  to = λ other q. subst (λ (x : Message). x.head.to ≡ Loc) (some_of m other (sym at ∙ q)) to;
+  lines = subst (λ (k : List Line). all_lines is_of_loc k ≡ true) (sym e) (told_are told are);
+  places = λ S past. subst (EachLine (IsInPlace S) (actors.Node Loc) past []) (sym e) (refl, told_places S told past (lines.Given place ∷ []) are);
+  sent = sent;
+  back = λ other q. subst (λ (y : Message). Each (IsBackTo y.head y.carried) ms) (some_of m other (sym at ∙ q)) back;
+  none = λ q. (let no_ : None ≡ Some m = sym q ∙ at in absurd cc);
+  sound = sound;
+  delivered = λ past told has. subst (λ (k : List Line). IsTo (actors.Node Loc) (given_message k (sent_of past))) (sym e) (subst (IsTo (actors.Node Loc)) (sym (ap (λ (all : List Message). message_at all place) told ∙ at)) (ap actors.Node (sym to)));
+  lists = λ S h w. lists S h (w m at);
+}
+
+-- and one on no message
+told_step : (c : Cell) (l : LocHost) (ls : List Line) → all_lines is_told ls ≡ true → IsSoundLoc l.state → LivesLoc c.sent c.loc l ls [] → ((S : Script) → ListsLoc S c.loc → ListsLoc S l) → IsLocStep c l ls []
+told_step c l ls are sound lives lists = record {
+  idle = λ fall down. refl;
+  lives = lives;
+  notices = tt;
+  keys = λ m q. tt;
+  alone = tt;
+  place = None;
+  given = λ all. told_gives ls all are;
+  to = λ m q. absurd cc;
+  lines = told_are ls are;
+  places = λ S past. told_places S ls past [] are;
+  sent = tt;
+  back = λ m q. tt;
+  none = λ q. refl;
+  sound = sound;
+  delivered = λ past told has. (let no : true ≡ false = sym has ∙ told_none ls are in absurd cc);
+  lists = λ S h w. (lists S h, tt);
+}
+
+pub served_loc : (c : Cell) (place : ℕ) (m : Message) (armed : Armed) → c.loc.down ≡ None → IsSoundLoc c.loc.state → message_at c.sent place ≡ Some m → m.head.to ≡ Loc → IsLocStep c (record { state = (loc_row c.loc.state place (Whole m)).state; down = None; armed = armed }) (loc_row c.loc.state place (Whole m)).lines (loc_row c.loc.state place (Whole m)).sent
+unfolding loc_row
+served_loc c place m armed up h at to =
+    let d : DoesLoc place c.loc.state.lasting.boot (loc_does c.loc.state place (loc_decides c.loc.state (Whole m))) = does_loc c.loc.state place (loc_decides c.loc.state (Whole m)) (hears_due c.loc.state m.head m.carried h.seats) h in
+    given_step c _ place d.told _ m _ up d.lines d.are at to d.sent (does_back m.head m.carried c.loc.state place (loc_decides c.loc.state (Whole m)) (hears_back c.loc.state m.head m.carried h.seats)) d.sound (loc_goes up refl d.boot (subst (λ (k : List Line). all_lines is_running k ≡ true) (sym d.lines) d.running) (inl (ap has_given d.lines)) (inr (m, ((place, at), record { left = refl; on = ap (λ (k : List Line). given_message k c.sent) d.lines ∙ at; answered = refl })))) d.notices (does_under m.head c.loc.state place (loc_decides c.loc.state (Whole m)) (hears_under c.loc.state m.head m.carried h.seats)) (does_alone c.loc.state place (loc_decides c.loc.state (Whole m))) (λ S h w. does_lists S c.loc.state place (loc_decides c.loc.state (Whole m)) armed (hears_mild S c.loc.state m.head m.carried w h.entries h.seats) h.entries h.seats h.kept)
+
+blow_told : (t : Bool) → all_lines is_told (fall_line Loc t ∷ []) ≡ true
+blow_told true = refl
+blow_told false = refl
+
+blow_stops : (place : ℕ) (t : Bool) → TellsStop (lines.Given place ∷ fall_line Loc t ∷ [])
+blow_stops place true = tt
+blow_stops place false = tt
+
+pub cut_loc : (c : Cell) (place : ℕ) (m : Message) (b : Blow) (armed : Armed) → c.loc.down ≡ None → IsSoundLoc c.loc.state → message_at c.sent place ≡ Some m → m.head.to ≡ Loc → IsLocStep c (record c.loc { down = Some (in_step m c.clock b); armed = armed }) (lines.Given place ∷ fall_line Loc b.stops ∷ []) []
+cut_loc c place m b armed up h at to = given_step c _ place (fall_line Loc b.stops ∷ []) (lines.Given place ∷ fall_line Loc b.stops ∷ []) m [] up refl (blow_told b.stops) at to tt tt h (loc_falls (in_step m c.clock b) up refl refl (λ e. absurd cc) (blow_stops place b.stops) refl (place, at) at) tt tt tt (λ S l w. (record { entries = l.entries; seats = l.seats; kept = l.kept; cut = w }, tt))
+
+-- its disk is set: nothing else is told in that entry
+pub record IsSetLine (l : Line) : Type 0 where
+  pub of : is_of_loc l ≡ true
+  pub given : (sent : List Message) → given_message (l ∷ []) sent ≡ None
+  pub none : has_given (l ∷ []) ≡ false
+  pub runs : all_lines is_running (l ∷ []) ≡ true
+  pub quiet : TellsNoDeed (l ∷ [])
+  pub places : (S : Script) (past : List Entry) → EachLine (IsInPlace S) (actors.Node Loc) past [] (l ∷ [])
+
+pub stop_line : (calls pick : ℕ) → IsSetLine (lines.Stop Loc calls pick)
+stop_line calls pick = record { of = refl; given = λ sent. refl; none = refl; runs = refl; quiet = tt; places = λ S past. ((refl, (refl, refl)), tt) }
+
+pub fail_line : (call : ℕ) → IsSetLine (lines.Fail Loc call)
+fail_line call = record { of = refl; given = λ sent. refl; none = refl; runs = refl; quiet = tt; places = λ S past. ((refl, (refl, refl)), tt) }
+
+pub set_loc : (c : Cell) (x : Line) (armed : Armed) → c.loc.down ≡ None → IsSetLine x → IsSoundLoc c.loc.state → IsLocStep c (record c.loc { armed = armed }) (x ∷ []) []
+set_loc c x armed up k h = record {
+  idle = λ fall down. refl;
+  lives = loc_goes up up refl k.runs (inr k.quiet) (inl (refl, k.given c.sent));
+  notices = tt;
+  keys = λ m q. tt;
+  alone = tt;
+  place = None;
+  given = λ all. k.given all;
+  to = λ m q. absurd cc;
+  lines = rw (k.of) refl;
+  places = k.places;
+  sent = tt;
+  back = λ m q. tt;
+  none = λ q. refl;
+  sound = h;
+  delivered = λ past told has. (let no : true ≡ false = sym has ∙ k.none in absurd cc);
+  lists = λ S l w. (record { entries = l.entries; seats = l.seats; kept = l.kept; cut = l.cut }, tt);
+}
+
+-- what falls or stays down: one line, behind what a restart tells
+pub line_loc : (c : Cell) (x : Line) (down : Option Fall) (armed : Armed) → is_told x ≡ true → LivesLoc c.sent c.loc (record c.loc { down = down; armed = armed }) (x ∷ []) [] → ((S : Script) → ListsLoc S c.loc → IsAskedOf down) → IsSoundLoc c.loc.state → IsLocStep c (record c.loc { down = down; armed = armed }) (x ∷ []) []
+line_loc c x down armed e lives cut h = told_step c _ (x ∷ []) (rw e refl) h lives (λ S l. record { entries = l.entries; seats = l.seats; kept = l.kept; cut = cut S l })
+
+pub stays_loc : (c : Cell) (after : Bool) (fall down : Fall) (x : Line) (armed : Armed) → c.loc.down ≡ Some fall → is_told x ≡ true → LivesLoc c.sent c.loc (record { state = (begun_from loc_kind c.loc.state after fall).state; down = Some down; armed = armed }) ((begun_from loc_kind c.loc.state after fall).before (x ∷ [])) [] → IsAskedOf (Some down) → IsSoundLoc c.loc.state → IsLocStep c (record { state = (begun_from loc_kind c.loc.state after fall).state; down = Some down; armed = armed }) ((begun_from loc_kind c.loc.state after fall).before (x ∷ [])) []
+stays_loc c after fall down x armed is e lives cut h =
+    let b : BegunLoc (begun_from loc_kind c.loc.state after fall) = disk_loc c.loc.state after fall h in
+    told_step c _ _ (b.told (x ∷ []) (rw e refl)) b.sound lives
+    (λ S l. let d : ListsState S (begun_from loc_kind c.loc.state after fall).state = disk_lists S c.loc after fall is l in record { entries = d.entries; seats = d.seats; kept = d.kept; cut = cut })
+
+pub started_loc : (c : Cell) (after : Bool) (fall : Fall) (armed : Armed) → c.loc.down ≡ Some fall → IsSoundLoc c.loc.state → IsLocStep c (record { state = (loc_start_row (begun_from loc_kind c.loc.state after fall)).state; down = None; armed = armed }) (loc_start_row (begun_from loc_kind c.loc.state after fall)).lines (loc_start_row (begun_from loc_kind c.loc.state after fall)).sent
+unfolding loc_start_row
+started_loc c after fall armed is h =
+    let f : Begun LocState = begun_from loc_kind c.loc.state after fall in
+    let b : BegunLoc f = disk_loc c.loc.state after fall h in
+    told_step c _ (f.before (lines.Restart Loc (f.state.lasting.boot + 1) ∷ [])) (b.told (lines.Restart Loc (f.state.lasting.boot + 1) ∷ []) refl) (record { seats = b.sound.kept; kept = b.sound.kept }) (loc_rises after fall is refl refl refl refl)
+    (λ S l. let d : ListsState S f.state = disk_lists S c.loc after fall is l in record { entries = d.entries; seats = d.kept; kept = d.kept; cut = tt })
+
+-- what it sends is its own, and no call
+pub loc_own : (c : Cell) (l : LocHost) (ls : List Line) (ms : List Message) → IsLocStep c l ls ms → Each (IsSentBy Loc) ms
+loc_own c l ls ms st = each_map IsOfLoc (IsSentBy Loc) (λ m x. x.0) ms st.sent
+
+pub loc_uncalled : (c : Cell) (l : LocHost) (ls : List Line) (ms : List Message) → IsLocStep c l ls ms → Each IsUncalled ms
+loc_uncalled c l ls ms st = each_map IsOfLoc IsUncalled (λ m x. x.1) ms st.sent
+
+-- ---- what it sends, as a message to a client
+
+client_any : (n : Node) (X : Type 0) → X → OfClient n X
+client_any (Client n) X h = h
+client_any (Server n) X h = tt
+client_any (Admin n) X h = tt
+client_any Loc X h = tt
+
+reply_any : (P : Type 0) (x : Carried) → P → OfReply P x
+reply_any P (carried.Call user call) h = tt
+reply_any P (carried.Refusal code) h = h
+reply_any P (carried.Reply reply) h = h
+reply_any P carried.Notice h = tt
+
+notice_any : (P : Type 0) (x : Carried) → P → OfNotice P x
+notice_any P (carried.Call user call) h = tt
+notice_any P (carried.Refusal code) h = tt
+notice_any P (carried.Reply reply) h = tt
+notice_any P carried.Notice h = h
+
+pub no_server_loc : (head : Head) (i : ℕ) → head.from ≡ Loc → head.from ≡ Server i → ⊥
+no_server_loc head i e f = let no : Loc ≡ Server i = sym e ∙ f in absurd cc
+
+pub loc_reply : (P : Message → Type 0) (m : Message) → (m.head.from ≡ Loc → P m) → IsOfLoc m → IfReply P m
+loc_reply P m w h = reply_any (OfClient m.head.to (P m)) m.carried (client_any m.head.to (P m) (w h.0.from))
+
+pub loc_notice : (P : Message → Type 0) (m : Message) → (m.head.from ≡ Loc → P m) → IsOfLoc m → OfNotice (P m) m.carried
+loc_notice P m w h = notice_any (P m) m.carried (w h.0.from)
+
+-- ---- at the start
+
+sites_itself : (ss : List LocSite) → same_sites ss ss ≡ true
+sites_itself [] = refl
+sites_itself (s ∷ ss) = rw (eq-eqb s.server s.server refl, eq-eqb s.flags s.flags refl, sites_itself ss) refl
+
+same_itself : (l : Location) → same_entry l l ≡ true
+same_itself l = rw (bytes_itself l.name, eq-eqb l.read_write l.read_write refl, eq-eqb l.read_only l.read_only refl, eq-eqb l.backup l.backup refl, eq-eqb l.flags l.flags refl, sites_itself l.sites) refl
+
+has_first : (l : Location) (ls : List Location) → has_location l (l ∷ ls) ≡ true
+has_first l ls = rw (same_itself l) refl
+
+or_more : (a b : Bool) → b ≡ true → (a || b) ≡ true
+or_more true b e = refl
+or_more false b e = e
+
+has_later : (l k : Location) (ls : List Location) → has_location l ls ≡ true → has_location l (k ∷ ls) ≡ true
+has_later l k ls e = or_more (same_entry l k) (has_location l ls) e
+
+-- of a list of locations
+abbrev AreAmong : List Location → List Listed → Type 0
+AreAmong ls [] = ⊤
+AreAmong ls (x ∷ xs) = (has_location x.entry ls ≡ true) × AreAmong ls xs
+
+among_more : (k : Location) (ls : List Location) (xs : List Listed) → AreAmong ls xs → AreAmong (k ∷ ls) xs
+among_more k ls [] h = tt
+among_more k ls (x ∷ xs) h = (has_later x.entry k ls h.0, among_more k ls xs h.1)
+
+among_three : (t u : Bool) (ls : List Location) (n : ℕ) (x : Listed) (p : ℕ × Listed) (ps rest : Table Listed) → (has_location x.entry ls ≡ true) → AreAmong ls (all_listed (p ∷ ps)) → AreAmong ls (all_listed rest) → AreAmong ls (all_listed (cond t ((n, x) ∷ ps) (cond u ((n, x) ∷ p ∷ ps) (p ∷ rest))))
+among_three true u ls n x p ps rest h k r = (h, k.1)
+among_three false true ls n x p ps rest h k r = (h, k)
+among_three false false ls n x p ps rest h k r = (k.0, r)
+
+among_set : (ls : List Location) (n : ℕ) (x : Listed) (t : Table Listed) → has_location x.entry ls ≡ true → AreAmong ls (all_listed t) → AreAmong ls (all_listed (set n x t))
+among_set ls n x [] h k = (h, tt)
+among_set ls n x (p ∷ ps) h k = among_three (nat_eq p.0 n) (nat_lt n p.0) ls n x p ps (set n x ps) h k (among_set ls n x ps h k.1)
+
+among_by : (t : Bool) (v : VolumeLine) (vs : List VolumeLine) → AreAmong (locations_in vs) (all_listed (first_entries vs)) → AreAmong (location_by t v (locations_in vs)) (all_listed (listed_by t v (first_entries vs)))
+among_by true v vs h = h
+among_by false v vs h = among_set (entry_of_line v ∷ locations_in vs) v.id (listed_line v) (first_entries vs) (has_first (entry_of_line v) (locations_in vs)) (among_more (entry_of_line v) (locations_in vs) (all_listed (first_entries vs)) h)
+
+first_among : (vs : List VolumeLine) → AreAmong (locations_in vs) (all_listed (first_entries vs))
+first_among [] = tt
+first_among (v ∷ vs) = among_by (counts_later v.id vs) v vs (first_among vs)
+
+of_script : (S : Script) (xs : List Listed) → AreAmong (locations S) xs → AreOfScript S xs
+of_script S [] h = tt
+of_script S (x ∷ xs) h = (h.0, of_script S xs h.1)
+
+pub first_lists : (S : Script) → ListsLoc S (start S).loc
+first_lists S = record { entries = of_script S (all_listed (first_entries S.volumes)) (first_among S.volumes); seats = λ n seat m e. absurd cc; kept = λ n seat m e. absurd cc; cut = tt }
