@@ -31,9 +31,9 @@ to_object (suc count) (x ∷ y ∷ names) a h =
     then_twice (walk_to true (take count (y ∷ names))) (walk_to false (drop count (y ∷ names))) (walk_to false (y ∷ names)) (along true x a) (λ b. to_object count (y ∷ names) b (omega (arith, h)))
 
 pub path_goes : (home : Option ℕ) (p : Path) (count : ℕ) (f : Fid) (behind rest : List Shown) (id : ℕ) → IsUnderway home (Some (operands.Path p)) count f behind → home ≡ Some id
-    → walk_to false (drop count p.names) (record { fid = f; rest = rest }) ≡ path_at home p.names (behind ++ rest)
+    → walk_to false (drop count p.names) (record { fid = f; rest = rest }) ≡ path_at home p (behind ++ rest)
 path_goes home p count f behind rest id way e =
-    sym (ap (λ (h : Option ℕ). path_at h p.names (behind ++ rest)) e ∙ (to_object count p.names (at_root id (behind ++ rest)) way.inside ∙ ap (then_on (walk_to false (drop count p.names))) (way.walked id e rest)))
+    sym (ap (λ (h : Option ℕ). path_at h p (behind ++ rest)) e ∙ (to_object count p.names (at_root id (behind ++ rest)) way.inside ∙ ap (then_on (walk_to false (drop count p.names))) (way.walked id e rest)))
 
 abbrev nothing : List (List ℕ)
 nothing = []
@@ -61,10 +61,10 @@ front_goes home p front last count f behind rest id way split e =
 
 -- the last name in its directory
 pub parent_goes : (home : Option ℕ) (p : Path) (front : List (List ℕ)) (last : List ℕ) (count : ℕ) (f : Fid) (behind rest : List Shown) (r : Result At Need) → IsUnderway home (Some (operands.Path p)) count f behind
-    → p.names ≡ front ++ last ∷ [] → Some (record { front = front; last = last }) ≡ parted p.names → IsSome home → r ≡ walk_to true (drop count front) (record { fid = f; rest = rest }) → then_on (within last) r ≡ parent_at home p.names (behind ++ rest)
+    → p.names ≡ front ++ last ∷ [] → Some (record { front = front; last = last }) ≡ parted p.names → IsSome home → r ≡ walk_to true (drop count front) (record { fid = f; rest = rest }) → then_on (within last) r ≡ parent_at home p (behind ++ rest)
 parent_goes None p front last count f behind rest r way split parts known is = absurd cc
 parent_goes (Some id) p front last count f behind rest r way split parts known is =
-    ap (then_on (within last)) (is ∙ front_goes (Some id) p front last count f behind rest id way split refl) ∙ ap (parent_by (Some id) (behind ++ rest)) parts
+    ap (then_on (within last)) (is ∙ front_goes (Some id) p front last count f behind rest id way split refl) ∙ ap (parent_by p (Some id) (behind ++ rest)) parts
 
 -- what is read of the directory takes the walk on
 pub entry_goes : (d : Fid) (name : List ℕ) (f : Fid) (body : Body) (next : Fid) → same_fid f d ≡ true → entry_by true d.volume (looked_up name body) ≡ Ok next → (rest : List Shown)
@@ -73,9 +73,10 @@ entry_goes d name f body next same e rest =
     ap (λ (b : Bool). then_on (λ (t : Taken Body). reached t.rest (entry_by true d.volume (looked_up name t.found))) (body_by d (taken_body b (seen.Contents body) rest (first_body d rest)))) same ∙ ap (reached rest) e
 
 -- one name further
-pub steps_on : (home : Option ℕ) (o : Option Operand) (count : ℕ) (f : Fid) (behind ahead : List Shown) (shown : Shown) (next : Fid) → IsUnderway home o count f behind → Steps (names_of o) count f ahead shown next
+pub steps_on : (home : Option ℕ) (o : Option Operand) (count : ℕ) (f : Fid) (behind ahead : List Shown) (shown : Shown) (next : Fid) → IsSome home → IsUnderway home o count f behind → Steps (names_of o) count f ahead shown next
     → IsUnderway home o (count + 1) next (behind ++ shown ∷ [])
-steps_on home o count f behind ahead shown next way step =
+steps_on None o count f behind ahead shown next known way step = absurd cc
+steps_on (Some volume) o count f behind ahead shown next known way step =
     let names = names_of o in
     let taken : take (count + 1) names ≡ take count names ++ step.name ∷ [] =
     take_more names count step.name (omega (arith, step.inside)) ∙ ap (λ (n : List ℕ). take count names ++ n ∷ []) (get_or_from_slice_get names count step.name step.name step.named) in
@@ -86,4 +87,18 @@ steps_on home o count f behind ahead shown next way step =
           ∙ (ap (λ (rs : List Shown). walk_to true (take count names ++ step.name ∷ []) (record { fid = start_of id o; rest = rs })) (append_assoc behind (shown ∷ []) rest)
           ∙ (in_two (take count names) (step.name ∷ []) (record { fid = start_of id o; rest = behind ++ (shown ∷ rest) })
           ∙ (ap (then_on (walk_to true (step.name ∷ []))) (way.walked id e (shown ∷ rest)) ∙ ap (then_on (walk_to true [])) (step.goes rest))));
+      still = λ e. absurd cc;
+    }
+
+-- a volume becomes known: nothing was walked before
+pub comes_known : (home : Option ℕ) (o : Option Operand) (count : ℕ) (f g : Fid) (behind : List Shown) (found : Option ℕ) → IsUnderway home o count f behind → home ≡ None → ((id : ℕ) → found ≡ Some id → g ≡ start_of id o)
+    → IsUnderway found o count g behind
+comes_known home o count f g behind found way none at =
+    let still = way.still none in
+    record {
+      inside = way.inside;
+      walked = λ id e rest.
+          ap (λ (n : ℕ). walk_to true (take n (names_of o)) (record { fid = start_of id o; rest = behind ++ rest })) still.0
+          ∙ (ap (λ (rs : List Shown). Ok (record { fid = start_of id o; rest = rs ++ rest })) still.1 ∙ ap (λ (h : Fid). Ok (record { fid = h; rest = rest })) (sym (at id e)));
+      still = λ e. still;
     }

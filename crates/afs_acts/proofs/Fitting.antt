@@ -61,32 +61,32 @@ statuses_fit volume rs (bodies.Link c) = omega arith
 statuses_fit volume rs bodies.Gone = omega arith
 
 pub needs_fit : (h : Homes) (a : Act) (rs : List Shown) → IsShortAct a → FitsNeed (needed_by h a rs)
-needs_fit h (acts.Open o) rs s = shown_fits FitsNeed asks told 0 21 22 h.first o rs (omega arith) (omega arith) (omega arith)
-needs_fit h (acts.ListNames o) rs s = shown_fits FitsNeed asks told 20 0 20 h.first o rs (omega arith) (omega arith) (omega arith)
-needs_fit h (acts.ReadLink o) rs s = shown_fits FitsNeed asks told 22 21 0 h.first o rs (omega arith) (omega arith) (omega arith)
-needs_fit h (acts.Close o contents) rs s = goes_fits FitsNeed asks told Any _ (object_at h.first o rs) (object_reached FitsNeed asks told h.first o rs) (λ a k. (tt, (tt, (tt, (tt, (tt, (counted 2097152 (length (bytes_in contents)) (omega arith) s, tt)))))))
-needs_fit h (acts.SetMode o mode) rs s = goes_fits FitsNeed asks told Any _ (object_at h.first o rs) (object_reached FitsNeed asks told h.first o rs) (λ a k. (tt, (tt, tt)))
-needs_fit h (acts.SetAccessList o text) rs s = goes_fits FitsNeed asks told Any _ (object_at h.first o rs) (object_reached FitsNeed asks told h.first o rs) (λ a k. (tt, (counted 1024 (length (bytes_in text)) (omega arith) s, tt)))
-needs_fit h (acts.Make p) rs s = goes_fits FitsNeed asks told (IsWithinSo IsShortName) _ (parent_at h.first p.names rs) (parent_reached FitsNeed asks told IsShortName h.first p.names rs s) (λ w k. (tt, (name_counted w.name k, (tt, tt))))
-needs_fit h (acts.MakeDirectory p) rs s = goes_fits FitsNeed asks told (IsWithinSo IsShortName) _ (parent_at h.first p.names rs) (parent_reached FitsNeed asks told IsShortName h.first p.names rs s) (λ w k. (tt, (name_counted w.name k, (tt, tt))))
-needs_fit h (acts.Symlink p target) rs s = goes_fits FitsNeed asks told (IsWithinSo IsShortName) _ (parent_at h.first p.names rs) (parent_reached FitsNeed asks told IsShortName h.first p.names rs s.0) (λ w k. (tt, (name_counted w.name k, (counted 1024 (length (bytes_in target)) (omega arith) s.1, (tt, tt)))))
-needs_fit h (acts.Remove p) rs s = goes_fits FitsNeed asks told (IsWithinSo IsShortName) _ (parent_at h.first p.names rs) (parent_reached FitsNeed asks told IsShortName h.first p.names rs s) (λ w k. (tt, (name_counted w.name k, tt)))
-needs_fit h (acts.RemoveDirectory p) rs s = goes_fits FitsNeed asks told (IsWithinSo IsShortName) _ (parent_at h.first p.names rs) (parent_reached FitsNeed asks told IsShortName h.first p.names rs s) (λ w k. (tt, (name_counted w.name k, tt)))
+needs_fit h (acts.Open o) rs s = shown_fits FitsNeed asks told 0 21 22 h.first o rs s.first (omega arith) (omega arith) (omega arith)
+needs_fit h (acts.ListNames o) rs s = shown_fits FitsNeed asks told 20 0 20 h.first o rs s.first (omega arith) (omega arith) (omega arith)
+needs_fit h (acts.ReadLink o) rs s = shown_fits FitsNeed asks told 22 21 0 h.first o rs s.first (omega arith) (omega arith) (omega arith)
+needs_fit h (acts.Close o contents) rs s = goes_fits FitsNeed asks told Any _ (object_at h.first o rs) (object_reached FitsNeed asks told h.first o rs s.first) (λ a k. (tt, (tt, (tt, (tt, (tt, (counted 2097152 (length (bytes_in contents)) (omega arith) s.call, tt)))))))
+needs_fit h (acts.SetMode o mode) rs s = goes_fits FitsNeed asks told Any _ (object_at h.first o rs) (object_reached FitsNeed asks told h.first o rs s.first) (λ a k. (tt, (tt, tt)))
+needs_fit h (acts.SetAccessList o text) rs s = goes_fits FitsNeed asks told Any _ (object_at h.first o rs) (object_reached FitsNeed asks told h.first o rs s.first) (λ a k. (tt, (counted 1024 (length (bytes_in text)) (omega arith) s.call, tt)))
+needs_fit h (acts.Make p) rs s = goes_fits FitsNeed asks told (IsWithinSo IsShortName) _ (parent_at h.first p rs) (parent_reached FitsNeed asks told IsShortName h.first p rs s.call s.first) (λ w k. (tt, (name_counted w.name k, (tt, tt))))
+needs_fit h (acts.MakeDirectory p) rs s = goes_fits FitsNeed asks told (IsWithinSo IsShortName) _ (parent_at h.first p rs) (parent_reached FitsNeed asks told IsShortName h.first p rs s.call s.first) (λ w k. (tt, (name_counted w.name k, (tt, tt))))
+needs_fit h (acts.Symlink p target) rs s = goes_fits FitsNeed asks told (IsWithinSo IsShortName) _ (parent_at h.first p rs) (parent_reached FitsNeed asks told IsShortName h.first p rs s.call.0 s.first) (λ w k. (tt, (name_counted w.name k, (counted 1024 (length (bytes_in target)) (omega arith) s.call.1, (tt, tt)))))
+needs_fit h (acts.Remove p) rs s = goes_fits FitsNeed asks told (IsWithinSo IsShortName) _ (parent_at h.first p rs) (parent_reached FitsNeed asks told IsShortName h.first p rs s.call s.first) (λ w k. (tt, (name_counted w.name k, tt)))
+needs_fit h (acts.RemoveDirectory p) rs s = goes_fits FitsNeed asks told (IsWithinSo IsShortName) _ (parent_at h.first p rs) (parent_reached FitsNeed asks told IsShortName h.first p rs s.call s.first) (λ w k. (tt, (name_counted w.name k, tt)))
 needs_fit h (acts.Move p q) rs s =
     root_or FitsNeed asks told (is_root p || is_root q) _
-    (goes_fits FitsNeed asks told (IsWithinSo IsShortName) _ (parent_at h.first p.names rs) (parent_reached FitsNeed asks told IsShortName h.first p.names rs s.0)
-    (λ d k. goes_fits FitsNeed asks told (IsWithinSo IsShortName) (moved d) (parent_at h.second q.names d.rest) (parent_reached FitsNeed asks told IsShortName h.second q.names d.rest s.1)
+    (goes_fits FitsNeed asks told (IsWithinSo IsShortName) _ (parent_at h.first p rs) (parent_reached FitsNeed asks told IsShortName h.first p rs s.call.0 s.first)
+    (λ d k. goes_fits FitsNeed asks told (IsWithinSo IsShortName) (moved d) (parent_at h.second q d.rest) (parent_reached FitsNeed asks told IsShortName h.second q d.rest s.call.1 s.second)
     (λ e l. one_volume FitsNeed asks told (nat_eq d.directory.volume e.directory.volume) _ (tt, (name_counted d.name k, (tt, (name_counted e.name l, tt)))))))
 needs_fit h (acts.Link p q) rs s =
     root_or FitsNeed asks told (is_root q) _
-    (goes_fits FitsNeed asks told Any _ (path_at h.first p.names rs) (path_reached FitsNeed asks told h.first p.names rs)
-    (λ a k. goes_fits FitsNeed asks told (IsWithinSo IsShortName) (linked a) (parent_at h.second q.names a.rest) (parent_reached FitsNeed asks told IsShortName h.second q.names a.rest s)
+    (goes_fits FitsNeed asks told Any _ (path_at h.first p rs) (path_reached FitsNeed asks told h.first p rs s.first)
+    (λ a k. goes_fits FitsNeed asks told (IsWithinSo IsShortName) (linked a) (parent_at h.second q a.rest) (parent_reached FitsNeed asks told IsShortName h.second q a.rest s.call s.second)
     (λ d l. one_volume FitsNeed asks told (nat_eq a.fid.volume d.directory.volume) _ (tt, (name_counted d.name l, (tt, tt))))))
-needs_fit h (acts.Stat o) rs s = goes_fits FitsNeed asks told Any _ (object_at h.first o rs) (object_reached FitsNeed asks told h.first o rs) (λ a k. status_by_fits a.fid (first_status a.fid a.rest))
+needs_fit h (acts.Stat o) rs s = goes_fits FitsNeed asks told Any _ (object_at h.first o rs) (object_reached FitsNeed asks told h.first o rs s.first) (λ a k. status_by_fits a.fid (first_status a.fid a.rest))
 needs_fit h (acts.StatAll o) rs s =
-    goes_fits FitsNeed asks told Any _ (object_at h.first o rs) (object_reached FitsNeed asks told h.first o rs)
+    goes_fits FitsNeed asks told Any _ (object_at h.first o rs) (object_reached FitsNeed asks told h.first o rs s.first)
     (λ a k. goes_fits FitsNeed asks told Any (λ (t : Taken Body). statuses_seen a.fid.volume t.rest t.found) (body_at a) (body_reached FitsNeed asks told a.fid (first_body a.fid a.rest)) (λ t l. statuses_fit a.fid.volume t.rest t.found))
-needs_fit h (acts.GetAccessList o) rs s = goes_fits FitsNeed asks told Any _ (object_at h.first o rs) (object_reached FitsNeed asks told h.first o rs) (λ a k. rights_by_fits (has_rights a.fid a.rest) a.fid)
+needs_fit h (acts.GetAccessList o) rs s = goes_fits FitsNeed asks told Any _ (object_at h.first o rs) (object_reached FitsNeed asks told h.first o rs s.first) (λ a k. rights_by_fits (has_rights a.fid a.rest) a.fid)
 needs_fit h acts.GiveUp rs s = tt
 
 pub next_fits : (g : Going) → IsShortAct g.act → FitsNeed (next g)

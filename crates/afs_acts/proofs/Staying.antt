@@ -7,6 +7,7 @@ use Rattle.afs_history.specs.declared.acts.Act.{Act}
 use Rattle.afs_history.specs.declared.acts.Act.TheVariants as acts
 use Rattle.afs_history.specs.declared.acts.Operand.{Operand}
 use Rattle.afs_history.specs.declared.acts.Operand.TheVariants as operands
+use Rattle.afs_history.specs.declared.acts.Path.{Path}
 use Rattle.afs_ideal.proofs.Basics.{same_fid-refl}
 use Rattle.afs_num.specs.declared.types.Fid.{Fid}
 use Rattle.afs_num.specs.declared.calls.FsCall.{FsCall}
@@ -78,9 +79,9 @@ module _ (more : List Shown) where
   walk_keeps all (name ∷ names) a x e =
       then_keeps (more_at more) (more_at more) (walk_to all names) (walk_to all names) (along (all || not (is_last_name names)) name a) (along (all || not (is_last_name names)) name (more_at more a)) (along_keeps (all || not (is_last_name names)) name a) (walk_keeps all names) x e
 
-  path_keeps : (home : Option ℕ) (names : List (List ℕ)) (rs : List Shown) → Keeps (more_at more) (path_at home names rs) (path_at home names (rs ++ more))
-  path_keeps None names rs x e = absurd cc
-  path_keeps (Some id) names rs x e = walk_keeps false names (at_root id rs) x e
+  path_keeps : (home : Option ℕ) (p : Path) (rs : List Shown) → Keeps (more_at more) (path_at home p rs) (path_at home p (rs ++ more))
+  path_keeps None p rs x e = absurd cc
+  path_keeps (Some id) p rs x e = walk_keeps false p.names (at_root id rs) x e
 
   fid_keeps : (home : Option ℕ) (f : Fid) (rs : List Shown) → Keeps (more_at more) (fid_at home f rs) (fid_at home f (rs ++ more))
   fid_keeps None f rs x e = absurd cc
@@ -88,7 +89,7 @@ module _ (more : List Shown) where
 
   pub object_keeps : (home : Option ℕ) (o : Operand) (rs : List Shown) → Keeps (more_at more) (object_at home o rs) (object_at home o (rs ++ more))
   object_keeps home (operands.Fid f) rs = fid_keeps home f rs
-  object_keeps home (operands.Path p) rs = path_keeps home p.names rs
+  object_keeps home (operands.Path p) rs = path_keeps home p rs
 
 -- ---- calls for statuses and rights
 
@@ -114,17 +115,20 @@ module _ (gifts : List Gift) where
   told : (n : ℕ) → n < 2147483648 → IsPlain (going.answers n)
   told n small h = h
 
+  sought : (o : Operand) → IsPlain (going.locates o)
+  sought o h = h
+
   any_names : (names : List (List ℕ)) → All (Any {A = List ℕ}) names
   any_names [] = All-nil Any
   any_names (name ∷ names) = All-cons Any name names tt (any_names names)
 
   on_object_plain : (home : Option ℕ) (o : Operand) (rs : List Shown) (call : Fid → FsCall) → ((f : Fid) → IsShowing (call f) → ⊥) → IsPlain (goes_to (λ (a : At). going.asks_for (call a.fid)) (object_at home o rs))
-  on_object_plain home o rs call h = goes_fits IsPlain asks told Any _ (object_at home o rs) (object_reached IsPlain asks told home o rs) (λ a k. h a.fid)
+  on_object_plain home o rs call h = goes_fits IsPlain asks told Any _ (object_at home o rs) (object_reached IsPlain asks told home o rs (sought o)) (λ a k. h a.fid)
 
-  in_parent_plain : (home : Option ℕ) (names : List (List ℕ)) (rs : List Shown) (call : Fid → List ℕ → FsCall) → ((d : Fid) (name : List ℕ) → IsShowing (call d name) → ⊥)
-      → IsPlain (goes_to (λ (w : Within). going.asks_for (call w.directory w.name)) (parent_at home names rs))
-  in_parent_plain home names rs call h =
-      goes_fits IsPlain asks told (IsWithinSo Any) _ (parent_at home names rs) (parent_reached IsPlain asks told Any home names rs (any_names names)) (λ w k. h w.directory w.name)
+  in_parent_plain : (home : Option ℕ) (p : Path) (rs : List Shown) (call : Fid → List ℕ → FsCall) → ((d : Fid) (name : List ℕ) → IsShowing (call d name) → ⊥)
+      → IsPlain (goes_to (λ (w : Within). going.asks_for (call w.directory w.name)) (parent_at home p rs))
+  in_parent_plain home p rs call h =
+      goes_fits IsPlain asks told (IsWithinSo Any) _ (parent_at home p rs) (parent_reached IsPlain asks told Any home p rs (any_names p.names) (sought (operands.Path p))) (λ w k. h w.directory w.name)
 
   -- an act of another kind makes none
   abbrev IsPlainAct : Act → Type 0
@@ -134,26 +138,26 @@ module _ (gifts : List Gift) where
   IsPlainAct a = Unit {0}
 
   plain : (h : Homes) (a : Act) (rs : List Shown) → IsPlainAct a → IsPlain (needed_by h a rs)
-  plain h (acts.Open o) rs s = shown_fits IsPlain asks told 0 21 22 h.first o rs (omega arith) (omega arith) (omega arith)
-  plain h (acts.ListNames o) rs s = shown_fits IsPlain asks told 20 0 20 h.first o rs (omega arith) (omega arith) (omega arith)
-  plain h (acts.ReadLink o) rs s = shown_fits IsPlain asks told 22 21 0 h.first o rs (omega arith) (omega arith) (omega arith)
+  plain h (acts.Open o) rs s = shown_fits IsPlain asks told 0 21 22 h.first o rs (sought o) (omega arith) (omega arith) (omega arith)
+  plain h (acts.ListNames o) rs s = shown_fits IsPlain asks told 20 0 20 h.first o rs (sought o) (omega arith) (omega arith) (omega arith)
+  plain h (acts.ReadLink o) rs s = shown_fits IsPlain asks told 22 21 0 h.first o rs (sought o) (omega arith) (omega arith) (omega arith)
   plain h (acts.Close o contents) rs s = on_object_plain h.first o rs _ (λ f k. k)
   plain h (acts.SetMode o mode) rs s = on_object_plain h.first o rs _ (λ f k. k)
   plain h (acts.SetAccessList o text) rs s = on_object_plain h.first o rs _ (λ f k. k)
-  plain h (acts.Make p) rs s = in_parent_plain h.first p.names rs _ (λ d name k. k)
-  plain h (acts.MakeDirectory p) rs s = in_parent_plain h.first p.names rs _ (λ d name k. k)
-  plain h (acts.Symlink p target) rs s = in_parent_plain h.first p.names rs _ (λ d name k. k)
-  plain h (acts.Remove p) rs s = in_parent_plain h.first p.names rs _ (λ d name k. k)
-  plain h (acts.RemoveDirectory p) rs s = in_parent_plain h.first p.names rs _ (λ d name k. k)
+  plain h (acts.Make p) rs s = in_parent_plain h.first p rs _ (λ d name k. k)
+  plain h (acts.MakeDirectory p) rs s = in_parent_plain h.first p rs _ (λ d name k. k)
+  plain h (acts.Symlink p target) rs s = in_parent_plain h.first p rs _ (λ d name k. k)
+  plain h (acts.Remove p) rs s = in_parent_plain h.first p rs _ (λ d name k. k)
+  plain h (acts.RemoveDirectory p) rs s = in_parent_plain h.first p rs _ (λ d name k. k)
   plain h (acts.Move p q) rs s =
       root_or IsPlain asks told (is_root p || is_root q) _
-      (goes_fits IsPlain asks told (IsWithinSo Any) _ (parent_at h.first p.names rs) (parent_reached IsPlain asks told Any h.first p.names rs (any_names p.names))
-      (λ d k. goes_fits IsPlain asks told (IsWithinSo Any) (moved d) (parent_at h.second q.names d.rest) (parent_reached IsPlain asks told Any h.second q.names d.rest (any_names q.names))
+      (goes_fits IsPlain asks told (IsWithinSo Any) _ (parent_at h.first p rs) (parent_reached IsPlain asks told Any h.first p rs (any_names p.names) (sought (operands.Path p)))
+      (λ d k. goes_fits IsPlain asks told (IsWithinSo Any) (moved d) (parent_at h.second q d.rest) (parent_reached IsPlain asks told Any h.second q d.rest (any_names q.names) (sought (operands.Path q)))
       (λ e l. one_volume IsPlain asks told (nat_eq d.directory.volume e.directory.volume) _ (λ m. m))))
   plain h (acts.Link p q) rs s =
       root_or IsPlain asks told (is_root q) _
-      (goes_fits IsPlain asks told Any _ (path_at h.first p.names rs) (path_reached IsPlain asks told h.first p.names rs)
-      (λ a k. goes_fits IsPlain asks told (IsWithinSo Any) (linked a) (parent_at h.second q.names a.rest) (parent_reached IsPlain asks told Any h.second q.names a.rest (any_names q.names))
+      (goes_fits IsPlain asks told Any _ (path_at h.first p rs) (path_reached IsPlain asks told h.first p rs (sought (operands.Path p)))
+      (λ a k. goes_fits IsPlain asks told (IsWithinSo Any) (linked a) (parent_at h.second q a.rest) (parent_reached IsPlain asks told Any h.second q a.rest (any_names q.names) (sought (operands.Path q)))
       (λ d l. one_volume IsPlain asks told (nat_eq a.fid.volume d.directory.volume) _ (λ m. m))))
   plain h (acts.Stat o) rs s = absurd s
   plain h (acts.StatAll o) rs s = absurd s
@@ -209,11 +213,11 @@ module _ (gifts : List Gift) where
 
     rests : (h : Homes) (a : Act) (rs : List Shown) → Makes (needed_by h a rs) → NeedsNoEntry (needed_by h a (rs ++ more))
     rests h (acts.Stat o) rs e =
-        goes_keeps (more_at more) _ _ (object_at h.first o rs) (object_at h.first o (rs ++ more)) (object_keeps more h.first o rs) (object_reached IsPlain asks told h.first o rs) (λ a k. status_by a.fid a.rest (first_status a.fid a.rest) k) e
+        goes_keeps (more_at more) _ _ (object_at h.first o rs) (object_at h.first o (rs ++ more)) (object_keeps more h.first o rs) (object_reached IsPlain asks told h.first o rs (sought o)) (λ a k. status_by a.fid a.rest (first_status a.fid a.rest) k) e
     rests h (acts.StatAll o) rs e =
-        goes_keeps (more_at more) _ _ (object_at h.first o rs) (object_at h.first o (rs ++ more)) (object_keeps more h.first o rs) (object_reached IsPlain asks told h.first o rs) statuses_at e
+        goes_keeps (more_at more) _ _ (object_at h.first o rs) (object_at h.first o (rs ++ more)) (object_keeps more h.first o rs) (object_reached IsPlain asks told h.first o rs (sought o)) statuses_at e
     rests h (acts.GetAccessList o) rs e =
-        goes_keeps (more_at more) _ _ (object_at h.first o rs) (object_at h.first o (rs ++ more)) (object_keeps more h.first o rs) (object_reached IsPlain asks told h.first o rs) (λ a k. rights_by (has_rights a.fid (a.rest ++ more)) a.fid) e
+        goes_keeps (more_at more) _ _ (object_at h.first o rs) (object_at h.first o (rs ++ more)) (object_keeps more h.first o rs) (object_reached IsPlain asks told h.first o rs (sought o)) (λ a k. rights_by (has_rights a.fid (a.rest ++ more)) a.fid) e
     rests h (acts.Open o) rs e = absurd (other h (acts.Open o) rs tt e)
     rests h (acts.ListNames o) rs e = absurd (other h (acts.ListNames o) rs tt e)
     rests h (acts.ReadLink o) rs e = absurd (other h (acts.ReadLink o) rs tt e)
@@ -279,6 +283,7 @@ stays_by more clock g cache (going.reads_statuses fs) h = refl
 stays_by more clock g cache (going.reads_rights f) h = refl
 stays_by more clock g cache (going.asks_for c) h = refl
 stays_by more clock g cache going.gives_back h = refl
+stays_by more clock g cache (going.locates o) h = refl
 stays_by more clock g cache (going.answers n) h = refl
 
 pub walked_stays : (n clock : ℕ) (g : Going) (cache : List CacheEntry) → NeedsNoEntry (next g) → walked n clock g cache ≡ stays g cache

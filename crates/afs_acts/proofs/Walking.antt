@@ -64,15 +64,16 @@ withins : (name : List ℕ) (more : Fid → List ℕ → List Shown → Need) (r
 withins name more (Err need) = refl
 withins name more (Ok a) = withins_by a.fid name more (first_body a.fid a.rest)
 
-parents_by : (home : Option ℕ) (rs : List Shown) (more : Fid → List ℕ → List Shown → Need) (o : Option Parted) → at_parent home rs more o ≡ goes_to (λ (w : Within). more w.directory w.name w.rest) (parent_by home rs o)
-parents_by None rs more None = refl
-parents_by (Some id) rs more None = refl
-parents_by None rs more (Some p) = refl
-parents_by (Some id) rs more (Some p) =
-    walks true (λ d rest. reading d rest (λ b later. in_directory (more d p.last later) b)) p.front (at_root id rs) ∙ withins p.last more (walk_to true p.front (at_root id rs))
+parents_by : (p : Path) (home : Option ℕ) (rs : List Shown) (more : Fid → List ℕ → List Shown → Need) (o : Option Parted)
+    → at_parent (operands.Path p) home rs more o ≡ goes_to (λ (w : Within). more w.directory w.name w.rest) (parent_by p home rs o)
+parents_by p None rs more None = refl
+parents_by p (Some id) rs more None = refl
+parents_by p None rs more (Some parts) = refl
+parents_by p (Some id) rs more (Some parts) =
+    walks true (λ d rest. reading d rest (λ b later. in_directory (more d parts.last later) b)) parts.front (at_root id rs) ∙ withins parts.last more (walk_to true parts.front (at_root id rs))
 
-pub parents : (home : Option ℕ) (p : Path) (rs : List Shown) (more : Fid → List ℕ → List Shown → Need) → to_parent home p rs more ≡ goes_to (λ (w : Within). more w.directory w.name w.rest) (parent_at home p.names rs)
-parents home p rs more = parents_by home rs more (parted p.names)
+pub parents : (home : Option ℕ) (p : Path) (rs : List Shown) (more : Fid → List ℕ → List Shown → Need) → to_parent home p rs more ≡ goes_to (λ (w : Within). more w.directory w.name w.rest) (parent_at home p rs)
+parents home p rs more = parents_by p home rs more (parted p.names)
 
 -- ---- acts
 
@@ -130,11 +131,11 @@ needs_are h (acts.RemoveDirectory p) rs = parents h.first p rs (λ d name rest. 
 needs_are h (acts.Move p q) rs =
     ap (λ (n : Need). cond (is_root p || is_root q) (answers 22) n)
     (parents h.first p rs (λ d old rest. to_parent h.second q rest (λ e new later. of_one d e (asks_for (calls.Rename d old e new))))
-    ∙ same_after _ _ (parent_at h.first p.names rs) (λ (w : Within). parents h.second q w.rest (λ e new later. of_one w.directory e (asks_for (calls.Rename w.directory w.name e new)))))
+    ∙ same_after _ _ (parent_at h.first p rs) (λ (w : Within). parents h.second q w.rest (λ e new later. of_one w.directory e (asks_for (calls.Rename w.directory w.name e new)))))
 needs_are h (acts.Link p q) rs =
     ap (λ (n : Need). cond (is_root q) (answers 22) n)
     (objects h.first (operands.Path p) rs (λ f rest. to_parent h.second q rest (λ d name later. of_one f d (asks_for (calls.Link d name f))))
-    ∙ same_after _ _ (path_at h.first p.names rs) (λ (a : At). parents h.second q a.rest (λ d name later. of_one a.fid d (asks_for (calls.Link d name a.fid)))))
+    ∙ same_after _ _ (path_at h.first p rs) (λ (a : At). parents h.second q a.rest (λ d name later. of_one a.fid d (asks_for (calls.Link d name a.fid)))))
 needs_are h (acts.Stat o) rs = objects h.first o rs reading_status
 needs_are h (acts.StatAll o) rs = objects h.first o rs (λ f rest. reading f rest (λ b later. statuses_in f.volume later b)) ∙ statuses_at (object_at h.first o rs)
 needs_are h (acts.GetAccessList o) rs = objects h.first o rs reading_rights

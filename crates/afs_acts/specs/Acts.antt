@@ -7,13 +7,16 @@ use Rattle.afs_history.specs.declared.scripts.VolumeLine.{VolumeLine}
 use Rattle.afs_history.specs.Written.{bytes_in}
 use Rattle.afs_history.specs.declared.acts.Act.{Act}
 use Rattle.afs_history.specs.declared.acts.Act.TheVariants as acts
+use Rattle.afs_history.specs.declared.acts.Operand.{Operand}
+use Rattle.afs_history.specs.declared.acts.Operand.TheVariants as operands
 use Rattle.afs_model.specs.Heads.{contents_limit}
 use Rattle.afs_model.specs.FsRows.{name_limit, acl_limit, target_limit, list_limit}
 use Rattle.afs_model.specs.CellRows.{cell_calls}
 use Rattle.afs_num.specs.declared.messages.Call.TheVariants as ask
+use Rattle.afs_shape.specs.Items.{volume_name_limit}
 use Rattle.afs_shape.specs.Rows.{IsWithin}
 use Rattle.afs_rows.specs.Going as going
-use Rattle.afs_rows.specs.Going.{Need}
+use Rattle.afs_rows.specs.Going.{Need, operands_of}
 
 -- a volume's server is a node
 abbrev pub HasServer : VolumeLine → Type 0
@@ -26,22 +29,38 @@ first_volume_line (v ∷ vs) = Some (v, vs)
 abbrev pub AreShort : List (List ℕ) → Type 0
 AreShort names = All (λ (n : List ℕ). length n ≤ name_limit) names
 
--- the names and the bytes of an act are within their limits
-abbrev pub IsShortAct : Act → Type 0
-IsShortAct (acts.Close o contents) = length (bytes_in contents) ≤ contents_limit
-IsShortAct (acts.SetAccessList o text) = length (bytes_in text) ≤ acl_limit
-IsShortAct (acts.Make p) = AreShort p.names
-IsShortAct (acts.MakeDirectory p) = AreShort p.names
-IsShortAct (acts.Symlink p target) = AreShort p.names × (length (bytes_in target) ≤ target_limit)
-IsShortAct (acts.Remove p) = AreShort p.names
-IsShortAct (acts.RemoveDirectory p) = AreShort p.names
-IsShortAct (acts.Move p q) = AreShort p.names × AreShort q.names
-IsShortAct (acts.Link p q) = AreShort q.names
-IsShortAct act = Unit {0}
+-- the name of an operand's volume is within its limit
+abbrev pub IsShortOperand : Operand → Type 0
+IsShortOperand (operands.Path p) = length p.volume ≤ volume_name_limit
+IsShortOperand (operands.Fid f) = Unit {0}
 
--- a call that has a spelling, a list that fits in one, or an answer that is a code
+abbrev pub IsShortIfAny : Option Operand → Type 0
+IsShortIfAny None = Unit {0}
+IsShortIfAny (Some o) = IsShortOperand o
+
+-- the names that a call of the act carries, and its bytes
+abbrev pub IsShortCall : Act → Type 0
+IsShortCall (acts.Close o contents) = length (bytes_in contents) ≤ contents_limit
+IsShortCall (acts.SetAccessList o text) = length (bytes_in text) ≤ acl_limit
+IsShortCall (acts.Make p) = AreShort p.names
+IsShortCall (acts.MakeDirectory p) = AreShort p.names
+IsShortCall (acts.Symlink p target) = AreShort p.names × (length (bytes_in target) ≤ target_limit)
+IsShortCall (acts.Remove p) = AreShort p.names
+IsShortCall (acts.RemoveDirectory p) = AreShort p.names
+IsShortCall (acts.Move p q) = AreShort p.names × AreShort q.names
+IsShortCall (acts.Link p q) = AreShort q.names
+IsShortCall act = Unit {0}
+
+-- the names and the bytes of an act are within their limits
+pub record IsShortAct (a : Act) : Type 0 where
+  pub first : IsShortIfAny (operands_of a).0
+  pub second : IsShortIfAny (operands_of a).1
+  pub call : IsShortCall a
+
+-- a call that has a spelling, a list or a name that fits in one, or an answer that is a code
 abbrev pub FitsNeed : Need → Type 0
 FitsNeed (going.asks_for c) = IsWithin cell_calls (ask.File c)
 FitsNeed (going.reads_statuses fs) = length fs ≤ list_limit
+FitsNeed (going.locates o) = IsShortOperand o
 FitsNeed (going.answers n) = n < 2147483648
 FitsNeed need = Unit {0}

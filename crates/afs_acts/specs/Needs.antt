@@ -4,6 +4,7 @@ use Rattle.std.specs.Borrow.{Bor}
 use Rattle.afs_history.specs.declared.acts.Act.{Act}
 use Rattle.afs_history.specs.declared.acts.Act.TheVariants as acts
 use Rattle.afs_history.specs.declared.acts.Operand.{Operand}
+use Rattle.afs_history.specs.declared.acts.Path.{Path}
 use Rattle.afs_history.specs.Written.{bytes_in}
 use Rattle.afs_num.specs.declared.types.Fid.{Fid}
 use Rattle.afs_num.specs.declared.calls.FsCall.{FsCall}
@@ -117,8 +118,8 @@ on_object home o rs call = asks_on call (object_at home o rs)
 abbrev pub asks_in : (Fid → List ℕ → FsCall) → Result Within Need → Need
 asks_in call r = goes_to (λ (w : Within). going.asks_for (call w.directory w.name)) r
 
-abbrev pub in_parent : Option ℕ → List (List ℕ) → List Shown → (Fid → List ℕ → FsCall) → Need
-in_parent home names rs call = asks_in call (parent_at home names rs)
+abbrev pub in_parent : Option ℕ → Path → List Shown → (Fid → List ℕ → FsCall) → Need
+in_parent home p rs call = asks_in call (parent_at home p rs)
 
 -- 22: the two are of different volumes
 abbrev pub moved : Within → Within → Need
@@ -127,10 +128,10 @@ moved d e = if nat_eq d.directory.volume e.directory.volume then going.asks_for 
 abbrev pub linked : At → Within → Need
 linked a d = if nat_eq a.fid.volume d.directory.volume then going.asks_for (calls.Link d.directory d.name a.fid) else going.answers 22
 
-abbrev pub move_need : Homes → List (List ℕ) → List (List ℕ) → List Shown → Need
+abbrev pub move_need : Homes → Path → Path → List Shown → Need
 move_need h old new rs = goes_to (λ (d : Within). goes_to (moved d) (parent_at h.second new d.rest)) (parent_at h.first old rs)
 
-abbrev pub link_need : Homes → List (List ℕ) → List (List ℕ) → List Shown → Need
+abbrev pub link_need : Homes → Path → Path → List Shown → Need
 link_need h target new rs = goes_to (λ (a : At). goes_to (linked a) (parent_at h.second new a.rest)) (path_at h.first target rs)
 
 abbrev pub needed_by : Homes → Act → List Shown → Need
@@ -140,13 +141,13 @@ needed_by h (acts.ReadLink o) rs = shown_need 22 21 0 h.first o rs
 needed_by h (acts.Close o contents) rs = on_object h.first o rs (λ f. stored_whole f (bytes_in contents))
 needed_by h (acts.SetMode o mode) rs = on_object h.first o rs (λ f. calls.StoreStatus f (mode_set mode))
 needed_by h (acts.SetAccessList o text) rs = on_object h.first o rs (λ f. calls.StoreAcl f (bytes_in text))
-needed_by h (acts.Make p) rs = in_parent h.first p.names rs (λ d name. calls.CreateFile d name nothing_set)
-needed_by h (acts.MakeDirectory p) rs = in_parent h.first p.names rs (λ d name. calls.MakeDir d name nothing_set)
-needed_by h (acts.Symlink p target) rs = in_parent h.first p.names rs (λ d name. calls.Symlink d name (bytes_in target) nothing_set)
-needed_by h (acts.Remove p) rs = in_parent h.first p.names rs calls.RemoveFile
-needed_by h (acts.RemoveDirectory p) rs = in_parent h.first p.names rs calls.RemoveDir
-needed_by h (acts.Move p q) rs = if (is_root p || is_root q) then going.answers 22 else move_need h p.names q.names rs
-needed_by h (acts.Link p q) rs = if is_root q then going.answers 22 else link_need h p.names q.names rs
+needed_by h (acts.Make p) rs = in_parent h.first p rs (λ d name. calls.CreateFile d name nothing_set)
+needed_by h (acts.MakeDirectory p) rs = in_parent h.first p rs (λ d name. calls.MakeDir d name nothing_set)
+needed_by h (acts.Symlink p target) rs = in_parent h.first p rs (λ d name. calls.Symlink d name (bytes_in target) nothing_set)
+needed_by h (acts.Remove p) rs = in_parent h.first p rs calls.RemoveFile
+needed_by h (acts.RemoveDirectory p) rs = in_parent h.first p rs calls.RemoveDir
+needed_by h (acts.Move p q) rs = if (is_root p || is_root q) then going.answers 22 else move_need h p q rs
+needed_by h (acts.Link p q) rs = if is_root q then going.answers 22 else link_need h p q rs
 needed_by h (acts.Stat o) rs = status_need h.first o rs
 needed_by h (acts.StatAll o) rs = statuses_need h.first o rs
 needed_by h (acts.GetAccessList o) rs = rights_need h.first o rs

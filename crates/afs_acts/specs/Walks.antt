@@ -2,12 +2,13 @@
 use Rattle.std.specs.Prelude.{ℕ, ◌||◌, ◌&&◌, List, [], ◌∷◌, Bool, true, false, not, Option, Some, None, Result, Ok, Err, if◌then◌else◌}
 use Rattle.afs_history.specs.declared.acts.Operand.{Operand}
 use Rattle.afs_history.specs.declared.acts.Operand.TheVariants as operands
+use Rattle.afs_history.specs.declared.acts.Path.{Path}
 use Rattle.afs_num.specs.declared.directories.Name.{Name}
 use Rattle.afs_num.specs.declared.types.Fid.{Fid}
 use Rattle.afs_num.specs.declared.histories.Body.{Body}
 use Rattle.afs_num.specs.declared.histories.Body.TheVariants as bodies
 use Rattle.afs_rows.specs.Going as going
-use Rattle.afs_rows.specs.Going.{Need, Shown, Taken, first_body, looked_up, is_even, is_last_name, fid_of, root_of, no_entry, Parted, parted}
+use Rattle.afs_rows.specs.Going.{Need, Shown, Taken, first_body, looked_up, is_even, is_last_name, fid_of, root_of, Parted, parted}
 use Rattle.afs_acts.specs.declared.types.Need as needs
 use Rattle.afs_acts.specs.declared.types.Need.TheVariants as told
 
@@ -19,6 +20,7 @@ need_of (told.Statuses fs) = going.reads_statuses fs
 need_of (told.Rights f) = going.reads_rights f
 need_of (told.Call c) = going.asks_for c.value
 need_of told.GiveBack = going.gives_back
+need_of (told.Locate o) = going.locates o.value
 need_of (told.Answer n) = going.answers n
 
 abbrev pub then_on : {A B : Type 0} → (A → Result B Need) → Result A Need → Result B Need
@@ -68,17 +70,18 @@ walk_to all (name ∷ names) a = then_on (walk_to all names) (along (all || not 
 abbrev pub at_root : ℕ → List Shown → At
 at_root id rs = record { fid = root_of id; rest = rs }
 
-abbrev pub path_at : Option ℕ → List (List ℕ) → List Shown → Result At Need
-path_at None names rs = Err (going.answers no_entry)
-path_at (Some id) names rs = walk_to false names (at_root id rs)
+-- where the volume isn't known it is asked for first
+abbrev pub path_at : Option ℕ → Path → List Shown → Result At Need
+path_at None p rs = Err (going.locates (operands.Path p))
+path_at (Some id) p rs = walk_to false p.names (at_root id rs)
 
 abbrev pub fid_at : Option ℕ → Fid → List Shown → Result At Need
-fid_at None f rs = Err (going.answers no_entry)
+fid_at None f rs = Err (going.locates (operands.Fid f))
 fid_at (Some id) f rs = Ok (record { fid = f; rest = rs })
 
 abbrev pub object_at : Option ℕ → Operand → List Shown → Result At Need
 object_at home (operands.Fid f) rs = fid_at home f rs
-object_at home (operands.Path p) rs = path_at home p.names rs
+object_at home (operands.Path p) rs = path_at home p rs
 
 abbrev pub within_by : Fid → List ℕ → List Shown → Body → Result Within Need
 within_by d name rest (bodies.Dir names) = Ok (record { directory = d; name = name; rest = rest })
@@ -88,10 +91,10 @@ within_by d name rest b = Err (going.answers 20)
 abbrev pub within : List ℕ → At → Result Within Need
 within name a = then_on (λ t. within_by a.fid name t.rest t.found) (body_at a)
 
-abbrev pub parent_by : Option ℕ → List Shown → Option Parted → Result Within Need
-parent_by home rs None = Err (going.answers 22)
-parent_by None rs (Some p) = Err (going.answers no_entry)
-parent_by (Some id) rs (Some p) = then_on (within p.last) (walk_to true p.front (at_root id rs))
+abbrev pub parent_by : Path → Option ℕ → List Shown → Option Parted → Result Within Need
+parent_by p home rs None = Err (going.answers 22)
+parent_by p None rs (Some parts) = Err (going.locates (operands.Path p))
+parent_by p (Some id) rs (Some parts) = then_on (within parts.last) (walk_to true parts.front (at_root id rs))
 
-abbrev pub parent_at : Option ℕ → List (List ℕ) → List Shown → Result Within Need
-parent_at home names rs = parent_by home rs (parted names)
+abbrev pub parent_at : Option ℕ → Path → List Shown → Result Within Need
+parent_at home p rs = parent_by p home rs (parted p.names)

@@ -2,33 +2,16 @@
 use Rattle.std.specs.Prelude.{◌≡◌, ◌≤◌, ℕ, ◌+◌, ◌-◌, true, List, [], ◌∷◌, ◌++◌, Option, Some, None, Ok, length, take}
 use Rattle.std.specs.List.{slice_get}
 use Rattle.afs_history.specs.declared.acts.Act.{Act}
-use Rattle.afs_history.specs.declared.acts.Act.TheVariants as acts
 use Rattle.afs_history.specs.declared.acts.Operand.{Operand}
 use Rattle.afs_history.specs.declared.acts.Operand.TheVariants as operands
 use Rattle.afs_history.specs.declared.acts.Path.{Path}
 use Rattle.afs_num.specs.declared.types.Fid.{Fid}
-use Rattle.afs_rows.specs.Going.{Shown, root_of}
+use Rattle.afs_rows.specs.Going.{Shown, operands_of, root_of}
 use Rattle.afs_acts.specs.Walks.{along, walk_to}
 
 -- what an act names first
 abbrev pub first_operand : Act → Option Operand
-first_operand (acts.Open o) = Some o
-first_operand (acts.ListNames o) = Some o
-first_operand (acts.ReadLink o) = Some o
-first_operand (acts.Stat o) = Some o
-first_operand (acts.StatAll o) = Some o
-first_operand (acts.Close o contents) = Some o
-first_operand (acts.SetMode o mode) = Some o
-first_operand (acts.SetAccessList o text) = Some o
-first_operand (acts.GetAccessList o) = Some o
-first_operand (acts.Make p) = Some (operands.Path p)
-first_operand (acts.MakeDirectory p) = Some (operands.Path p)
-first_operand (acts.Symlink p target) = Some (operands.Path p)
-first_operand (acts.Remove p) = Some (operands.Path p)
-first_operand (acts.RemoveDirectory p) = Some (operands.Path p)
-first_operand (acts.Move p q) = Some (operands.Path p)
-first_operand (acts.Link p q) = Some (operands.Path p)
-first_operand acts.GiveUp = None
+first_operand a = (operands_of a).0
 
 abbrev pub path_in : Operand → Option Path
 path_in (operands.Path p) = Some p
@@ -56,10 +39,11 @@ start_of id None = root_of id
 start_of id (Some o) = start_in id o
 
 -- So many names were walked, up to this fid, and the walk took these reads: whatever is read behind them, it comes so far. The last
--- name isn't among them.
+-- name isn't among them. Where the volume isn't known no name was walked.
 pub record IsUnderway (home : Option ℕ) (o : Option Operand) (count : ℕ) (fid : Fid) (behind : List Shown) : Type 0 where
   pub inside : count ≤ length (names_of o) - 1
   pub walked : (id : ℕ) → home ≡ Some id → (rest : List Shown) → walk_to true (take count (names_of o)) (record { fid = start_of id o; rest = behind ++ rest }) ≡ Ok (record { fid = fid; rest = rest })
+  pub still : home ≡ None → (count ≡ 0) × (behind ≡ [])
 
 -- this read takes a walk that has come so far along the names, and has no other read ahead, one name on to this fid
 pub record Steps (names : List (List ℕ)) (count : ℕ) (fid : Fid) (ahead : List Shown) (shown : Shown) (next : Fid) : Type 0 where

@@ -311,8 +311,8 @@ fn mv(alloc: Global, homes: &Homes, from: &Path, to: &Path, way: &Way, rest: &[S
     if is_root(from) || is_root(to) {
         return Ok(Need::Answer(22));
     }
-    let old = reach!(first_parent(homes.first, from, way, rest));
-    let new = reach!(parent(homes.second, to.names.as_slice(), old.rest));
+    let old = reach!(first_parent(alloc, homes.first, from, way, rest)?);
+    let new = reach!(parent(alloc, homes.second, to, old.rest)?);
     rename(alloc, old, new)
 }
 
@@ -346,8 +346,8 @@ fn link(
     if is_root(path) {
         return Ok(Need::Answer(22));
     }
-    let at = reach!(path_object(homes.first, target, way, rest));
-    let new = reach!(parent(homes.second, path.names.as_slice(), at.rest));
+    let at = reach!(path_object(alloc, homes.first, target, way, rest)?);
+    let new = reach!(parent(alloc, homes.second, path, at.rest)?);
     add_name(alloc, at, new)
 }
 
@@ -359,28 +359,33 @@ fn needed(alloc: Global, homes: &Homes, act: &Act, way: &Way, rest: &[Shown]) ->
 {
     let home = homes.first;
     match act {
-        Act::Open { operand } => Ok(show(0, 21, 22, object(home, operand, way, rest))),
-        Act::ListNames { operand } => Ok(show(20, 0, 20, object(home, operand, way, rest))),
-        Act::ReadLink { operand } => Ok(show(22, 21, 0, object(home, operand, way, rest))),
-        Act::Stat { operand } => Ok(status(object(home, operand, way, rest))),
-        Act::StatAll { operand } => statuses(alloc, object(home, operand, way, rest)),
-        Act::GetAccessList { operand } => Ok(rights(object(home, operand, way, rest))),
+        Act::Open { operand } => Ok(show(0, 21, 22, object(alloc, home, operand, way, rest)?)),
+        Act::ListNames { operand } => Ok(show(20, 0, 20, object(alloc, home, operand, way, rest)?)),
+        Act::ReadLink { operand } => Ok(show(22, 21, 0, object(alloc, home, operand, way, rest)?)),
+        Act::Stat { operand } => Ok(status(object(alloc, home, operand, way, rest)?)),
+        Act::StatAll { operand } => statuses(alloc, object(alloc, home, operand, way, rest)?),
+        Act::GetAccessList { operand } => Ok(rights(object(alloc, home, operand, way, rest)?)),
         Act::GiveUp => Ok(Need::GiveBack),
         Act::Close { operand, contents } => {
-            close(alloc, contents, object(home, operand, way, rest))
+            close(alloc, contents, object(alloc, home, operand, way, rest)?)
         }
-        Act::SetMode { operand, mode } => set_mode(alloc, *mode, object(home, operand, way, rest)),
+        Act::SetMode { operand, mode } => {
+            set_mode(alloc, *mode, object(alloc, home, operand, way, rest)?)
+        }
         Act::SetAccessList { operand, text } => {
-            set_acl(alloc, text, object(home, operand, way, rest))
+            set_acl(alloc, text, object(alloc, home, operand, way, rest)?)
         }
-        Act::Make { path } => make(alloc, first_parent(home, path, way, rest)),
-        Act::MakeDirectory { path } => make_directory(alloc, first_parent(home, path, way, rest)),
+        Act::Make { path } => make(alloc, first_parent(alloc, home, path, way, rest)?),
+        Act::MakeDirectory { path } => make_directory(
+            alloc,
+            first_parent(alloc, home, path, way, rest)?,
+        ),
         Act::Symlink { path, target } => {
-            symlink(alloc, target, first_parent(home, path, way, rest))
+            symlink(alloc, target, first_parent(alloc, home, path, way, rest)?)
         }
-        Act::Remove { path } => remove(alloc, first_parent(home, path, way, rest)),
+        Act::Remove { path } => remove(alloc, first_parent(alloc, home, path, way, rest)?),
         Act::RemoveDirectory { path } => {
-            remove_directory(alloc, first_parent(home, path, way, rest))
+            remove_directory(alloc, first_parent(alloc, home, path, way, rest)?)
         }
         Act::Move { from, to } => mv(alloc, homes, from, to, way, rest),
         Act::Link { target, path } => link(alloc, homes, target, path, way, rest),

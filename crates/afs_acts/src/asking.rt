@@ -1,11 +1,17 @@
-//! What a call asks of whom.
+//! What a call asks of whom, and what the location database is asked.
 
-ghost use Rattle.std.specs.Prelude.{◌≡◌};
+ghost use Rattle.std.specs.Prelude.{◌≡◌, IfOk};
 ghost use Rattle.afs_ideal.specs.Operations.{volume_called, volume_changed};
 ghost use Rattle.afs_model.specs.FsRows.{call_number};
-ghost use Rattle.afs_rows.specs.ClientRow.{volume_asked};
+ghost use Rattle.afs_rows.specs.ClientRow.{question, volume_asked};
 
+use crate::volumes::base_of;
+use afs_history::acts::{Operand, Path};
 use afs_num::calls::FsCall;
+use afs_num::location_calls::LocCall;
+use afs_num::sequences::Octets;
+use afs_num::types::Mem;
+use std::alloc::Global;
 
 /// The opcode of a call (AFS-3 Programmer's Reference, File Server/Cache Manager Interface).
 pub fn opcode(call: &FsCall) -> u32
@@ -81,4 +87,21 @@ pub fn volume_asked(call: &FsCall) -> u32
         return first.volume;
     }
     volume_called(call).unwrap_or(0)
+}
+
+fn question_of_path(alloc: Global, path: &Path) -> Mem<LocCall>
+    ensures { IfOk result (λ q. q ≡ question (Operand.Path path.now)) }
+{
+    let name = Octets::from_slice(alloc, base_of(path.volume.as_slice()))?;
+    Ok(LocCall::GetEntryByName { name })
+}
+
+/// What the location database is asked for an operand's volume: its name, without the end of a copy, for a path, its number for a fid.
+pub fn question(alloc: Global, operand: &Operand) -> Mem<LocCall>
+    ensures { IfOk result (λ q. q ≡ question operand.now) }
+{
+    match operand {
+        Operand::Path(path) => question_of_path(alloc, path),
+        Operand::Fid(fid) => Ok(LocCall::GetEntryById { volume: fid.volume }),
+    }
 }

@@ -2,9 +2,12 @@
 
 ghost use Rattle.std.specs.Prelude.{◌≡◌, IfOk};
 ghost use Rattle.afs_history.specs.declared.acts.Act.TheVariants as acts;
+ghost use Rattle.afs_acts.specs.Named.{operand_at};
 
+use crate::named::Place;
 use afs_history::acts::{Act, Operand, Path, Written};
 use afs_num::histories::{Body, ReadBody};
+use afs_num::location_calls::{LocEntry, LocSite, LocSites};
 use afs_num::sequences::{Octets, Sequence};
 use afs_num::types::Mem;
 use std::alloc::Global;
@@ -40,7 +43,7 @@ fn copy_components(alloc: Global, names: &Sequence<Octets>) -> Mem<Sequence<Octe
     Ok(copy)
 }
 
-fn copy_path(alloc: Global, path: &Path) -> Mem<Path>
+pub fn copy_path(alloc: Global, path: &Path) -> Mem<Path>
     ensures { IfOk result (λ c. c ≡ path.now) }
 {
     Ok(Path {
@@ -49,12 +52,21 @@ fn copy_path(alloc: Global, path: &Path) -> Mem<Path>
     })
 }
 
-fn copy_operand(alloc: Global, operand: &Operand) -> Mem<Operand>
+pub fn copy_operand(alloc: Global, operand: &Operand) -> Mem<Operand>
     ensures { IfOk result (λ c. c ≡ operand.now) }
 {
     match operand {
         Operand::Path(path) => Ok(Operand::Path(copy_path(alloc, path)?)),
         Operand::Fid(fid) => Ok(Operand::Fid(*fid)),
+    }
+}
+
+pub fn copy_place(alloc: Global, place: Place<'_>) -> Mem<Operand>
+    ensures { IfOk result (λ c. c ≡ operand_at place.entry) }
+{
+    match place {
+        Place::Object(operand) => copy_operand(alloc, operand),
+        Place::Path(path) => Ok(Operand::Path(copy_path(alloc, path)?)),
     }
 }
 
@@ -151,4 +163,30 @@ pub fn copy_act(alloc: Global, act: &Act) -> Mem<Act>
         Act::Link { target, path } => copy_link(alloc, target, path),
         Act::Symlink { path, target } => copy_symlink(alloc, path, target),
     }
+}
+
+fn copy_sites(alloc: Global, sites: &LocSites) -> Mem<LocSites>
+    ensures { IfOk result (λ c. c ≡ sites.now) }
+{
+    let mut copy = Sequence::new(alloc);
+    for site in sites.as_slice() {
+        copy.push(LocSite {
+            server: site.server,
+            flags: site.flags,
+        })?;
+    }
+    Ok(copy)
+}
+
+pub fn copy_entry(alloc: Global, entry: &LocEntry) -> Mem<LocEntry>
+    ensures { IfOk result (λ c. c ≡ entry.now) }
+{
+    Ok(LocEntry {
+        name: entry.name.copy(alloc)?,
+        read_write: entry.read_write,
+        read_only: entry.read_only,
+        backup: entry.backup,
+        flags: entry.flags,
+        sites: copy_sites(alloc, &entry.sites)?,
+    })
 }

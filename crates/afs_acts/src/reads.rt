@@ -3,6 +3,7 @@
 ghost use Rattle.std.specs.Prelude.{◌≡◌, ◌<◌, ◌^◌, length};
 ghost use Rattle.afs_rows.specs.Going.{reads_of, reads_to};
 
+use crate::named::{Naming, named};
 use afs_history::acts::{Act, Operand, Path};
 
 fn reads_along(path: &Path) -> u64
@@ -25,23 +26,10 @@ fn reads_to(operand: &Operand) -> u64
 pub fn most_reads(act: &Act) -> u64
     ensures { result ≡ reads_of act.now }
 {
-    match act {
-        Act::Open { operand }
-        | Act::ListNames { operand }
-        | Act::ReadLink { operand }
-        | Act::Stat { operand }
-        | Act::StatAll { operand }
-        | Act::Close { operand, .. }
-        | Act::SetMode { operand, .. }
-        | Act::SetAccessList { operand, .. }
-        | Act::GetAccessList { operand } => reads_to(operand),
-        Act::Make { path }
-        | Act::MakeDirectory { path }
-        | Act::Remove { path }
-        | Act::RemoveDirectory { path }
-        | Act::Symlink { path, .. } => reads_along(path),
-        Act::Move { from, to } => reads_along(from) + reads_along(to),
-        Act::Link { target, path } => reads_along(target) + reads_along(path),
-        Act::GiveUp => 0,
+    match named(act) {
+        Naming::Object(operand) => reads_to(operand),
+        Naming::Entry(path) => reads_along(path),
+        Naming::Two(first, second) => reads_along(first) + reads_along(second),
+        Naming::Nothing => 0,
     }
 }

@@ -1,44 +1,29 @@
 //! What an act has read, and what it needs.
 
-ghost use Rattle.std.specs.Prelude.{◌≡◌, ◌<◌, ◌+◌, ◌^◌, IfOk, IfSome, OnErr, OnOk};
-ghost use Rattle.afs_rows.specs.Going.{began, reads_of, with_read};
+ghost use Rattle.std.specs.Prelude.{◌≡◌, ◌<◌, ◌+◌, ◌^◌, IfOk, IfSome, IsSome, OnErr, OnOk};
+ghost use Rattle.std.specs.Option.{option_map};
+ghost use Rattle.afs_num.specs.Nodes.{IsNode};
+ghost use Rattle.afs_rows.specs.ClientRow.{server_for};
+ghost use Rattle.afs_rows.specs.Going.{began, filled, is_home, known_or, operand_in, reads_of, with_read};
+ghost use Rattle.afs_acts.specs.Acts.{IsShortAct, IsShortIfAny};
+ghost use Rattle.afs_acts.specs.Named.{operand_at};
 ghost use Rattle.afs_acts.specs.Ways.{first_operand, names_of, Steps};
 
 use crate::behind::Behind;
-use crate::copies::copy_read;
-use crate::places::homes_of;
+use crate::copies::{copy_place, copy_read};
+use crate::known::Location;
+use crate::named::{Place, named};
+use crate::places::{homes_of, server_for};
 use crate::reads::most_reads;
 use crate::walks::goes_on;
 use crate::ways::{name_behind, start};
-use afs_history::acts::{Act, SharedAct};
+use afs_history::acts::{Act, Operand, SharedAct};
 use afs_num::calls::{Fids, FsCall};
 use afs_num::histories::ReadBody;
-use afs_num::location_calls::LocEntry;
 use afs_num::sequences::Sequence;
-use afs_num::types::{Fid, Mem};
+use afs_num::types::{Fid, Mem, Node};
 use std::alloc::Global;
 use std::marker::Model;
-
-/// What a client knows of a volume: the entry of the location database, and the server that it names, which is looked up once.
-#[derive(Drop)]
-pub struct Location {
-    pub entry: LocEntry,
-    pub server: u8,
-}
-
-impl Model for Location {
-    ghost use Rattle.std.specs.Prelude.{◌≡◌};
-    ghost use Rattle.afs_num.specs.Nodes.{IsNode};
-    ghost use Rattle.afs_num.specs.declared.location_calls.LocEntry.{LocEntry};
-    ghost use Rattle.afs_num.specs.declared.types.Node.{Node};
-    ghost use Rattle.afs_rows.specs.ClientRow.{home_of};
-
-    ghost Value = { LocEntry };
-
-    ghost view = { λ l. l.entry };
-
-    ghost invariant = { λ l. record { home : home_of l.entry ≡ l.server; node : IsNode (Node.Server l.server) } };
-}
 
 /// The numbers of the volumes of an act's operands; none where it has none, or the client doesn't know it.
 #[derive(Drop)]
@@ -150,13 +135,21 @@ impl Way {
     }
 }
 
-/// Where a walk goes on by a read: one name along, to a directory. There is none where another read is ahead of it, or where the last
-/// name is next.
-fn step(act: &Act, way: &Way, ahead: &[Shown], fid: &Fid, body: &ReadBody) -> Option<Fid>
+/// Where a walk goes on by a read: one name along, to a directory. There is none where the volume isn't known, where another read is
+/// ahead of it, or where the last name is next.
+fn step(
+    home: Option<u32>,
+    act: &Act,
+    way: &Way,
+    ahead: &[Shown],
+    fid: &Fid,
+    body: &ReadBody,
+) -> Option<Fid>
+    ensures known { IfSome result (λ next. IsSome home) }
     ensures steps { IfSome result (Steps (names_of (first_operand act.now)) way.now.names way.now.fid ahead.now (record { fid = fid.now; body = body.now })) }
     ensures few { IfSome result (λ next. way.now.names + 1 < 2 ^ 64) }
 {
-    if !ahead.is_empty() {
+    if home.is_none() || !ahead.is_empty() {
         return None;
     }
     let name = name_behind(act, way.names)?;
@@ -164,12 +157,49 @@ fn step(act: &Act, way: &Way, ahead: &[Shown], fid: &Fid, body: &ReadBody) -> Op
 }
 
 impl Homes {
+    fn first(&self) -> Option<u32>
+        ensures { result ≡ self.now.first }
+    {
+        self.first
+    }
+
     fn copy(&self) -> Homes
         ensures { result ≡ self.now }
     {
         Homes {
             first: self.first,
             second: self.second,
+        }
+    }
+}
+
+/// What is known, or what was found.
+fn known_or(known: Option<u32>, found: Option<u32>) -> Option<u32>
+    ensures { result ≡ known_or known found }
+{
+    match known {
+        Some(number) => Some(number),
+        None => found,
+    }
+}
+
+fn is_home(home: Option<u32>, volume: u32) -> bool
+    ensures { result ≡ is_home home volume }
+{
+    match home {
+        Some(number) => number == volume,
+        None => false,
+    }
+}
+
+impl Homes {
+    /// The numbers that are lacking here are taken from there.
+    fn filled(&self, found: &Homes) -> Homes
+        ensures { result ≡ record { first = known_or self.now.first found.now.first; second = known_or self.now.second found.now.second } }
+    {
+        Homes {
+            first: known_or(self.first, found.first),
+            second: known_or(self.second, found.second),
         }
     }
 }
@@ -217,7 +247,14 @@ impl Going {
         ensures ok { OnOk result (self.new ≡ with_read fid body self.old) }
         ensures err { OnErr result (self.new ≡ self.old) }
     {
-        match step(self.act.get(), &self.way, self.rest.as_slice(), &fid, &body) {
+        match step(
+            self.homes.first(),
+            self.act.get(),
+            &self.way,
+            self.rest.as_slice(),
+            &fid,
+            &body,
+        ) {
             Some(next) => {
                 self.way.behind.push(Shown { fid, body })?;
                 self.way.names += 1;
@@ -227,10 +264,53 @@ impl Going {
             None => self.rest.push(Shown { fid, body }),
         }
     }
+
+    /// The numbers that it lacks are looked up again. Where its first volume becomes known its walk begins there.
+    pub fn fill(&mut self, table: &[Location])
+        ensures { self.new ≡ filled table.now self.old }
+    {
+        let found = homes_of(table, self.act.get());
+        if self.homes.first.is_none() {
+            self.way.fid = start(found.first, self.act.get());
+        }
+        self.homes = self.homes.filled(&found);
+    }
+
+    /// The operand in whose volume it calls: the first, or the second where that alone is in the volume.
+    fn place_in(&self, volume: u32) -> Option<Place<'_>>
+        ensures { option_map operand_at result ≡ operand_in self.now volume }
+    {
+        let named = named(self.act.get());
+        if is_home(self.homes.second, volume) && !is_home(self.homes.first, volume) {
+            named.second()
+        } else {
+            named.first()
+        }
+    }
+
+    /// A copy of that operand.
+    pub fn operand_in(&self, alloc: Global, volume: u32) -> Mem<Option<Operand>>
+        ensures value { IfOk result (λ o. o ≡ operand_in self.now volume) }
+        ensures short { IsShortAct self.now.act → IsShortIfAny (operand_in self.now volume) }
+    {
+        match self.place_in(volume) {
+            Some(place) => Ok(Some(copy_place(alloc, place)?)),
+            None => Ok(None),
+        }
+    }
+
+    /// The server of its calls in this volume.
+    pub fn server_in(&self, table: &[Location], volume: u32) -> u8
+        ensures value { result ≡ server_for table.now (operand_in self.now volume) }
+        ensures node { IsNode (Node.Server result) }
+    {
+        server_for(table, self.place_in(volume))
+    }
 }
 
 /// What an act needs next: the body, the status, or the rights of this fid, or the status of each of these; this call; to
-/// give its promises back; or to answer. A call is much longer than the others, and stands apart.
+/// give its promises back; where the volume of this operand is; or to answer. A call and an operand are longer than the others, and stand
+/// apart.
 #[derive(Drop)]
 pub enum Need {
     Body(Fid),
@@ -239,5 +319,6 @@ pub enum Need {
     Rights(Fid),
     Call(Box<FsCall>),
     GiveBack,
+    Locate(Box<Operand>),
     Answer(u32),
 }

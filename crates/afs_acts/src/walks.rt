@@ -1,25 +1,25 @@
 //! Walks along names: each directory on the way must have been read.
 
-ghost use Rattle.std.specs.Prelude.{◌≡◌, ◌<◌, ◌≤◌, ◌∷◌, [], ◌++◌, ℕ, List, Ok, Some, drop, length, true, IfSome};
+ghost use Rattle.std.specs.Prelude.{◌≡◌, ◌<◌, ◌≤◌, ◌∷◌, [], ◌++◌, ℕ, List, Ok, Some, drop, length, true, IfOk, IfSome};
 ghost use Rattle.std.specs.Option.{option_copied, option_map};
 ghost use Rattle.afs_ideal.specs.Directories.{named};
 ghost use Rattle.afs_rows.specs.Going.{first_body, first_status, has_rights, is_even, is_last_name, looked_up, parted};
 ghost use Rattle.afs_rows.specs.Going.{Shown as Read};
 ghost use Rattle.afs_history.specs.declared.acts.Operand.TheVariants as operands;
-ghost use Rattle.afs_acts.specs.Walks.{along, at_root, body_at, entry_by, fid_at, object_at, parent_at, path_at, walk_to, within};
+ghost use Rattle.afs_rows.specs.Going.{locates};
+ghost use Rattle.afs_acts.specs.Walks.{along, at_root, body_at, entry_by, fid_at, need_of, object_at, parent_at, path_at, then_on, walk_to, within};
 ghost use Rattle.afs_acts.specs.Ways.{IsUnderway};
 ghost use Rattle.afs_acts.specs.Needs.{at_of, came, came_body, came_fid, came_within, first_name, first_parted, first_read, status_rest, taken_of};
 
+use crate::copies::copy_path;
 use crate::types::{Need, Shown, Way};
 use crate::ways::root;
 use afs_history::acts::{Operand, Path};
 use afs_num::directories::Name;
 use afs_num::histories::{Body, ReadBody};
 use afs_num::sequences::Octets;
-use afs_num::types::Fid;
-
-/// No such volume is known (VL_NOENT).
-const NO_ENTRY: u32 = 363_524;
+use afs_num::types::{Fid, Mem};
+use std::alloc::Global;
 
 /// A fid that was reached, and the reads behind it.
 #[derive(Clone, Copy)]
@@ -227,50 +227,72 @@ fn ahead<'a>(way: &Way, rest: &'a [Shown]) -> At<'a>
     At { fid: way.fid, rest }
 }
 
+/// The volume of an operand isn't known: where it is is asked for.
+fn locate(alloc: Global, operand: Operand) -> Mem<Need>
+    ensures { IfOk result (λ n. need_of n ≡ locates operand) }
+{
+    Ok(Need::Locate(Box::new(alloc, operand)?))
+}
+
+fn locate_path(alloc: Global, path: &Path) -> Mem<Need>
+    ensures { IfOk result (λ n. need_of n ≡ locates (Operand.Path path.now)) }
+{
+    let operand = Operand::Path(copy_path(alloc, path)?);
+    locate(alloc, operand)
+}
+
 /// The object of the path that an act names first.
 pub fn path_object<'a>(
+    alloc: Global,
     home: Option<u32>,
     path: &Path,
     way: &Way,
     rest: &'a [Shown],
-) -> Result<At<'a>, Need>
+) -> Mem<Result<At<'a>, Need>>
     requires { IsUnderway home (Some (operands.Path path.now)) way.now.names way.now.fid way.now.behind }
-    ensures { came result ≡ path_at home path.now.names (way.now.behind ++ rest.entry.now) }
+    ensures { IfOk result (λ r. came r ≡ path_at home path.now (way.now.behind ++ rest.entry.now)) }
 {
     match home {
-        Some(_) => walk(
+        Some(_) => Ok(walk(
             false,
             names_ahead(path.names.as_slice(), way),
             ahead(way, rest),
-        ),
-        None => Err(Need::Answer(NO_ENTRY)),
+        )),
+        None => Ok(Err(locate_path(alloc, path)?)),
     }
 }
 
 /// The object of a fid that an act names first.
-fn fid_object<'a>(home: Option<u32>, fid: Fid, way: &Way, rest: &'a [Shown]) -> Result<At<'a>, Need>
+fn fid_object<'a>(
+    alloc: Global,
+    home: Option<u32>,
+    fid: Fid,
+    way: &Way,
+    rest: &'a [Shown],
+) -> Mem<Result<At<'a>, Need>>
     requires { IsUnderway home (Some (operands.Fid fid)) way.now.names way.now.fid way.now.behind }
-    ensures { came result ≡ fid_at home fid (way.now.behind ++ rest.entry.now) }
+    ensures { IfOk result (λ r. came r ≡ fid_at home fid (way.now.behind ++ rest.entry.now)) }
 {
     match home {
-        Some(_) => Ok(ahead(way, rest)),
-        None => Err(Need::Answer(NO_ENTRY)),
+        Some(_) => Ok(Ok(ahead(way, rest))),
+        None => Ok(Err(locate(alloc, Operand::Fid(fid))?)),
     }
 }
 
 /// The object of the operand that an act names first.
 pub fn object<'a>(
+    alloc: Global,
     home: Option<u32>,
     operand: &Operand,
     way: &Way,
     rest: &'a [Shown],
-) -> Result<At<'a>, Need>
+) -> Mem<Result<At<'a>, Need>>
     requires { IsUnderway home (Some operand.now) way.now.names way.now.fid way.now.behind }
-    ensures { came result ≡ object_at home operand.now (way.now.behind ++ rest.entry.now) }
+    ensures { IfOk result (λ r. came r ≡ object_at home operand.now (way.now.behind ++ rest.entry.now)) }
 {
     match operand {
-        Operand::Fid(fid) => fid_object(home, *fid, way, rest),
-        Operand::Path(path) => path_object(home, path, way, rest),
+        Operand::Fid(fid) => fid_object(alloc, home, *fid, way, rest),
+        Operand::Path(path) => path_object(alloc, home, path, way, rest),
     }
 }
 
@@ -300,40 +322,52 @@ fn part(names: &[Octets]) -> Option<(&[Octets], &Octets)>
     }
 }
 
+/// Along the names to the directory, and the last name in it.
+fn to_directory<'a, 'b>(
+    front: &[Octets],
+    last: &'b Octets,
+    start: At<'a>,
+) -> Result<Within<'a, 'b>, Need>
+    ensures { came_within result ≡ then_on (within last.now) (walk_to true front.now (at_of start.entry)) }
+{
+    let at = walk(true, front, start)?;
+    in_directory(last, at)
+}
+
 /// The last name in its directory, which is read too: the root has none. Where an act walks along a second path.
 pub fn parent<'a, 'b>(
+    alloc: Global,
     home: Option<u32>,
-    names: &'b [Octets],
+    path: &'b Path,
     reads: &'a [Shown],
-) -> Result<Within<'a, 'b>, Need>
-    ensures { came_within result ≡ parent_at home names.now reads.now }
+) -> Mem<Result<Within<'a, 'b>, Need>>
+    ensures { IfOk result (λ r. came_within r ≡ parent_at home path.entry.now reads.now) }
 {
-    let Some((front, last)) = part(names) else {
-        return Err(Need::Answer(22));
+    let Some((front, last)) = part(path.names.as_slice()) else {
+        return Ok(Err(Need::Answer(22)));
     };
-    let Some(volume) = home else {
-        return Err(Need::Answer(NO_ENTRY));
-    };
-    let at = walk(true, front, at_root(volume, reads))?;
-    in_directory(last, at)
+    match home {
+        Some(volume) => Ok(to_directory(front, last, at_root(volume, reads))),
+        None => Ok(Err(locate_path(alloc, path)?)),
+    }
 }
 
 /// The last name of the path that an act names first, in its directory, which is read too: the root has none.
 pub fn first_parent<'a, 'b>(
+    alloc: Global,
     home: Option<u32>,
     path: &'b Path,
     way: &Way,
     rest: &'a [Shown],
-) -> Result<Within<'a, 'b>, Need>
+) -> Mem<Result<Within<'a, 'b>, Need>>
     requires { IsUnderway home (Some (operands.Path path.now)) way.now.names way.now.fid way.now.behind }
-    ensures { came_within result ≡ parent_at home path.entry.now.names (way.now.behind ++ rest.entry.now) }
+    ensures { IfOk result (λ r. came_within r ≡ parent_at home path.entry.now (way.now.behind ++ rest.entry.now)) }
 {
     let Some((front, last)) = part(path.names.as_slice()) else {
-        return Err(Need::Answer(22));
+        return Ok(Err(Need::Answer(22)));
     };
     if home.is_none() {
-        return Err(Need::Answer(NO_ENTRY));
+        return Ok(Err(locate_path(alloc, path)?));
     }
-    let at = walk(true, names_ahead(front, way), ahead(way, rest))?;
-    in_directory(last, at)
+    Ok(to_directory(names_ahead(front, way), last, ahead(way, rest)))
 }

@@ -6,6 +6,7 @@ ghost use Rattle.std.specs.Option.{option_copied};
 ghost use Rattle.afs_rows.specs.Going.{root_of};
 ghost use Rattle.afs_acts.specs.Ways.{first_operand, names_of, path_in, path_of, start_in, start_of};
 
+use crate::named::{Naming, named};
 use afs_history::acts::{Act, Operand, Path};
 use afs_num::sequences::Octets;
 use afs_num::types::Fid;
@@ -34,24 +35,10 @@ fn path_in(operand: &Operand) -> Option<&Path>
 fn first_path(act: &Act) -> Option<&Path>
     ensures { option_copied result ≡ path_of (first_operand act.now) }
 {
-    match act {
-        Act::Open { operand }
-        | Act::ListNames { operand }
-        | Act::ReadLink { operand }
-        | Act::Stat { operand }
-        | Act::StatAll { operand }
-        | Act::Close { operand, .. }
-        | Act::SetMode { operand, .. }
-        | Act::SetAccessList { operand, .. }
-        | Act::GetAccessList { operand } => path_in(operand),
-        Act::Make { path }
-        | Act::MakeDirectory { path }
-        | Act::Remove { path }
-        | Act::RemoveDirectory { path }
-        | Act::Symlink { path, .. } => Some(path),
-        Act::Move { from, .. } => Some(from),
-        Act::Link { target, .. } => Some(target),
-        Act::GiveUp => None,
+    match named(act) {
+        Naming::Object(operand) => path_in(operand),
+        Naming::Entry(path) | Naming::Two(path, _) => Some(path),
+        Naming::Nothing => None,
     }
 }
 
@@ -81,16 +68,8 @@ fn start_in(volume: u32, operand: &Operand) -> Fid
 fn start_at(volume: u32, act: &Act) -> Fid
     ensures { result ≡ start_of volume (first_operand act.now) }
 {
-    match act {
-        Act::Open { operand }
-        | Act::ListNames { operand }
-        | Act::ReadLink { operand }
-        | Act::Stat { operand }
-        | Act::StatAll { operand }
-        | Act::Close { operand, .. }
-        | Act::SetMode { operand, .. }
-        | Act::SetAccessList { operand, .. }
-        | Act::GetAccessList { operand } => start_in(volume, operand),
+    match named(act) {
+        Naming::Object(operand) => start_in(volume, operand),
         _ => root(volume),
     }
 }

@@ -1,4 +1,4 @@
-use Rattle.std.proofs.Common.{◌+◌, List, subst, sym}
+use Rattle.std.proofs.Common.{◌+◌, ℕ, IsSome, List, Option, subst, sym}
 use Rattle.afs_history.specs.declared.acts.Act.{Act}
 use Rattle.afs_rows.specs.Going.{Shown}
 use Rattle.afs_acts.specs.Ways.{first_operand, names_of, IsUnderway, Steps}
@@ -11,4 +11,4 @@ invariant_of-self-in-Some c =
     let shown : Shown = record { fid = c.args.fid; body = c.args.body } in
     let step = subst (λ (a : Act). Steps (names_of (first_operand a)) g.way.names g.way.fid c.as_slice.result.now shown c.in-Some.next) c.get.ensures c.in-Some.ensures.steps in
     subst (λ (behind : List Shown). IsUnderway g.homes.first (first_operand g.act) (g.way.names + 1) c.in-Some.next behind) (sym c.in_ok-push-in-Some.ensures.ok)
-    (steps_on g.homes.first (first_operand g.act) g.way.names g.way.fid g.way.behind c.as_slice.result.now shown c.in-Some.next c.self.invariant step)
+    (steps_on g.homes.first (first_operand g.act) g.way.names g.way.fid g.way.behind c.as_slice.result.now shown c.in-Some.next (subst (λ (home : Option ℕ). IsSome home) c.first.ensures c.in-Some.ensures.known) c.self.invariant step)

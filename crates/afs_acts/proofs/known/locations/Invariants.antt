@@ -2,7 +2,7 @@ use Rattle.std.proofs.Common.{◌≡◌, ◌++◌, length}
 use Rattle.std.specs.List.{All}
 use Rattle.afs_rows.specs.Runs.{locations_in}
 use Rattle.afs_acts.specs.Acts.{HasServer}
-use Rattle.afs_acts.proofs.places.locations.Given as goal
+use Rattle.afs_acts.proofs.known.locations.Given as goal
 
 abbrev pub invariant-loop-volume : goal.invariant-loop-volume
 invariant-loop-volume l = record {

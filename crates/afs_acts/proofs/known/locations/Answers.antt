@@ -5,7 +5,7 @@ use Rattle.afs_history.specs.declared.scripts.VolumeLine.{VolumeLine}
 use Rattle.afs_rows.specs.Runs.{locations_in}
 use Rattle.afs_acts.specs.Acts.{HasServer}
 use Rattle.afs_acts.proofs.Told.{first_line, told_on}
-use Rattle.afs_acts.proofs.places.locations.Goals as goal
+use Rattle.afs_acts.proofs.known.locations.Goals as goal
 
 pub loop-volume-preserved : goal.loop-volume-preserved
 loop-volume-preserved c =
