@@ -1,5 +1,5 @@
 -- What an act asks has a spelling, and is for a node.
-use Rattle.std.proofs.Common.{◌≡◌, ◌≤◌, ℕ, Bool, true, false, cond, List, [], ◌∷◌, ◌++◌, map, length, refl, sym, subst, arith}
+use Rattle.std.proofs.Common.{◌≡◌, ◌≤◌, ◌-◌, ℕ, zero, suc, Bool, true, false, cond, List, [], ◌∷◌, ◌++◌, map, take, length, refl, sym, subst, arith}
 use Rattle.std.specs.List.{All}
 use Rattle.std.proofs.lemmas.Bool.{eqb-true}
 use Rattle.std.proofs.lemmas.List.Elements.{All-head, All-tail, All-nil, All-cons}
@@ -12,9 +12,11 @@ use Rattle.afs_shape.specs.Tables.{IsCount}
 use Rattle.afs_model.specs.CellRows.{cell_calls}
 use Rattle.afs_rows.specs.States.{Gift}
 use Rattle.afs_rows.specs.Going as going
-use Rattle.afs_rows.specs.Going.{Going, Need, next}
-use Rattle.afs_rows.specs.ClientRow.{batch, call_by, first_server_of, given_promise, gifts_to, in_order}
-use Rattle.afs_acts.specs.Acts.{IsShortAct, FitsNeed}
+use Rattle.afs_rows.specs.Going.{Copy, Going, Need, backup_end, copy_of, next, readonly_end, without_end}
+use Rattle.afs_history.specs.declared.acts.Operand.{Operand}
+use Rattle.afs_history.specs.declared.acts.Operand.TheVariants as operands
+use Rattle.afs_rows.specs.ClientRow.{batch, call_by, first_server_of, given_promise, gifts_to, in_order, question}
+use Rattle.afs_acts.specs.Acts.{IsShortAct, IsShortOperand, FitsNeed}
 use Rattle.afs_acts.proofs.Fitting.{next_fits}
 use Rattle.afs_entries.proofs.Batches.{few}
 use Rattle.afs_entries.proofs.Removing.{map_length}
@@ -36,6 +38,7 @@ needed_within gifts (going.reads_statuses fs) h = (counted (length fs) h, tt)
 needed_within gifts (going.reads_rights f) h = (tt, tt)
 needed_within gifts (going.asks_for c) h = h
 needed_within gifts going.gives_back h = (counted (length (map (λ (g : Gift). g.fid) (batch gifts))) (fids_few gifts), (counted (length (map given_promise (batch gifts))) (promises_few gifts), tt))
+needed_within gifts (going.locates o) h = tt
 needed_within gifts (going.answers n) h = tt
 
 -- what an act needs within its limits
@@ -80,3 +83,19 @@ in_order_nodes gs =
     (both (gifts_to gs 6) _ (to_one 6 gs refl)
     (both (gifts_to gs 7) _ (to_one 7 gs refl)
     (both (gifts_to gs 8) _ (to_one 8 gs refl) (All-nil IsGift))))))))
+
+-- ---- a question has a spelling
+
+take_few : (n : ℕ) (xs : List ℕ) → length (take n xs) ≤ length xs
+take_few zero xs = omega arith
+take_few (suc n) [] = omega arith
+take_few (suc n) (x ∷ xs) = let le = take_few n xs in omega (arith, le)
+
+base_few : (copy : Copy) (name : List ℕ) → length (without_end copy name) ≤ length name
+base_few going.itself name = omega arith
+base_few going.read_only name = take_few (length name - length readonly_end) name
+base_few going.backup name = take_few (length name - length backup_end) name
+
+pub question_within : (o : Operand) → IsShortOperand o → IsWithin cell_calls (ask.Location (question o))
+question_within (operands.Path p) h = let le = base_few (copy_of p.volume) p.volume in ((omega (arith, h, le), omega (arith, h, le)), tt)
+question_within (operands.Fid f) h = (tt, tt)

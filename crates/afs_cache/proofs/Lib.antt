@@ -9,3 +9,4 @@ pub mod Dropping
 pub mod Replying
 pub mod Idle
 pub mod Interfaces
+pub mod Sought

@@ -1,5 +1,4 @@
--- What a step of a client leaves: its user, its table, how many entries it may hold and its epoch stay; and it draws one number
--- at most.
+-- What a step of a client leaves: its user, how many entries it may hold and its epoch stay; and it draws one number at most.
 use Rattle.std.proofs.Common.{◌≡◌, ◌≤◌, ◌+◌, ℕ, Bool, true, false, cond, not, ◌&&◌, List, [], ◌∷◌, map, filter, Option, Some, None, Result, Ok, Err, refl, ap, ◌∙◌, arith}
 use Rattle.std.specs.Prelude.{nat_lt, OnOk}
 use Rattle.std.specs.List.{list_any}
@@ -28,18 +27,20 @@ use Rattle.afs_num.specs.declared.histories.ReadBody.TheVariants as seen
 use Rattle.afs_num.specs.declared.histories.ReadSource.TheVariants.{Fetched}
 use Rattle.afs_num.specs.declared.histories.ReadStatus.{ReadStatus}
 use Rattle.afs_history.specs.declared.acts.Act.{Act}
+use Rattle.afs_history.specs.declared.acts.Operand.{Operand}
+use Rattle.afs_num.specs.declared.location_calls.LocEntry.{LocEntry}
 use Rattle.afs_history.specs.declared.lines.Line.{Line}
 use Rattle.afs_history.specs.declared.lines.Line.TheVariants as lines
-use Rattle.afs_model.specs.Calls.{Admitted, admitted}
+use Rattle.afs_model.specs.Calls.{Admitted, admitted, is_sent_again, last_timeout}
 use Rattle.afs_model.specs.Calls as pairs
 use Rattle.afs_rows.specs.States.{CacheEntry, Gift}
 use Rattle.afs_rows.specs.Going as going
-use Rattle.afs_rows.specs.Going.{ClientState, Going, Need, next, began, with_read}
-use Rattle.afs_rows.specs.ClientRow.{Look, calls_again, gift_of, in_order, look_at, looked, put_entries, put_entry, read_lines, status_look, trusted_in, untrusted_in, with_statuses, Walked, admits_call, awaits, begin_row, begins_by, behind_batch, body_told, breaks, call_of, called, client_row, counts, dropped, entries_told, entry_told, ends_step, find_cached, gives_all, gives_by, given, gives_up, goes_by, hears, ignores, is_awaited, is_below, is_busy_code, is_older, is_spent, is_trusted, most_busy, most_reads, refuses, runs_call, runs_carried, status_told, takes, takes_bulk, takes_bytes, takes_data, takes_entries, takes_entry, takes_given, takes_in, takes_list, takes_plain, takes_rights, takes_set, takes_shown, takes_status, takes_stored, timeout_row, tries_again, walked, walks_on, whole}
+use Rattle.afs_rows.specs.Going.{ClientState, Going, Left, Need, Seek, next, began, filled, operand_in, volume_at, with_read}
+use Rattle.afs_rows.specs.ClientRow.{admits_call, asks_where, awaits, begin_row, begins_by, behind_batch, body_told, breaks, call_of, called, callee_of, calls_again, client_row, counts, dead_code, dropped, ends_step, entries_told, entry_in, entry_told, find_cached, gift_of, given, gives_all, gives_by, gives_up, goes_by, guest_row, has_location, hears, ignores, in_order, is_awaited, is_below, is_busy_code, is_gone_code, is_older, is_sought, is_spent, is_trusted, knows, located, located_by, located_on, Look, look_at, looked, most_busy, most_moved, most_reads, moved_on, put_entries, put_entry, read_lines, refuses, refuses_for_good, runs_call, runs_carried, seeks_on, sought_by, sought_ends, sought_or, status_look, status_told, takes, takes_bulk, takes_bytes, takes_data, takes_entries, takes_entry, takes_given, takes_in, takes_list, takes_plain, takes_rights, takes_set, takes_shown, takes_status, takes_stored, timeout_line, timeout_row, tries_again, trusted_in, untrusted_in, volume_asked, walked, Walked, walks_on, whole, with_statuses}
 use Rattle.afs_rows.specs.Steps.{Step}
 use Rattle.afs_history.specs.declared.lines.Outs.{Outs}
 use Rattle.afs_model.specs.Steps.{NodeState}
-use Rattle.afs_cache.specs.Managing.{Answers, Takes, times_out}
+use Rattle.afs_cache.specs.Managing.{Answers, Takes, seek_times_out, times_out}
 use Rattle.afs_cache.specs.Lasting.{lasting}
 
 -- what lasts stays, and the last number rises by one at most
@@ -63,6 +64,7 @@ goes_by_rises me c front w (going.reads_statuses fs) = (refl, rises c.last)
 goes_by_rises me c front w (going.reads_rights f) = (refl, rises c.last)
 goes_by_rises me c front w (going.asks_for call) = (refl, rises c.last)
 goes_by_rises me c front w going.gives_back = (refl, rises c.last)
+goes_by_rises me c front w (going.locates o) = (refl, rises c.last)
 goes_by_rises me c front w (going.answers n) = (refl, stays c.last)
 
 walks_rises : (me : Node) (c : ClientState) (clock : ℕ) (front : List Line → List Line) (act : Going) (cache : List CacheEntry) → Rises c (walks_on me c clock front act cache)
@@ -82,11 +84,12 @@ begins_rises me c clock front act (going.reads_rights f) = walks_rises me c cloc
 begins_rises me c clock front act (going.asks_for call) = walks_rises me c clock front act c.cache
 begins_rises me c clock front act going.gives_back =
     gives_rises me (record c { cache = untrusted_in clock c.cache }) (λ ls. front (dropped me (trusted_in clock c.cache) ls)) act (in_order (map gift_of (trusted_in clock c.cache)))
+begins_rises me c clock front act (going.locates o) = walks_rises me c clock front act c.cache
 begins_rises me c clock front act (going.answers n) = walks_rises me c clock front act c.cache
 
 pub begin_rises : (me : Node) (c : ClientState) (clock : ℕ) (act : Act) → Rises c (begin_row me c clock act)
 unfolding begin_row
-begin_rises me c clock act = begins_rises me (record c { busy = 0 }) clock (λ ls. lines.Begin me act ∷ ls) (began c.table act) (next (began c.table act))
+begin_rises me c clock act = begins_rises me (record c { busy = 0; moved = 0 }) clock (λ ls. lines.Begin me act ∷ ls) (began c.table act) (next (began c.table act))
 
 -- ---- replies
 
@@ -265,8 +268,16 @@ takes_rises me c clock place act call replies.CallBack = (refl, stays c.last)
 takes_rises me c clock place act call replies.InitCallBackState = (refl, stays c.last)
 takes_rises me c clock place act call replies.Probe = (refl, stays c.last)
 
+where_rises : (me : Node) (c : ClientState) (place : ℕ) (act : Going) (code : Code) (o : Option Operand) → Rises c (asks_where me c place act code o)
+where_rises me c place act code None = (refl, stays c.last)
+where_rises me c place act code (Some o) = (refl, rises c.last)
+
+for_good_rises : (me : Node) (c : ClientState) (place : ℕ) (act : Going) (code : Code) → Rises c (refuses_for_good me c place act code)
+for_good_rises me c place act code =
+    either c (is_gone_code code && nat_lt c.moved most_moved) _ _ (where_rises me c place act code (operand_in act (volume_asked (call_of c act)))) (refl, stays c.last)
+
 refuses_rises : (me : Node) (c : ClientState) (place : ℕ) (act : Going) (code : Code) → Rises c (refuses me c place act code)
-refuses_rises me c place act code = either c (is_busy_code code && nat_lt c.busy most_busy) _ _ (refl, rises c.last) (refl, stays c.last)
+refuses_rises me c place act code = either c (is_busy_code code && nat_lt c.busy most_busy) _ _ (refl, rises c.last) (for_good_rises me c place act code)
 
 counts_rise : (me : Node) (c : ClientState) (clock place : ℕ) (act : Going) (head : Head) (x : Carried) → Rises c (counts me c clock place act head x)
 counts_rise me c clock place act head (carried.Call user call) = (refl, stays c.last)
@@ -340,9 +351,46 @@ in_rises me c clock place (Unserved head) = either c (same_node head.to me) _ _ 
 in_rises me c clock place (Unreadable head) = either c (same_node head.to me) _ _ (called_rises me c place head (Unreadable head)) (refl, stays c.last)
 in_rises me c clock place (Whole m) = either c (same_node m.head.to me) _ _ (hears_rises me c clock place m.head m.carried) (refl, stays c.last)
 
-pub row_rises : (me : Node) (c : ClientState) (clock place : ℕ) (r : Received) → Rises c (client_row me c clock place r)
+client_rises : (me : Node) (c : ClientState) (clock place : ℕ) (r : Received) → Rises c (client_row me c clock place r)
 unfolding client_row
-row_rises me c clock place r = in_rises me c clock place r
+client_rises me c clock place r = in_rises me c clock place r
+
+-- ---- the location database answers
+
+on_rises : (me : Node) (c : ClientState) (clock place : ℕ) (act : Going) (o : Option ℕ) → Rises c (located_on me c clock place act o)
+on_rises me c clock place act None = (refl, stays c.last)
+on_rises me c clock place act (Some id) = walks_rises me c clock (given place) (filled c.table act) c.cache
+
+moved_rises : (me : Node) (c : ClientState) (place : ℕ) (act : Going) (left : Left) (o : Option ℕ) → Rises c (moved_on me c place act left o)
+moved_rises me c place act left None = (refl, stays c.last)
+moved_rises me c place act left (Some id) = either c (same_node (callee_of c act) left.server) _ _ (refl, stays c.last) (refl, rises c.last)
+
+located_rises : (me : Node) (c : ClientState) (clock place : ℕ) (k : Seek) (l : LocEntry) (left : Option Left) → Rises c (located me c clock place k l left)
+located_rises me c clock place k l None = on_rises me (knows l c) clock place k.act (volume_at (knows l c).table k.operand)
+located_rises me c clock place k l (Some left) =
+    either c (has_location l c.table) _ _ (refl, stays c.last) (moved_rises me (knows l c) place k.act left (volume_at (knows l c).table k.operand))
+
+entry_told_rises : (me : Node) (c : ClientState) (clock place : ℕ) (k : Seek) (o : Option LocEntry) → Rises c (located_by me c clock place k o)
+entry_told_rises me c clock place k None = (refl, stays c.last)
+entry_told_rises me c clock place k (Some e) = located_rises me c clock place k e k.left
+
+sought_rises : (me : Node) (c : ClientState) (clock place : ℕ) (k : Seek) (head : Head) (x : Carried) → Rises c (sought_by me c clock place k head x)
+sought_rises me c clock place k head (carried.Call user call) = (refl, stays c.last)
+sought_rises me c clock place k head (carried.Refusal code) = (refl, stays c.last)
+sought_rises me c clock place k head (carried.Reply (tell.File reply)) = (refl, stays c.last)
+sought_rises me c clock place k head (carried.Reply (tell.Volume reply)) = (refl, stays c.last)
+sought_rises me c clock place k head (carried.Reply (tell.Location reply)) = entry_told_rises me c clock place k (entry_in reply)
+sought_rises me c clock place k head carried.Notice = (refl, stays c.last)
+
+sought_or_rises : (me : Node) (c : ClientState) (clock place : ℕ) (m : Message) (o : Option Seek) → Rises c (sought_or me c clock place m o)
+sought_or_rises me c clock place m None = client_rises me c clock place (Whole m)
+sought_or_rises me c clock place m (Some k) = either c (is_sought me c k m.head m.carried) _ _ (sought_rises me c clock place k m.head m.carried) (client_rises me c clock place (Whole m))
+
+pub row_rises : (me : Node) (c : ClientState) (clock place : ℕ) (r : Received) → Rises c (guest_row me c clock place r)
+row_rises me c clock place Nothing = client_rises me c clock place Nothing
+row_rises me c clock place (Unserved head) = client_rises me c clock place (Unserved head)
+row_rises me c clock place (Unreadable head) = client_rises me c clock place (Unreadable head)
+row_rises me c clock place (Whole m) = sought_or_rises me c clock place m c.seeking
 
 -- ---- timeouts draw none
 
@@ -356,8 +404,12 @@ kept_by c false s t h k = k
 pub timeout_keeps : (me : Node) (c : ClientState) (act : Going) → Keeps c (timeout_row me c act)
 timeout_keeps me c act = kept_by c (nat_lt c.tries 2) (tries_again me c act) (gives_up me c (call_of c act)) (refl, refl) (refl, refl)
 
+seek_keeps : (me : Node) (c : ClientState) (o : Option Seek) → Keeps c (seek_times_out me c o)
+seek_keeps me c None = (refl, refl)
+seek_keeps me c (Some k) = kept_by c (is_sent_again c.tries) (seeks_on me c k) (sought_ends me c (λ ls. timeout_line me c last_timeout ∷ ls) dead_code) (refl, refl) (refl, refl)
+
 pub times_out_keeps : (me : Node) (c : ClientState) (running : Option Going) → Keeps c (times_out me c running)
-times_out_keeps me c None = (refl, refl)
+times_out_keeps me c None = seek_keeps me c c.seeking
 times_out_keeps me c (Some act) = timeout_keeps me c act
 
 -- ---- what the calls of the program tell

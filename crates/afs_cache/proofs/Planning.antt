@@ -12,25 +12,28 @@ use Rattle.afs_history.specs.declared.lines.Outs.{Outs}
 use Rattle.afs_model.specs.Messages.{parcels_read, messages_spelled}
 use Rattle.afs_rows.specs.States.{CacheEntry, Gift}
 use Rattle.afs_rows.specs.Going as going
-use Rattle.afs_rows.specs.Going.{ClientState, Going, Need, next}
-use Rattle.afs_rows.specs.ClientRow.{Look, Walked, call_by, callee_by, calls_step, ends_step, stays, looked, dropped, drop_line, goes_by, goes_on, gives_by, boot_of, put_entries}
+use Rattle.afs_rows.specs.Going.{ClientState, Going, Need, Seek, next}
+use Rattle.afs_rows.specs.ClientRow.{Look, Walked, call_by, callee_by, callee_of, calls_step, ends_step, stays, looked, dropped, drop_line, goes_by, goes_on, gives_by, boot_of, put_entries, seeks_step}
 use Rattle.afs_rows.specs.Steps.{Step}
 use Rattle.afs_entries.specs.Cached.{Kept, touched_all}
-use Rattle.afs_cache.specs.Asking.{Asking, code_of, is_giving}
+use Rattle.afs_cache.specs.Asking.{Asking, code_of, is_giving, operand_of}
 use Rattle.afs_model.specs.Steps.{NodeState}
 use Rattle.afs_cache.specs.Managing.{Makes}
-use Rattle.afs_cache.specs.Acting.{called_by, sent_to, IsAsking, waiting, followed, outs_of, but_for, CanFollow, IsWay, PlansFor, over}
+use Rattle.afs_cache.specs.Acting.{called_by, sent_to, IsAsking, waiting, followed, outs_of, but_for, CanFollow, IsWay, PlansFor, over, sought, sought_from}
 use Rattle.afs_cache.specs.Looking.{HasWalked}
 use Rattle.afs_cache.specs.declared.acting.Asks.{Asks}
 use Rattle.afs_cache.specs.declared.looks.Walked as program
 use Rattle.afs_cache.specs.declared.acting.Plan.{Plan}
 use Rattle.afs_cache.specs.declared.acting.Plan.TheVariants as plans
+use Rattle.afs_cache.specs.declared.acting.Seeks.{Seeks}
+use Rattle.afs_history.specs.declared.acts.Operand.{Operand}
+use Rattle.afs_num.specs.declared.types.Node.TheVariants as nodes
 
 -- ---- plans as such
 
 pub plans_same : (step other : ClientState → (List Line → List Line) → Step ClientState) (told : List Line) (c : ClientState) (plan : Plan) → ((d : ClientState) (front : List Line → List Line) → step d front ≡ other d front) → PlansFor step told c plan → PlansFor other told c plan
-plans_same step other told c plan same p cache busy first =
-    subst (λ (s : Step ClientState). Makes s (followed (but_for c cache busy) plan) (λ ls. first ++ ls) (outs_of plan)) (same (but_for c cache busy) (λ ls. first ++ (told ++ ls))) (p cache busy first)
+plans_same step other told c plan same p cache busy moved first =
+    subst (λ (s : Step ClientState). Makes s (followed (but_for c cache busy moved) plan) (λ ls. first ++ ls) (outs_of plan)) (same (but_for c cache busy moved) (λ ls. first ++ (told ++ ls))) (p cache busy moved first)
 
 -- what is planned was done
 pub done_as : (step : Step ClientState) (c d : ClientState) (plan : Plan) (new : ClientState) (outs : Outs) (front : List Line → List Line) → Makes step (followed d plan) front (outs_of plan) → new ≡ followed c plan → c ≡ d → outs ≡ outs_of plan → Makes step new front outs
@@ -47,75 +50,104 @@ if_ok P Q (Err e) f h = tt
 -- ---- calls
 
 pub asking_made : (me : Node) (c : ClientState) (act : Going) (given : List Gift) (told : List Line) (asked : Asking) (callee : Node) (outs : Outs)
-    → asked ≡ record { going = act; gifts = given } → callee ≡ called_by (is_giving (next asked.going)) c.table asked.gifts (call_by asked.gifts (next asked.going)) → IsNode callee
+    → asked ≡ record { going = act; gifts = given } → callee ≡ called_by (is_giving (next asked.going)) c.table asked.going asked.gifts (call_by asked.gifts (next asked.going)) → IsNode callee
     → outs.lines ≡ told → parcels_read outs.parcels ≡ messages_spelled (sent_to me c (c.last + 1) callee (boot_of callee c.boots) (call_by asked.gifts (next asked.going)) ∷ []) → IsAsking me c act given told (record { asked = asked; callee = callee; outs = outs })
 asking_made me c act given told asked callee outs q e node l s = record {
   going = ap (λ (a : Asking). a.going) q;
   gifts = ap (λ (a : Asking). a.gifts) q;
-  callee = e ∙ ap (λ (a : Asking). called_by (is_giving (next a.going)) c.table a.gifts (call_by a.gifts (next a.going))) q;
+  callee = e ∙ ap (λ (a : Asking). called_by (is_giving (next a.going)) c.table a.going a.gifts (call_by a.gifts (next a.going))) q;
   node = node;
   lines = l;
   sent = s ∙ ap (λ (a : Asking). messages_spelled (sent_to me c (c.last + 1) callee (boot_of callee c.boots) (call_by a.gifts (next a.going)) ∷ [])) q;
 }
 
-called_as : (need : Need) (c : ClientState) → called_by (is_giving need) c.table c.gifts (call_by c.gifts need) ≡ callee_by c need
-called_as (going.reads f) c = refl
-called_as (going.reads_status f) c = refl
-called_as (going.reads_statuses fs) c = refl
-called_as (going.reads_rights f) c = refl
-called_as (going.asks_for call) c = refl
-called_as going.gives_back c = refl
-called_as (going.answers n) c = refl
+pub called_as : (need : Need) (act : Going) (c : ClientState) → called_by (is_giving need) c.table act c.gifts (call_by c.gifts need) ≡ callee_by c act need
+called_as (going.reads f) act c = refl
+called_as (going.reads_status f) act c = refl
+called_as (going.reads_statuses fs) act c = refl
+called_as (going.reads_rights f) act c = refl
+called_as (going.asks_for call) act c = refl
+called_as going.gives_back act c = refl
+called_as (going.locates o) act c = refl
+called_as (going.answers n) act c = refl
 
-asking_as : (me : Node) (c : ClientState) (act : Going) (gifts : List Gift) (told : List Line) (a : Asks) (cache : List CacheEntry) (busy : ℕ) (first : List Line)
-    → a.callee ≡ callee_by (record (but_for c cache busy) { gifts = gifts }) (next act) → IsAsking me c act gifts told a
-    → Makes (calls_step me (record (but_for c cache busy) { gifts = gifts }) act (λ ls. first ++ (told ++ ls))) (waiting (but_for c cache busy) a) (λ ls. first ++ ls) a.outs
-asking_as me c act gifts told a cache busy first e h = record {
+asking_as : (me : Node) (c : ClientState) (act : Going) (gifts : List Gift) (told : List Line) (a : Asks) (cache : List CacheEntry) (busy moved : ℕ) (first : List Line)
+    → a.callee ≡ callee_of (record (but_for c cache busy moved) { gifts = gifts }) act → IsAsking me c act gifts told a
+    → Makes (calls_step me (record (but_for c cache busy moved) { gifts = gifts }) act (λ ls. first ++ (told ++ ls))) (waiting (but_for c cache busy moved) a) (λ ls. first ++ ls) a.outs
+asking_as me c act gifts told a cache busy moved first e h = record {
   state = rw (h.going, h.gifts, e) refl;
   lines = ap (λ (ls : List Line). first ++ ls) (h.lines ∙ sym (append-nil told));
   sent = h.sent ∙ ap (λ (n : Node). messages_spelled (sent_to me c (c.last + 1) n (boot_of n c.boots) (call_by gifts (next act)) ∷ [])) e;
 }
 
 pub plans_asking : (me : Node) (c : ClientState) (act : Going) (gifts : List Gift) (told : List Line) (a : Asks) → IsAsking me c act gifts told a → PlansFor (λ d front. calls_step me (record d { gifts = gifts }) act front) told c (plans.Asks a)
-plans_asking me c act gifts told a h cache busy first =
-    asking_as me c act gifts told a cache busy first (h.callee ∙ called_as (next act) (record (but_for c cache busy) { gifts = gifts })) h
+plans_asking me c act gifts told a h cache busy moved first =
+    asking_as me c act gifts told a cache busy moved first (h.callee ∙ called_as (next act) act (record (but_for c cache busy moved) { gifts = gifts })) h
 
 -- ---- answers
 
 pub plans_ending : (me : Node) (c : ClientState) (code : Code) (told : List Line) (outs : Outs) → outs.lines ≡ told ++ lines.Answer me code ∷ [] → outs.parcels ≡ [] → PlansFor (λ d front. ends_step me d d.cache front code) told c (plans.Ends outs)
-plans_ending me c code told outs l p cache busy first = record {
+plans_ending me c code told outs l p cache busy moved first = record {
   state = refl;
   lines = ap (λ (ls : List Line). first ++ ls) l;
   sent = ap parcels_read p;
 }
 
+-- ---- questions
+
+pub plans_seeking : (me : Node) (c : ClientState) (k : Seek) (told : List Line) (s : Seeks) → s.seeking ≡ k → s.outs.lines ≡ told → parcels_read s.outs.parcels ≡ messages_spelled (sought_from me c (c.last + 1) (boot_of nodes.Loc c.boots) s.seeking.operand ∷ [])
+    → PlansFor (λ d front. seeks_step me d k d.cache front) told c (plans.Seeks s)
+plans_seeking me c k told s e l m cache busy moved first = record {
+  state = ap (λ (x : Seek). record (sought (but_for c cache busy moved) s) { seeking = Some x }) e;
+  lines = ap (λ (ls : List Line). first ++ ls) (l ∙ sym (append-nil told));
+  sent = m ∙ ap (λ (x : Seek). messages_spelled (sought_from me c (c.last + 1) (boot_of nodes.Loc c.boots) x.operand ∷ [])) e;
+}
+
 -- ---- an act goes on
 
-abbrev goes_when : Node → ClientState → (List Line → List Line) → Going → Option Code → Step ClientState
-goes_when me d front act None = calls_step me d act front
-goes_when me d front act (Some code) = ends_step me d d.cache front code
+-- it is answered where it needs no more
+answers_as : (me : Node) (d : ClientState) (front : List Line → List Line) (act : Going) (code : Code) (need : Need) → Some code ≡ code_of need → ends_step me d d.cache front code ≡ goes_by me d front (stays act d.cache) need
+answers_as me d front act code (going.reads f) e = absurd cc
+answers_as me d front act code (going.reads_status f) e = absurd cc
+answers_as me d front act code (going.reads_statuses fs) e = absurd cc
+answers_as me d front act code (going.reads_rights f) e = absurd cc
+answers_as me d front act code (going.asks_for call) e = absurd cc
+answers_as me d front act code going.gives_back e = absurd cc
+answers_as me d front act code (going.locates o) e = absurd cc
+answers_as me d front act code (going.answers n) e = let same : code ≡ record { 0 = pos n } = cc in ap (ends_step me d d.cache front) same
 
-goes_as : (me : Node) (d : ClientState) (front : List Line → List Line) (act : Going) (need : Need) → goes_when me d front act (code_of need) ≡ goes_by me d front (stays act d.cache) need
-goes_as me d front act (going.reads f) = refl
-goes_as me d front act (going.reads_status f) = refl
-goes_as me d front act (going.reads_statuses fs) = refl
-goes_as me d front act (going.reads_rights f) = refl
-goes_as me d front act (going.asks_for call) = refl
-goes_as me d front act going.gives_back = refl
-goes_as me d front act (going.answers n) = refl
+-- it asks where a volume is
+seeks_as : (me : Node) (d : ClientState) (front : List Line → List Line) (act : Going) (o : Operand) (need : Need) → need ≡ going.locates o
+    → seeks_step me d (record { act = act; operand = o; left = None }) d.cache front ≡ goes_by me d front (stays act d.cache) need
+seeks_as me d front act o need e = ap (goes_by me d front (stays act d.cache)) (sym e)
 
-goes_if : (me : Node) (d : ClientState) (front : List Line → List Line) (act : Going) (o : Option Code) → o ≡ code_of (next act) → goes_when me d front act o ≡ goes_on me d front (stays act d.cache)
-goes_if me d front act o e = ap (goes_when me d front act) e ∙ goes_as me d front act (next act)
+-- it calls
+calls_as : (me : Node) (d : ClientState) (front : List Line → List Line) (act : Going) (need : Need) → None ≡ code_of need → operand_of need ≡ None → calls_step me d act front ≡ goes_by me d front (stays act d.cache) need
+calls_as me d front act (going.reads f) e n = refl
+calls_as me d front act (going.reads_status f) e n = refl
+calls_as me d front act (going.reads_statuses fs) e n = refl
+calls_as me d front act (going.reads_rights f) e n = refl
+calls_as me d front act (going.asks_for call) e n = refl
+calls_as me d front act going.gives_back e n = refl
+calls_as me d front act (going.locates o) e n = absurd cc
+calls_as me d front act (going.answers n) e m = absurd cc
 
 pub plans_answer : {E : Type 0} (me : Node) (c : ClientState) (act : Going) (told : List Line) (code : Code) (r : Result Plan E) → Some code ≡ code_of (next act) → IfOk r (λ p. PlansFor (λ d front. ends_step me d d.cache front code) told c p) → IfOk r (λ p. PlansFor (λ d front. goes_on me d front (stays act d.cache)) told c p)
 plans_answer me c act told code r e h =
     if_ok (λ p. PlansFor (λ d front. ends_step me d d.cache front code) told c p) (λ p. PlansFor (λ d front. goes_on me d front (stays act d.cache)) told c p) r
-    (λ p. plans_same (λ d front. ends_step me d d.cache front code) (λ d front. goes_on me d front (stays act d.cache)) told c p (λ d front. goes_if me d front act (Some code) e)) h
+    (λ p. plans_same (λ d front. ends_step me d d.cache front code) (λ d front. goes_on me d front (stays act d.cache)) told c p (λ d front. answers_as me d front act code (next act) e)) h
 
-pub plans_call : {E : Type 0} (me : Node) (c : ClientState) (act : Going) (told : List Line) (r : Result Plan E) → None ≡ code_of (next act) → IfOk r (λ p. PlansFor (λ d front. calls_step me (record d { gifts = c.gifts }) act front) told c p) → IfOk r (λ p. PlansFor (λ d front. goes_on me d front (stays act d.cache)) told c p)
-plans_call me c act told r e h =
+pub plans_question : {E : Type 0} (me : Node) (c : ClientState) (act : Going) (o : Operand) (told : List Line) (r : Result Plan E) → next act ≡ going.locates o
+    → IfOk r (λ p. PlansFor (λ d front. seeks_step me d (record { act = act; operand = o; left = None }) d.cache front) told c p) → IfOk r (λ p. PlansFor (λ d front. goes_on me d front (stays act d.cache)) told c p)
+plans_question me c act o told r e h =
+    if_ok (λ p. PlansFor (λ d front. seeks_step me d (record { act = act; operand = o; left = None }) d.cache front) told c p) (λ p. PlansFor (λ d front. goes_on me d front (stays act d.cache)) told c p) r
+    (λ p. plans_same (λ d front. seeks_step me d (record { act = act; operand = o; left = None }) d.cache front) (λ d front. goes_on me d front (stays act d.cache)) told c p (λ d front. seeks_as me d front act o (next act) e)) h
+
+pub plans_call : {E : Type 0} (me : Node) (c : ClientState) (act : Going) (told : List Line) (r : Result Plan E) → None ≡ code_of (next act) → operand_of (next act) ≡ None
+    → IfOk r (λ p. PlansFor (λ d front. calls_step me (record d { gifts = c.gifts }) act front) told c p) → IfOk r (λ p. PlansFor (λ d front. goes_on me d front (stays act d.cache)) told c p)
+plans_call me c act told r e n h =
     if_ok (λ p. PlansFor (λ d front. calls_step me (record d { gifts = c.gifts }) act front) told c p) (λ p. PlansFor (λ d front. goes_on me d front (stays act d.cache)) told c p) r
-    (λ p q cache busy first. subst (λ (s : Step ClientState). Makes s (followed (but_for c cache busy) p) (λ ls. first ++ ls) (outs_of p)) (goes_if me (but_for c cache busy) (λ ls. first ++ (told ++ ls)) act None e) (q cache busy first)) h
+    (λ p q cache busy moved first. subst (λ (s : Step ClientState). Makes s (followed (but_for c cache busy moved) p) (λ ls. first ++ ls) (outs_of p)) (calls_as me (but_for c cache busy moved) (λ ls. first ++ (told ++ ls)) act (next act) e n) (q cache busy moved first)) h
 
 -- it is the same call, with the gifts that there are
 pub plans_gifts : {E : Type 0} (me : Node) (c : ClientState) (act : Going) (told : List Line) (gifts others : List Gift) (r : Result Plan E) → gifts ≡ others → IfOk r (λ p. PlansFor (λ d front. calls_step me (record d { gifts = gifts }) act front) told c p) → IfOk r (λ p. PlansFor (λ d front. calls_step me (record d { gifts = others }) act front) told c p)
@@ -167,31 +199,33 @@ looks_by me d new w told first outs (going.reads_statuses fs) m = record { state
 looks_by me d new w told first outs (going.reads_rights f) m = record { state = m.state; lines = looked_behind me first told outs.lines [] w.looks m.lines; sent = m.sent }
 looks_by me d new w told first outs (going.asks_for call) m = record { state = m.state; lines = looked_behind me first told outs.lines [] w.looks m.lines; sent = m.sent }
 looks_by me d new w told first outs going.gives_back m = record { state = m.state; lines = looked_behind me first told outs.lines [] w.looks m.lines; sent = m.sent }
+looks_by me d new w told first outs (going.locates o) m = record { state = m.state; lines = looked_behind me first told outs.lines [] w.looks m.lines; sent = m.sent }
 looks_by me d new w told first outs (going.answers n) m = record { state = m.state; lines = looked_behind me first told outs.lines (lines.Answer me (record { 0 = pos n }) ∷ []) w.looks m.lines; sent = m.sent }
 
 pub plans_looked : (me : Node) (c : ClientState) (w : Walked) (told : List Line) (plan : Plan) → PlansFor (λ d front. goes_on me d front (stays w.act d.cache)) (told ++ looked me w.looks []) c plan → PlansFor (λ d front. goes_on me d front (over w d.cache)) told c plan
-plans_looked me c w told plan p cache busy first = looks_by me (but_for c cache busy) (followed (but_for c cache busy) plan) w told first (outs_of plan) (next w.act) (p cache busy first)
+plans_looked me c w told plan p cache busy moved first = looks_by me (but_for c cache busy moved) (followed (but_for c cache busy moved) plan) w told first (outs_of plan) (next w.act) (p cache busy moved first)
 
 -- a step sets the cache that the walk leaves, whatever it was before
-goes_over : (me : Node) (c : ClientState) (cache : List CacheEntry) (busy : ℕ) (front : List Line → List Line) (w : Walked) (need : Need) → goes_by me (but_for c cache busy) front w need ≡ goes_by me (record c { busy = busy }) front w need
-goes_over me c cache busy front w (going.reads f) = refl
-goes_over me c cache busy front w (going.reads_status f) = refl
-goes_over me c cache busy front w (going.reads_statuses fs) = refl
-goes_over me c cache busy front w (going.reads_rights f) = refl
-goes_over me c cache busy front w (going.asks_for call) = refl
-goes_over me c cache busy front w going.gives_back = refl
-goes_over me c cache busy front w (going.answers n) = refl
+goes_over : (me : Node) (c : ClientState) (cache : List CacheEntry) (busy moved : ℕ) (front : List Line → List Line) (w : Walked) (need : Need) → goes_by me (but_for c cache busy moved) front w need ≡ goes_by me (record c { busy = busy; moved = moved }) front w need
+goes_over me c cache busy moved front w (going.reads f) = refl
+goes_over me c cache busy moved front w (going.reads_status f) = refl
+goes_over me c cache busy moved front w (going.reads_statuses fs) = refl
+goes_over me c cache busy moved front w (going.reads_rights f) = refl
+goes_over me c cache busy moved front w (going.asks_for call) = refl
+goes_over me c cache busy moved front w going.gives_back = refl
+goes_over me c cache busy moved front w (going.locates o) = refl
+goes_over me c cache busy moved front w (going.answers n) = refl
 
-pub goes_in : (me : Node) (c : ClientState) (cache : List CacheEntry) (busy : ℕ) (front : List Line → List Line) (w : Walked) → goes_on me (but_for c cache busy) front w ≡ goes_on me (record c { busy = busy }) front w
-goes_in me c cache busy front w = goes_over me c cache busy front w (next w.act)
+pub goes_in : (me : Node) (c : ClientState) (cache : List CacheEntry) (busy moved : ℕ) (front : List Line → List Line) (w : Walked) → goes_on me (but_for c cache busy moved) front w ≡ goes_on me (record c { busy = busy; moved = moved }) front w
+goes_in me c cache busy moved front w = goes_over me c cache busy moved front w (next w.act)
 
 -- the walk was planned, its entries were used, and the plan was followed
-pub way_made : (me : Node) (c new : ClientState) (w : Walked) (told first : List Line) (cache : List CacheEntry) (busy : ℕ) (plan : Plan) (outs : Outs) → PlansFor (λ d front. goes_on me d front (over w d.cache)) told c plan
-    → cache ≡ w.cache → new ≡ followed (but_for c cache busy) plan → outs ≡ outs_of plan → Makes (goes_on me (record c { busy = busy }) (λ ls. first ++ (told ++ ls)) w) new (λ ls. first ++ ls) outs
-way_made me c new w told first cache busy plan outs p e n o =
+pub way_made : (me : Node) (c new : ClientState) (w : Walked) (told first : List Line) (cache : List CacheEntry) (busy moved : ℕ) (plan : Plan) (outs : Outs) → PlansFor (λ d front. goes_on me d front (over w d.cache)) told c plan
+    → cache ≡ w.cache → new ≡ followed (but_for c cache busy moved) plan → outs ≡ outs_of plan → Makes (goes_on me (record c { busy = busy; moved = moved }) (λ ls. first ++ (told ++ ls)) w) new (λ ls. first ++ ls) outs
+way_made me c new w told first cache busy moved plan outs p e n o =
     let front : List Line → List Line = λ ls. first ++ (told ++ ls) in
-    let m : Makes (goes_on me (but_for c cache busy) front (over w cache)) new (λ ls. first ++ ls) outs = done_as _ (but_for c cache busy) (but_for c cache busy) plan new outs (λ ls. first ++ ls) (p cache busy first) n refl o in
-    subst (λ (s : Step ClientState). Makes s new (λ ls. first ++ ls) outs) (goes_in me c cache busy front (over w cache) ∙ ap (λ (es : List CacheEntry). goes_on me (record c { busy = busy }) front (over w es)) e) m
+    let m : Makes (goes_on me (but_for c cache busy moved) front (over w cache)) new (λ ls. first ++ ls) outs = done_as _ (but_for c cache busy moved) (but_for c cache busy moved) plan new outs (λ ls. first ++ ls) (p cache busy moved first) n refl o in
+    subst (λ (s : Step ClientState). Makes s new (λ ls. first ++ ls) outs) (goes_in me c cache busy moved front (over w cache) ∙ ap (λ (es : List CacheEntry). goes_on me (record c { busy = busy; moved = moved }) front (over w es)) e) m
 
 pub way_planned : (me : Node) (c : ClientState) (whole : Walked) (entries : List CacheEntry) (told ls : List Line) (w : program.Walked) (plan : Plan) → HasWalked me entries whole told w ls
     → PlansFor (λ d front. goes_on me d front (stays w.going d.cache)) ls c plan → CanFollow c.last plan → IsWay me c whole entries told (record { used = w.used; plan = plan })
@@ -205,41 +239,41 @@ way_planned me c whole entries told ls w plan h p f =
 
 -- ---- a plan was followed
 
-pub plan_goes : (step : ClientState → (List Line → List Line) → Step ClientState) (other : (List Line → List Line) → Step ClientState) (told : List Line) (c : ClientState) (plan : Plan) (old new : NodeState ClientState) (outs : Outs) (cache : List CacheEntry) (busy : ℕ)
-    → PlansFor step told c plan → new.node ≡ old.node → new.state ≡ followed (but_for c cache busy) plan → outs ≡ outs_of plan → ((front : List Line → List Line) → step (but_for c cache busy) front ≡ other front)
+pub plan_goes : (step : ClientState → (List Line → List Line) → Step ClientState) (other : (List Line → List Line) → Step ClientState) (told : List Line) (c : ClientState) (plan : Plan) (old new : NodeState ClientState) (outs : Outs) (cache : List CacheEntry) (busy moved : ℕ)
+    → PlansFor step told c plan → new.node ≡ old.node → new.state ≡ followed (but_for c cache busy moved) plan → outs ≡ outs_of plan → ((front : List Line → List Line) → step (but_for c cache busy moved) front ≡ other front)
     → (new.node ≡ old.node) × ((first : List Line) → Makes (other (λ ls. first ++ (told ++ ls))) new.state (λ ls. first ++ ls) outs)
-plan_goes step other told c plan old new outs cache busy p n s o same = (
+plan_goes step other told c plan old new outs cache busy moved p n s o same = (
   n,
   λ first. subst (λ (x : Step ClientState). Makes x new.state (λ ls. first ++ ls) outs) (same (λ ls. first ++ (told ++ ls)))
-      (done_as (step (but_for c cache busy) (λ ls. first ++ (told ++ ls))) (but_for c cache busy) (but_for c cache busy) plan new.state outs (λ ls. first ++ ls) (p cache busy first) s refl o),
+      (done_as (step (but_for c cache busy moved) (λ ls. first ++ (told ++ ls))) (but_for c cache busy moved) (but_for c cache busy moved) plan new.state outs (λ ls. first ++ ls) (p cache busy moved first) s refl o),
 )
 
-pub plan_taken : (step : ClientState → (List Line → List Line) → Step ClientState) (other : ℕ → Step ClientState) (told : List Line) (c : ClientState) (plan : Plan) (old new : NodeState ClientState) (outs : Outs) (cache : List CacheEntry) (busy : ℕ)
-    → PlansFor step told c plan → new.node ≡ old.node → new.state ≡ followed (but_for c cache busy) plan → outs ≡ outs_of plan → ((place : ℕ) → step (but_for c cache busy) (λ ls. lines.Given place ∷ (told ++ ls)) ≡ other place)
+pub plan_taken : (step : ClientState → (List Line → List Line) → Step ClientState) (other : ℕ → Step ClientState) (told : List Line) (c : ClientState) (plan : Plan) (old new : NodeState ClientState) (outs : Outs) (cache : List CacheEntry) (busy moved : ℕ)
+    → PlansFor step told c plan → new.node ≡ old.node → new.state ≡ followed (but_for c cache busy moved) plan → outs ≡ outs_of plan → ((place : ℕ) → step (but_for c cache busy moved) (λ ls. lines.Given place ∷ (told ++ ls)) ≡ other place)
     → (new.node ≡ old.node) × ((place : ℕ) → Makes (other place) new.state (λ ls. lines.Given place ∷ ls) outs)
-plan_taken step other told c plan old new outs cache busy p n s o same = (
+plan_taken step other told c plan old new outs cache busy moved p n s o same = (
   n,
   λ place. subst (λ (x : Step ClientState). Makes x new.state (λ ls. lines.Given place ∷ ls) outs) (same place)
-      (done_as (step (but_for c cache busy) (λ ls. lines.Given place ∷ (told ++ ls))) (but_for c cache busy) (but_for c cache busy) plan new.state outs (λ ls. lines.Given place ∷ ls) (p cache busy (lines.Given place ∷ [])) s refl o),
+      (done_as (step (but_for c cache busy moved) (λ ls. lines.Given place ∷ (told ++ ls))) (but_for c cache busy moved) (but_for c cache busy moved) plan new.state outs (λ ls. lines.Given place ∷ ls) (p cache busy moved (lines.Given place ∷ [])) s refl o),
 )
 
 -- entries were put, and nothing else was changed
 pub put_view : (seen old : NodeState ClientState) (k : Kept) (es : List CacheEntry) → seen ≡ old → k ≡ record { entries = put_entries seen.state.capacity es seen.state.cache; capacity = seen.state.capacity }
-    → record seen.state { cache = k.entries; capacity = k.capacity } ≡ but_for old.state (put_entries old.state.capacity es old.state.cache) old.state.busy
+    → record seen.state { cache = k.entries; capacity = k.capacity } ≡ but_for old.state (put_entries old.state.capacity es old.state.cache) old.state.busy old.state.moved
 put_view seen old k es v q =
     ap (λ (x : Kept). record seen.state { cache = x.entries; capacity = x.capacity }) q
-    ∙ ap (λ (s : NodeState ClientState). but_for s.state (put_entries s.state.capacity es s.state.cache) s.state.busy) v
+    ∙ ap (λ (s : NodeState ClientState). but_for s.state (put_entries s.state.capacity es s.state.cache) s.state.busy s.state.moved) v
 
 -- the walk of a way goes on with the cache that it leaves
-pub way_goes : (me : Node) (c : ClientState) (cache : List CacheEntry) (busy : ℕ) (w : Walked) (front : List Line → List Line) → cache ≡ w.cache → goes_on me (but_for c cache busy) front (over w cache) ≡ goes_on me (record c { busy = busy }) front w
-way_goes me c cache busy w front e = goes_in me c cache busy front (over w cache) ∙ ap (λ (es : List CacheEntry). goes_on me (record c { busy = busy }) front (over w es)) e
+pub way_goes : (me : Node) (c : ClientState) (cache : List CacheEntry) (busy moved : ℕ) (w : Walked) (front : List Line → List Line) → cache ≡ w.cache → goes_on me (but_for c cache busy moved) front (over w cache) ≡ goes_on me (record c { busy = busy; moved = moved }) front w
+way_goes me c cache busy moved w front e = goes_in me c cache busy moved front (over w cache) ∙ ap (λ (es : List CacheEntry). goes_on me (record c { busy = busy; moved = moved }) front (over w es)) e
 
 -- entries were used, and the act waited so often
-pub touch_view : (seen old : NodeState ClientState) (k : Kept) (fids : List Fid) (busy : ℕ) → seen ≡ old → k ≡ record { entries = touched_all fids seen.state.cache; capacity = seen.state.capacity }
-    → record seen.state { cache = k.entries; capacity = k.capacity; busy = busy } ≡ but_for old.state (touched_all fids old.state.cache) busy
-touch_view seen old k fids busy v q =
-    ap (λ (x : Kept). record seen.state { cache = x.entries; capacity = x.capacity; busy = busy }) q
-    ∙ ap (λ (s : NodeState ClientState). but_for s.state (touched_all fids s.state.cache) busy) v
+pub touch_view : (seen old : NodeState ClientState) (k : Kept) (fids : List Fid) (busy moved : ℕ) → seen ≡ old → k ≡ record { entries = touched_all fids seen.state.cache; capacity = seen.state.capacity }
+    → record seen.state { cache = k.entries; capacity = k.capacity; busy = busy; moved = moved } ≡ but_for old.state (touched_all fids old.state.cache) busy moved
+touch_view seen old k fids busy moved v q =
+    ap (λ (x : Kept). record seen.state { cache = x.entries; capacity = x.capacity; busy = busy; moved = moved }) q
+    ∙ ap (λ (s : NodeState ClientState). but_for s.state (touched_all fids s.state.cache) busy moved) v
 
 -- an entry was put, and then some were used
 pub used_view : (seen put old : NodeState ClientState) (k : Kept) (fids : List Fid) (cache : List CacheEntry) → seen ≡ put → put ≡ record old { state = record old.state { cache = cache } } → k ≡ record { entries = touched_all fids seen.state.cache; capacity = seen.state.capacity }

@@ -33,7 +33,7 @@ use Rattle.afs_history.specs.declared.lines.Outs.{Outs}
 use Rattle.afs_model.specs.Steps.{NodeState}
 use Rattle.afs_rows.specs.States.{CacheEntry, Gift}
 use Rattle.afs_rows.specs.Going.{ClientState, Going, next, with_read}
-use Rattle.afs_rows.specs.ClientRow.{answers_step, boot_of, booted, client_row, takes_in, tries_again, dead_code, gives_up, is_busy_code, left_in, most_busy, refuses, resends_step, takes_bytes, timeout_line, Look, Walked, awaits, behind_batch, body_told, call_by, call_of, calls_again, calls_step, counts, dropped, ends_step, entries_told, entry_told, given, gives_by, goes_on, ignores, is_awaited, is_older, is_spent, is_trusted, look_at, looked, most_reads, put_entries, put_entry, read_lines, refreshed, status_look, stays, status_told, takes, takes_bulk, takes_data, takes_entry, takes_given, takes_list, takes_entries, takes_plain, takes_rights, takes_set, takes_shown, takes_stored, walked, walks_on, with_statuses, zero_code}
+use Rattle.afs_rows.specs.ClientRow.{answers_step, awaits, behind_batch, body_told, booted, call_by, call_of, calls_again, calls_step, counts, dead_code, dropped, ends_step, entries_told, entry_told, given, gives_by, gives_up, goes_on, guest_row, ignores, is_awaited, is_busy_code, is_older, is_spent, is_trusted, left_in, Look, look_at, looked, most_busy, most_reads, put_entries, put_entry, read_lines, refreshed, refuses, refuses_for_good, resends_step, status_look, status_told, stays, takes, takes_bulk, takes_bytes, takes_data, takes_entries, takes_entry, takes_given, takes_in, takes_list, takes_plain, takes_rights, takes_set, takes_shown, takes_stored, timeout_line, tries_again, Walked, walked, walks_on, with_statuses, zero_code}
 use Rattle.afs_rows.specs.Steps.{Step}
 use Rattle.afs_rows.specs.Scopes.{is_in_scope}
 use Rattle.afs_acts.specs.Needs.{NeedsNoEntry}
@@ -42,7 +42,7 @@ use Rattle.afs_entries.specs.Cached.{drops_of, left}
 use Rattle.afs_entries.specs.declared.drops.Drops.{Drops}
 use Rattle.afs_cache.specs.Asking.{Asking, asking_of, gifts_of, running_of}
 use Rattle.afs_cache.specs.Acting.{but_for, changed_in, sent_to}
-use Rattle.afs_cache.specs.Managing.{Answers, by_act, by_call, given_up, Makes, rests, spent_by, Takes, times_out}
+use Rattle.afs_cache.specs.Managing.{Answers, by_act, by_call, given_up, Makes, rests, seek_times_out, spent_by, Takes, times_out}
 use Rattle.afs_cache.specs.Wanted.{awaited_by, body_wanted, bytes_stored, call_asked, counts_reply, holds_of, is_gift, rights_wanted, shows_rights, shows_status, shows_statuses, status_wanted, statuses_wanted, takes_fields, wanted_of}
 use Rattle.afs_cache.proofs.Answering.{boot_told_is, given_is, left_is, plain_as, takes_same}
 use Rattle.afs_cache.proofs.Dropping.{goes_front}
@@ -89,7 +89,7 @@ ends_alone me c cache place told code t = ap (λ (xs : List Line). ends_step me 
 pub gives_alone : (me : Node) (c : ClientState) (place : ℕ) (act : Going) (gifts : List Gift) (told : List Line) → told ≡ [] → gives_by me c (λ ls. lines.Given place ∷ (told ++ ls)) act gifts ≡ gives_by me c (given place) act gifts
 gives_alone me c place act gifts told t = ap (λ (xs : List Line). gives_by me c (λ ls. lines.Given place ∷ (xs ++ ls)) act gifts) t
 
-each_act : (c : ClientState) (place : ℕ) (step other : Going → Step ClientState) (running : Option Going) → ((act : Going) → step act ≡ other act) → by_act c place step running ≡ by_act c place other running
+pub each_act : (c : ClientState) (place : ℕ) (step other : Going → Step ClientState) (running : Option Going) → ((act : Going) → step act ≡ other act) → by_act c place step running ≡ by_act c place other running
 each_act c place step other None h = refl
 each_act c place step other (Some act) h = h act
 
@@ -390,11 +390,11 @@ pub holds_taken : {E : Type 0} (b : Bool) (f : FsCall → Bool) (c : ClientState
     → ((place : ℕ) (act : Going) → b ≡ f (call_of c act) → step place act (call_of c act) ≡ other place act (call_of c act)) → Takes (λ place. by_call c place (step place) c.running) old new r → Takes (λ place. by_call c place (other place) c.running) old new r
 holds_taken b f c step other old new r e h t = takes_same (λ place. by_call c place (step place) c.running) (λ place. by_call c place (other place) c.running) old new r (λ place. holds_as b f c place (step place) (other place) c.running e (h place)) t
 
-chosen_then : (b : Bool) (x y : Step ClientState) → true ≡ b → x ≡ cond b x y
+pub chosen_then : (b : Bool) (x y : Step ClientState) → true ≡ b → x ≡ cond b x y
 chosen_then true x y h = refl
 chosen_then false x y h = absurd cc
 
-chosen_else : (b : Bool) (x y : Step ClientState) → false ≡ b → y ≡ cond b x y
+pub chosen_else : (b : Bool) (x y : Step ClientState) → false ≡ b → y ≡ cond b x y
 chosen_else true x y h = absurd cc
 chosen_else false x y h = refl
 
@@ -478,7 +478,7 @@ plain_taken me c place a told d call run t h e =
 
 -- a trusted entry is as the store left it
 pub stored_taken : (me : Node) (c : ClientState) (clock place : ℕ) (told : List Line) (fid : Fid) (index : ℕ) (shown status : ReadStatus) (made : Option Body → Option Body) → told ≡ [] → shown ≡ status
-    → ends_step me (but_for c (map (refreshed clock fid index shown made) c.cache) c.busy) (map (refreshed clock fid index shown made) c.cache) (λ ls. lines.Given place ∷ (told ++ ls)) zero_code ≡ takes_stored me c clock place fid index status made
+    → ends_step me (but_for c (map (refreshed clock fid index shown made) c.cache) c.busy c.moved) (map (refreshed clock fid index shown made) c.cache) (λ ls. lines.Given place ∷ (told ++ ls)) zero_code ≡ takes_stored me c clock place fid index status made
 stored_taken me c clock place told fid index shown status made t e =
     ends_alone me c (map (refreshed clock fid index shown made) c.cache) place told zero_code t ∙ ap (λ (x : ReadStatus). takes_stored me c clock place fid index x made) e
 
@@ -579,13 +579,14 @@ pub later_taken : {E : Type 0} (me : Node) (c : ClientState) (code : Code) (old 
 later_taken me c code old new r e t =
     takes_same (λ place. by_act c place (calls_again me (record c { busy = c.busy + 1 }) place) c.running) (λ place. by_act c place (λ act. refuses me c place act code) c.running) old new r
     (λ place. each_act c place (calls_again me (record c { busy = c.busy + 1 }) place) (λ act. refuses me c place act code) c.running
-    (λ act. chosen_then (is_busy_code code && nat_lt c.busy most_busy) (calls_again me (record c { busy = c.busy + 1 }) place act) (answers_step me c place code) e)) t
+    (λ act. chosen_then (is_busy_code code && nat_lt c.busy most_busy) (calls_again me (record c { busy = c.busy + 1 }) place act) (refuses_for_good me c place act code) e)) t
 
-pub refused_taken : {E : Type 0} (me : Node) (c : ClientState) (a : Asking) (code : Code) (old new : NodeState ClientState) (r : Result Outs E) → Some a ≡ asking_of c.running c.gifts → false ≡ (is_busy_code code && nat_lt c.busy most_busy)
-    → Takes (λ place. answers_step me c place code) old new r → Takes (λ place. by_act c place (λ act. refuses me c place act code) c.running) old new r
-refused_taken me c a code old new r run e t =
-    takes_same (λ place. answers_step me c place code) (λ place. by_act c place (λ act. refuses me c place act code) c.running) old new r
-    (λ place. chosen_else (is_busy_code code && nat_lt c.busy most_busy) (calls_again me (record c { busy = c.busy + 1 }) place a.going) (answers_step me c place code) e ∙ with_act c place a (λ act. refuses me c place act code) run) t
+pub refused_taken : {E : Type 0} (me : Node) (c : ClientState) (code : Code) (old new : NodeState ClientState) (r : Result Outs E) → false ≡ (is_busy_code code && nat_lt c.busy most_busy)
+    → Takes (λ place. by_act c place (λ act. refuses_for_good me c place act code) c.running) old new r → Takes (λ place. by_act c place (λ act. refuses me c place act code) c.running) old new r
+refused_taken me c code old new r e t =
+    takes_same (λ place. by_act c place (λ act. refuses_for_good me c place act code) c.running) (λ place. by_act c place (λ act. refuses me c place act code) c.running) old new r
+    (λ place. each_act c place (λ act. refuses_for_good me c place act code) (λ act. refuses me c place act code) c.running
+    (λ act. chosen_else (is_busy_code code && nat_lt c.busy most_busy) (calls_again me (record c { busy = c.busy + 1 }) place act) (refuses_for_good me c place act code) e)) t
 
 -- ---- a notice
 
@@ -620,31 +621,18 @@ gives_up_as me c a told d call run t q e =
 
 -- ---- a timeout
 
-pub tried_again : (me : Node) (c : ClientState) (a : Asking) (old new : NodeState ClientState) (outs : Outs) → Some a ≡ asking_of c.running c.gifts → true ≡ nat_lt c.tries 2 → new.node ≡ old.node → new.state ≡ record c { tries = c.tries + 1 } → outs.lines ≡ timeout_line me c (c.tries + 1) ∷ []
-    → parcels_read outs.parcels ≡ messages_spelled (sent_to me c c.last c.callee (boot_of c.callee c.boots) (call_by a.gifts (next a.going)) ∷ []) → (new.node ≡ old.node) × Makes (times_out me c c.running) new.state (λ ls. ls) outs
-tried_again me c a old new outs run b n s l p = (
-  n,
-  subst (λ (x : Step ClientState). Makes x new.state (λ ls. ls) outs)
-      (chosen_then (nat_lt c.tries 2) (tries_again me c a.going) (gives_up me c (call_of c a.going)) b ∙ ap (times_out me c) (sym (running_is c.running c.gifts a run))) (record {
-        state = s;
-        lines = l;
-        sent = p ∙ ap (λ (gs : List Gift). messages_spelled (sent_to me c c.last c.callee (boot_of c.callee c.boots) (call_by gs (next a.going)) ∷ [])) (gifts_is c.running c.gifts a run);
-      }),
-)
-
 pub tried_enough : {E : Type 0} (me : Node) (c : ClientState) (a : Asking) (old new : NodeState ClientState) (r : Result Outs E) → Some a ≡ asking_of c.running c.gifts → false ≡ nat_lt c.tries 2 → Answers (given_up me c c.running) old new r → Answers (times_out me c c.running) old new r
 tried_enough me c a old new r run b h =
     answers_same (given_up me c c.running) (times_out me c c.running) old new r
     (ap (given_up me c) (running_is c.running c.gifts a run) ∙ (chosen_else (nat_lt c.tries 2) (tries_again me c a.going) (gives_up me c (call_of c a.going)) b ∙ ap (times_out me c) (sym (running_is c.running c.gifts a run)))) h
 
-pub idle_timed : {E : Type 0} (me : Node) (c : ClientState) (old new : NodeState ClientState) (r : Result Outs E) → None ≡ asking_of c.running c.gifts → Answers (rests c) old new r → Answers (times_out me c c.running) old new r
-idle_timed me c old new r e h = answers_same (rests c) (times_out me c c.running) old new r (ap (times_out me c) (sym (idle_is c.running c.gifts e))) h
+pub idle_timed : {E : Type 0} (me : Node) (c : ClientState) (old new : NodeState ClientState) (r : Result Outs E) → None ≡ asking_of c.running c.gifts → Answers (seek_times_out me c c.seeking) old new r → Answers (times_out me c c.running) old new r
+idle_timed me c old new r e h = answers_same (seek_times_out me c c.seeking) (times_out me c c.running) old new r (ap (times_out me c) (sym (idle_is c.running c.gifts e))) h
 
 -- ---- a message
 
-pub heard : {E : Type 0} (me : Node) (c : ClientState) (clock : ℕ) (x received : Received) (old new : NodeState ClientState) (r : Result Outs E) → x ≡ received → Takes (λ place. takes_in me c clock place x) old new r → Takes (λ place. client_row me c clock place received) old new r
-unfolding client_row
-heard me c clock x received old new r e t = subst (λ (y : Received). Takes (λ (place : ℕ). takes_in me c clock place y) old new r) e t
+pub heard : {E : Type 0} (me : Node) (c : ClientState) (clock : ℕ) (x received : Received) (old new : NodeState ClientState) (r : Result Outs E) → x ≡ received → Takes (λ place. guest_row me c clock place x) old new r → Takes (λ place. guest_row me c clock place received) old new r
+heard me c clock x received old new r e t = subst (λ (y : Received). Takes (λ (place : ℕ). guest_row me c clock place y) old new r) e t
 
 -- ---- replies of calls that show nothing
 

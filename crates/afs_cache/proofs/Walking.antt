@@ -85,6 +85,7 @@ turn_is more clock act cache (going.reads_statuses fs) = refl
 turn_is more clock act cache (going.reads_rights f) = refl
 turn_is more clock act cache (going.asks_for c) = refl
 turn_is more clock act cache going.gives_back = refl
+turn_is more clock act cache (going.locates o) = refl
 turn_is more clock act cache (going.answers n) = refl
 
 comes : (left clock : ℕ) (cache : List CacheEntry) (w : program.Walked) (o : Option Look) → found_by clock cache (next w.going) ≡ o → comes_to (suc left) clock cache w ≡ turned (walked left clock) w.going (touched_all w.used.items cache) o

@@ -8,13 +8,15 @@ use Rattle.afs_num.specs.declared.types.Node.TheVariants as nodes
 use Rattle.afs_num.specs.declared.calls.FsCall.{FsCall}
 use Rattle.afs_num.specs.declared.messages.Call.TheVariants as ask
 use Rattle.afs_num.specs.declared.messages.Message.{Message}
+use Rattle.afs_history.specs.declared.acts.Operand.{Operand}
 use Rattle.afs_history.specs.declared.lines.Line.{Line}
 use Rattle.afs_history.specs.declared.lines.Outs.{Outs}
+use Rattle.afs_model.specs.CellRows as cell_rows
 use Rattle.afs_model.specs.FsRows.{call_number}
 use Rattle.afs_model.specs.Messages.{parcels_read, messages_spelled}
 use Rattle.afs_rows.specs.States.{CacheEntry, Gift, Location}
-use Rattle.afs_rows.specs.Going.{ClientState, Going, next}
-use Rattle.afs_rows.specs.ClientRow.{Walked, boot_of, call_by, drop_line, first_server_of, goes_on, most_reads, server_at, volume_asked, walked}
+use Rattle.afs_rows.specs.Going.{ClientState, Going, next, operand_in}
+use Rattle.afs_rows.specs.ClientRow.{Walked, boot_of, call_by, drop_line, first_server_of, goes_on, most_reads, question, server_for, volume_asked, walked}
 use Rattle.afs_rows.specs.Steps.{Step}
 use Rattle.afs_entries.specs.Cached.{in_sight, left, listed, touched_all, unlisted}
 use Rattle.afs_entries.specs.declared.cache.Fresh.{Fresh}
@@ -26,6 +28,7 @@ use Rattle.afs_cache.specs.declared.acting.Asks.{Asks}
 use Rattle.afs_cache.specs.declared.acting.Dropping.{Dropping}
 use Rattle.afs_cache.specs.declared.acting.Plan.{Plan}
 use Rattle.afs_cache.specs.declared.acting.Plan.TheVariants as plans
+use Rattle.afs_cache.specs.declared.acting.Seeks.{Seeks}
 use Rattle.afs_cache.specs.declared.acting.Way.{Way}
 
 -- ---- a call
@@ -33,54 +36,69 @@ use Rattle.afs_cache.specs.declared.acting.Way.{Way}
 abbrev pub head_of : Node → ℕ → ℕ → Node → ℕ → FsCall → Head
 head_of me epoch number callee boot call = record { half = halves.Call; from = me; to = callee; epoch = epoch; number = number; boot = boot; stamp = 0; opcode = call_number call }
 
+abbrev pub question_head : Node → ℕ → ℕ → ℕ → Operand → Head
+question_head me epoch number boot o =
+    record { half = halves.Call; from = me; to = nodes.Loc; epoch = epoch; number = number; boot = boot; stamp = 0; opcode = cell_rows.call_number (ask.Location (question o)) }
+
 -- the call under this number to this callee, in its boot
 abbrev pub sent_to : Node → ClientState → ℕ → Node → ℕ → FsCall → Message
 sent_to me c number callee boot call = calling (head_of me c.epoch number callee boot call) c.user (ask.File call)
 
-abbrev pub called_by : Bool → List Location → List Gift → FsCall → Node
-called_by true table gifts call = first_server_of gifts
-called_by false table gifts call = nodes.Server (server_at table (volume_asked call))
+abbrev pub called_by : Bool → List Location → Going → List Gift → FsCall → Node
+called_by true table act gifts call = first_server_of gifts
+called_by false table act gifts call = nodes.Server (server_for table (operand_in act (volume_asked call)))
 
 -- an act has asked for what it needs, and told these lines
 pub record IsAsking (me : Node) (c : ClientState) (act : Going) (given : List Gift) (told : List Line) (a : Asks) : Type 0 where
   pub going : a.asked.going ≡ act
   pub gifts : a.asked.gifts ≡ given
-  pub callee : a.callee ≡ called_by (is_giving (next act)) c.table given (call_by given (next act))
+  pub callee : a.callee ≡ called_by (is_giving (next act)) c.table act given (call_by given (next act))
   pub node : IsNode a.callee
   pub lines : a.outs.lines ≡ told
   pub sent : parcels_read a.outs.parcels ≡ messages_spelled (sent_to me c (c.last + 1) a.callee (boot_of a.callee c.boots) (call_by given (next act)) ∷ [])
 
+-- the question for this operand under this number, in this boot of the location database
+abbrev pub sought_from : Node → ClientState → ℕ → ℕ → Operand → Message
+sought_from me c number boot o = calling (question_head me c.epoch number boot o) c.user (ask.Location (question o))
+
 -- ---- plans
 
 abbrev pub waiting : ClientState → Asks → ClientState
-waiting c a = record c { last = c.last + 1; tries = 0; running = Some a.asked.going; callee = a.callee; spoiled = false; gifts = a.asked.gifts }
+waiting c a = record c { last = c.last + 1; tries = 0; running = Some a.asked.going; callee = a.callee; spoiled = false; gifts = a.asked.gifts; seeking = None }
+
+abbrev pub sought : ClientState → Seeks → ClientState
+sought c s = record c { last = c.last + 1; tries = 0; running = None; callee = nodes.Loc; spoiled = false; gifts = []; seeking = Some s.seeking }
 
 -- the state in which a plan leaves the client, and what is given out
 abbrev pub followed : ClientState → Plan → ClientState
-followed c (plans.Ends outs) = record c { running = None; gifts = [] }
+followed c (plans.Ends outs) = record c { running = None; gifts = []; seeking = None }
 followed c (plans.Asks asks) = waiting c asks
+followed c (plans.Seeks seeks) = sought c seeks
 
 abbrev pub outs_of : Plan → Outs
 outs_of (plans.Ends outs) = outs
 outs_of (plans.Asks asks) = asks.outs
+outs_of (plans.Seeks seeks) = seeks.outs
 
 -- a call is for a node, and has a number behind the last one
 abbrev pub CanFollow : ℕ → Plan → Type 0
 CanFollow last (plans.Ends outs) = Unit {0}
 CanFollow last (plans.Asks asks) = IsNode asks.callee × (last < number_limit)
+CanFollow last (plans.Seeks seeks) = last < number_limit
 
 -- the entries of the volume that a call may change
 abbrev pub changed_in : Option ℕ → Drops
 changed_in None = drops.Nothing
 changed_in (Some volume) = drops.Volume volume
 
--- the client as it is but for its cache, and for how often the act was told to wait
-abbrev pub but_for : ClientState → List CacheEntry → ℕ → ClientState
-but_for c cache busy = record c { cache = cache; busy = busy }
+-- the client as it is but for its cache, and for how often the act was told to wait, and asked where a volume went
+abbrev pub but_for : ClientState → List CacheEntry → ℕ → ℕ → ClientState
+but_for c cache busy moved = record c { cache = cache; busy = busy; moved = moved }
 
 -- a plan for this step behind lines that were told before, whatever the cache is by then
 abbrev pub PlansFor : (ClientState → (List Line → List Line) → Step ClientState) → List Line → ClientState → Plan → Type 0
-PlansFor step told c plan = (cache : List CacheEntry) (busy : ℕ) (first : List Line) → Makes (step (but_for c cache busy) (λ ls. first ++ (told ++ ls))) (followed (but_for c cache busy) plan) (λ ls. first ++ ls) (outs_of plan)
+PlansFor step told c plan =
+    (cache : List CacheEntry) (busy moved : ℕ) (first : List Line) → Makes (step (but_for c cache busy moved) (λ ls. first ++ (told ++ ls))) (followed (but_for c cache busy moved) plan) (λ ls. first ++ ls) (outs_of plan)
 
 -- where an act came along its walk from the cache, with another cache
 abbrev pub over : Walked → List CacheEntry → Walked

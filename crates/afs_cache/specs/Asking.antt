@@ -1,5 +1,5 @@
 -- The act that runs at a client, and its call, as the program keeps them.
-use Rattle.std.specs.Prelude.{◌≡◌, ◌≤◌, ℕ, Bool, true, false, List, [], length, Option, Some, None, pos}
+use Rattle.std.specs.Prelude.{◌≡◌, ◌≤◌, ℕ, Bool, true, false, List, [], length, Option, Some, None, Result, Ok, Err, pos}
 use Rattle.std.specs.List.{All}
 use Rattle.afs_num.specs.Nodes.{IsNode}
 use Rattle.afs_num.specs.declared.types.Code.{Code}
@@ -10,10 +10,13 @@ use Rattle.afs_num.specs.declared.messages.Call.TheVariants as ask
 use Rattle.afs_num.specs.declared.messages.Carried.TheVariants as carried
 use Rattle.afs_num.specs.declared.messages.Message.{Message}
 use Rattle.afs_model.specs.Heads.{user_limit}
-use Rattle.afs_rows.specs.Going.{Going, Need, answers, gives_back, next}
+use Rattle.afs_rows.specs.Going.{Going, Need, answers, gives_back, locates, next}
 use Rattle.afs_rows.specs.States.{Gift}
-use Rattle.afs_rows.specs.ClientRow.{call_by}
-use Rattle.afs_acts.specs.Acts.{IsShortAct}
+use Rattle.afs_rows.specs.ClientRow.{call_by, question}
+use Rattle.afs_history.specs.declared.acts.Operand.{Operand}
+use Rattle.afs_acts.specs.Acts.{IsShortAct, IsShortOperand}
+use Rattle.afs_acts.specs.Walks.{need_of}
+use Rattle.afs_acts.specs.declared.types.Need as needs
 
 abbrev pub calling : Head → List ℕ → Call → Message
 calling head user call = record { head = head; carried = carried.Call user call }
@@ -35,12 +38,28 @@ abbrev pub code_of : Need → Option Code
 code_of (answers n) = Some (record { 0 = pos n })
 code_of need = None
 
+-- the operand whose volume must be asked for
+abbrev pub operand_of : Need → Option Operand
+operand_of (locates o) = Some o
+operand_of need = None
+
+-- the need is to ask for this operand's volume, or is another one
+abbrev pub Parts : Need → Result Operand needs.Need → Type 0
+Parts need (Ok o) = need ≡ locates o
+Parts need (Err other) = (need_of other ≡ need) × (operand_of need ≡ None)
+
 -- the call is the one for what it needs
 pub record IsAsked (going : Going) (gifts : List Gift) (call : Call) (giving : Bool) : Type 0 where
   pub short : IsShortAct going.act
   pub nodes : All IsGift gifts
   pub is : call ≡ ask.File (call_by gifts (next going))
   pub gives : giving ≡ is_giving (next going)
+
+-- the call of an act that waits for the location database is the question for its operand
+pub record IsSeeking (going : Going) (o : Operand) (call : Call) : Type 0 where
+  pub short : IsShortAct going.act
+  pub operand : IsShortOperand o
+  pub is : call ≡ ask.Location (question o)
 
 abbrev pub running_of : Option Asking → Option Going
 running_of None = None

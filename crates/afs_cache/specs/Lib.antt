@@ -6,3 +6,4 @@ pub mod Serving
 pub mod Telling
 pub mod Wanted
 pub mod Lasting
+pub mod Locating

@@ -8,10 +8,12 @@ use Rattle.afs_num.specs.declared.types.Key.{Key}
 use Rattle.afs_num.specs.declared.calls.FsCall.{FsCall}
 use Rattle.afs_num.specs.declared.calls.FsReply.{FsReply}
 use Rattle.afs_num.specs.declared.types.Code.{Code}
+use Rattle.afs_num.specs.declared.types.Head.{Head}
+use Rattle.afs_num.specs.declared.messages.Carried.{Carried}
 use Rattle.afs_model.specs.Messages.{parcels_read, messages_spelled}
 use Rattle.afs_model.specs.Steps.{NodeState}
-use Rattle.afs_rows.specs.Going.{ClientState, Going}
-use Rattle.afs_rows.specs.ClientRow.{call_of, calls_again, gives_up, ignores, is_spent, refuses, takes, timeout_row}
+use Rattle.afs_rows.specs.Going.{ClientState, Going, Seek}
+use Rattle.afs_rows.specs.ClientRow.{act_of, call_of, calls_again, gives_up, ignores, is_sought, is_spent, refuses, seek_timeout_row, takes, timeout_row}
 use Rattle.afs_rows.specs.Steps.{Step}
 
 -- the new state and what is given out are those of this step
@@ -66,12 +68,21 @@ waits_by me c None = None
 waits_by me c (Some act) = Some (c.callee, record { node = me; epoch = c.epoch; number = c.last })
 
 abbrev pub waits : NodeState ClientState → Option (Node × Key)
-waits c = waits_by c.node c.state c.state.running
+waits c = waits_by c.node c.state (act_of c.state)
 
--- the step of a timeout; one is told only while a call waits
+-- the step of a timeout, by the act that runs or else by the one that waits for the location database; one is told only while a call waits
+abbrev pub seek_times_out : Node → ClientState → Option Seek → Step ClientState
+seek_times_out me c None = rests c
+seek_times_out me c (Some k) = seek_timeout_row me c k
+
 abbrev pub times_out : Node → ClientState → Option Going → Step ClientState
-times_out me c None = rests c
+times_out me c None = seek_times_out me c c.seeking
 times_out me c (Some act) = timeout_row me c act
+
+-- whether it is what the act waits for that asked where a volume is
+abbrev pub sought_by_head : Node → ClientState → Head → Carried → Option Seek → Bool
+sought_by_head me c head x None = false
+sought_by_head me c head x (Some k) = is_sought me c k head x
 
 -- the call that waits is given up
 abbrev pub given_up : Node → ClientState → Option Going → Step ClientState

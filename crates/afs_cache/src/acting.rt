@@ -2,7 +2,7 @@
 //!
 //! What a step does is planned first, while the client is as it was; what changes then takes no memory.
 
-ghost use Rattle.std.specs.Prelude.{◌≡◌, ◌+◌, ◌<◌, ◌^◌, [], ◌++◌, ◌∷◌, map, Some, IfOk, OnErr, OnOk};
+ghost use Rattle.std.specs.Prelude.{◌≡◌, ◌+◌, ◌<◌, ◌^◌, [], ◌++◌, ◌∷◌, map, None, Some, IfOk, OnErr, OnOk};
 ghost use Rattle.std.specs.List.{All};
 ghost use Rattle.std.specs.Option.{option_copied};
 ghost use Rattle.afs_num.specs.Nodes.{IsNode};
@@ -13,16 +13,17 @@ ghost use Rattle.afs_history.specs.declared.lines.Line.TheVariants as told;
 ghost use Rattle.afs_acts.specs.Acts.{IsShortAct};
 ghost use Rattle.afs_acts.specs.Walks.{need_of};
 ghost use Rattle.afs_entries.specs.Cached.{entry_of, HasBody, touched_all};
-ghost use Rattle.afs_cache.specs.Asking.{asking_of, IsGift, is_giving};
+ghost use Rattle.afs_cache.specs.Asking.{asking_of, code_of, IsGift, is_giving};
 ghost use Rattle.afs_cache.specs.Acting.{called_by, CanFollow, followed, head_of, IsAsking, IsDropping, IsWay, outs_of, PlansFor, seen_with, sent_to, whole_walk};
 ghost use Rattle.afs_cache.specs.Managing.{Answers, Goes, number_limit};
 
-use crate::asked::{Asked, code_in, is_giving};
+use crate::asked::{Asked, code_in, into_operand, is_giving};
 use crate::boots::boot_of;
 use crate::looks::{Walked, walk};
 use crate::messages::{outs_calling, quiet};
 use crate::node::CacheManager;
-use afs_acts::{Going, Need, copy_act, next, opcode, server_at, volume_asked};
+use crate::seeking::Seeking;
+use afs_acts::{Going, Need, copy_act, next, opcode};
 use afs_entries::{Drops, Fresh, Gift, Sight, first_server_of, in_order};
 use afs_history::acts::{Act, SharedAct};
 use afs_history::lines::{Line, Lines, Outs};
@@ -38,11 +39,19 @@ pub struct Asks {
     pub outs: Outs,
 }
 
-/// What an act does next: it is answered, or asks.
+/// What an act asks of the location database.
+#[derive(Drop)]
+pub struct Seeks {
+    pub seeking: Seeking,
+    pub outs: Outs,
+}
+
+/// What an act does next: it is answered, or asks, or asks where a volume is.
 #[derive(Drop)]
 pub enum Plan {
     Ends(Outs),
     Asks(Asks),
+    Seeks(Seeks),
 }
 
 /// What an act does as far as the cache shows what it needs: these entries are used, and then it goes on.
@@ -123,13 +132,13 @@ impl CacheManager {
 
     /// Whom an act asks.
     fn callee(&self, asked: &Asked) -> Node
-        ensures value { result ≡ called_by (is_giving (next asked.now.going)) self.now.state.table asked.now.gifts (call_by asked.now.gifts (next asked.now.going)) }
+        ensures value { result ≡ called_by (is_giving (next asked.now.going)) self.now.state.table asked.now.going asked.now.gifts (call_by asked.now.gifts (next asked.now.going)) }
         ensures node { IsNode result }
     {
         if asked.gives_back() {
             first_server_of(asked.gifts())
         } else {
-            Node::Server(server_at(&self.table, volume_asked(asked.file_call())))
+            Node::Server(asked.server(&self.table))
         }
     }
 
@@ -145,7 +154,7 @@ impl CacheManager {
     }
 
     /// Behind these lines an act asks what it needs.
-    fn asks(&self, going: Going, need: Need, gifts: Vec<Gift>, lines: Lines) -> Mem<Asks>
+    pub(crate) fn asks(&self, going: Going, need: Need, gifts: Vec<Gift>, lines: Lines) -> Mem<Asks>
         requires short { IsShortAct going.act }
         requires need { need_of need ≡ next going }
         requires nodes { All IsGift gifts.items }
@@ -201,7 +210,7 @@ impl CacheManager {
     }
 
     /// What the act that runs gives back still.
-    fn copy_gifts(&self) -> Mem<Vec<Gift>>
+    pub(crate) fn copy_gifts(&self) -> Mem<Vec<Gift>>
         ensures value { IfOk result (λ gs. gs.items ≡ self.now.state.gifts) }
         ensures nodes { IfOk result (λ gs. All IsGift gs.items) }
     {
@@ -223,7 +232,22 @@ impl CacheManager {
         self.plan_call(going, need, gifts, lines)
     }
 
-    /// Behind these lines an act has come so far: it is answered, or asks.
+    /// Behind these lines an act asks, or asks where a volume is.
+    fn plan_on(&self, going: Going, need: Need, lines: Lines) -> Mem<Plan>
+        requires short { IsShortAct going.act }
+        requires need { need_of need ≡ next going }
+        requires none { code_of (need_of need) ≡ None }
+        requires last { self.now.state.last < number_limit }
+        ensures plan { IfOk result (λ p. PlansFor (λ d front. goes_on self.now.node d front (stays going d.cache)) lines self.now.state p) }
+        ensures follows { IfOk result (CanFollow self.now.state.last) }
+    {
+        match into_operand(need) {
+            Ok(operand) => self.plan_seeking(going, operand, None, lines),
+            Err(need) => self.plan_next(going, need, lines),
+        }
+    }
+
+    /// Behind these lines an act has come so far: it is answered, or asks, or asks where a volume is.
     fn plan_by(&self, going: Going, need: Need, lines: Lines) -> Mem<Plan>
         requires short { IsShortAct going.act }
         requires need { need_of need ≡ next going }
@@ -233,7 +257,7 @@ impl CacheManager {
     {
         match code_in(&need) {
             Some(code) => self.plan_ending(code, lines),
-            None => self.plan_next(going, need, lines),
+            None => self.plan_on(going, need, lines),
         }
     }
 
@@ -290,6 +314,22 @@ impl CacheManager {
         self.calls.start(callee);
         self.spoiled = false;
         self.asked = Some(asked);
+        self.seeking = None;
+        outs
+    }
+
+    /// The act waits for the location database.
+    fn wait_seeking(&mut self, seeks: Seeks) -> Outs
+        requires { self.old.state.last < number_limit }
+        ensures outs { result ≡ seeks.outs }
+        ensures node { self.new.node ≡ self.old.node }
+        ensures state { self.new.state ≡ followed self.old.state (Plan.Seeks seeks) }
+    {
+        let Seeks { seeking, outs } = seeks;
+        self.calls.start(Node::Loc);
+        self.spoiled = false;
+        self.asked = None;
+        self.seeking = Some(seeking);
         outs
     }
 
@@ -303,9 +343,11 @@ impl CacheManager {
         match plan {
             Plan::Ends(outs) => {
                 self.asked = None;
+                self.seeking = None;
                 outs
             }
             Plan::Asks(asks) => self.wait(asks),
+            Plan::Seeks(seeks) => self.wait_seeking(seeks),
         }
     }
 
@@ -342,11 +384,24 @@ impl CacheManager {
         requires short { IsShortAct going.act }
         requires need { need_of need ≡ next going }
         requires last { self.old.state.last < number_limit }
-        ensures { Goes (λ front. walks_on self.old.node (record self.old.state { busy = 0 }) now front going self.old.state.cache) lines self.old self.new result }
+        ensures { Goes (λ front. walks_on self.old.node (record self.old.state { busy = 0; moved = 0 }) now front going self.old.state.cache) lines self.old self.new result }
     {
         let Way { used, plan } = self.way(None, going, need, lines, now)?;
         self.cache.touch_all(&used);
         self.busy = 0;
+        self.moved = 0;
+        Ok(self.follow(plan))
+    }
+
+    /// An act walks on, behind these lines.
+    pub(crate) fn walk_on(&mut self, going: Going, need: Need, lines: Lines, now: u32) -> Mem<Outs>
+        requires short { IsShortAct going.act }
+        requires need { need_of need ≡ next going }
+        requires last { self.old.state.last < number_limit }
+        ensures { Goes (λ front. walks_on self.old.node self.old.state now front going self.old.state.cache) lines self.old self.new result }
+    {
+        let Way { used, plan } = self.way(None, going, need, lines, now)?;
+        self.cache.touch_all(&used);
         Ok(self.follow(plan))
     }
 
@@ -435,13 +490,14 @@ impl CacheManager {
     fn begin_giving(&mut self, going: Going, lines: Lines, now: u32) -> Mem<Outs>
         requires short { IsShortAct going.act }
         requires last { self.old.state.last < number_limit }
-        ensures { Goes (λ front. gives_all self.old.node (record self.old.state { busy = 0 }) now going front) lines self.old self.new result }
+        ensures { Goes (λ front. gives_all self.old.node (record self.old.state { busy = 0; moved = 0 }) now going front) lines self.old self.new result }
     {
         let gifts = self.promised(now)?;
         let Dropping { fids, lines } = self.dropping(&Drops::Trusted(now), lines)?;
         let plan = self.plan_giving(going, gifts, lines)?;
         self.cache.drop_all(&fids);
         self.busy = 0;
+        self.moved = 0;
         Ok(self.follow(plan))
     }
 
@@ -470,7 +526,7 @@ impl CacheManager {
     fn begin_going(&mut self, going: Going, lines: Lines, now: u32) -> Mem<Outs>
         requires short { IsShortAct going.act }
         requires last { self.old.state.last < number_limit }
-        ensures { Goes (λ front. begins_by self.old.node (record self.old.state { busy = 0 }) now front going (next going)) lines self.old self.new result }
+        ensures { Goes (λ front. begins_by self.old.node (record self.old.state { busy = 0; moved = 0 }) now front going (next going)) lines self.old self.new result }
     {
         let need = next(self.alloc, &going)?;
         let gives = is_giving(&need);

@@ -4,18 +4,20 @@ ghost use Rattle.std.specs.Prelude.{◌≡◌, IfOk};
 ghost use Rattle.std.specs.List.{All};
 ghost use Rattle.afs_model.specs.CellRows.{cell_calls};
 ghost use Rattle.afs_shape.specs.Rows.{IsWithin};
-ghost use Rattle.afs_rows.specs.ClientRow.{behind_batch, call_by};
-ghost use Rattle.afs_rows.specs.Going.{next};
-ghost use Rattle.afs_acts.specs.Acts.{FitsNeed, IsShortAct};
+ghost use Rattle.afs_num.specs.Nodes.{IsNode};
+ghost use Rattle.afs_rows.specs.ClientRow.{behind_batch, call_by, server_for, volume_asked};
+ghost use Rattle.afs_rows.specs.Going.{next, operand_in};
+ghost use Rattle.afs_acts.specs.Acts.{FitsNeed, IsShortAct, IsShortIfAny};
 ghost use Rattle.afs_acts.specs.Walks.{need_of};
-ghost use Rattle.afs_cache.specs.Asking.{code_of, IsGift, is_giving};
+ghost use Rattle.afs_cache.specs.Asking.{code_of, IsGift, is_giving, Parts};
 ghost use Rattle.afs_num.specs.declared.messages.Call.TheVariants as ask;
 
-use afs_acts::{Going, Need};
+use afs_acts::{Going, Location, Need, volume_asked};
 use afs_entries::{Gift, batch_len, copy_gifts, gift_batch, gift_call};
+use afs_history::acts::Operand;
 use afs_num::calls::FsCall;
 use afs_num::messages::Call;
-use afs_num::types::{Code, Mem};
+use afs_num::types::{Code, Mem, Node};
 use std::alloc::Global;
 use std::marker::Model;
 
@@ -63,6 +65,16 @@ pub fn is_giving(need: &Need) -> bool
     matches!(need, Need::GiveBack)
 }
 
+/// The operand whose volume must be asked for, or what else is needed.
+pub fn into_operand(need: Need) -> Result<Operand, Need>
+    ensures { Parts (need_of need) result }
+{
+    match need {
+        Need::Locate(operand) => Ok(Box::into_inner(operand)),
+        need => Err(need),
+    }
+}
+
 /// The call for a need.
 fn call_for(alloc: Global, need: Need, gifts: &[Gift]) -> Mem<FsCall>
     ensures { IfOk result (λ c. c ≡ call_by gifts.now (need_of need)) }
@@ -78,6 +90,7 @@ fn call_for(alloc: Global, need: Need, gifts: &[Gift]) -> Mem<FsCall>
         Need::Rights(fid) => Ok(FsCall::FetchAcl { fid }),
         Need::Call(call) => Ok(Box::into_inner(call)),
         Need::GiveBack => gift_call(alloc, gift_batch(gifts)),
+        Need::Locate(_) => Ok(FsCall::GetTime),
         Need::Answer(_) => Ok(FsCall::GetTime),
     }
 }
@@ -108,6 +121,25 @@ impl Asked {
         ensures { result ≡ is_giving (next self.now.going) }
     {
         self.held.gives_back
+    }
+
+    /// The server that it asks where it doesn't give promises back.
+    pub fn server(&self, table: &[Location]) -> u8
+        ensures value { result ≡ server_for table.now (operand_in self.now.going (volume_asked (call_by self.now.gifts (next self.now.going)))) }
+        ensures node { IsNode (Node.Server result) }
+    {
+        self.held
+            .going
+            .server_in(table, volume_asked(self.file_call()))
+    }
+
+    /// A copy of the operand in whose volume it calls.
+    pub fn operand(&self, alloc: Global) -> Mem<Option<Operand>>
+        ensures value { IfOk result (λ o. o ≡ operand_in self.now.going (volume_asked (call_by self.now.gifts (next self.now.going)))) }
+        ensures short { IsShortIfAny (operand_in self.now.going (volume_asked (call_by self.now.gifts (next self.now.going)))) }
+    {
+        let volume = volume_asked(self.file_call());
+        self.held.going.operand_in(alloc, volume)
     }
 
     /// A copy of the act, and of what it has read.

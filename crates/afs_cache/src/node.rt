@@ -6,7 +6,7 @@ ghost use Rattle.afs_num.specs.Nodes.{IsNode};
 ghost use Rattle.afs_model.specs.CellRows.{client_calls};
 ghost use Rattle.afs_model.specs.Heads.{user_limit};
 ghost use Rattle.afs_model.specs.Messages.{FindsMessages, received_by};
-ghost use Rattle.afs_rows.specs.ClientRow.{begin_row, client_row, new_client};
+ghost use Rattle.afs_rows.specs.ClientRow.{act_of, begin_row, guest_row, new_client};
 ghost use Rattle.afs_rows.specs.Runs.{locations_in};
 ghost use Rattle.afs_acts.specs.Acts.{HasServer, IsShortAct};
 ghost use Rattle.afs_cache.specs.Managing.{Answers, Takes, number_limit, times_out, waits};
@@ -15,6 +15,7 @@ ghost use Rattle.afs_cache.specs.Lasting.{lasting};
 use crate::asked::Asked;
 use crate::boots::KnownBoot;
 use crate::messages::CLIENT_CALLS;
+use crate::seeking::Seeking;
 use afs_acts::{Location, locations};
 use afs_call::{CallTable, Caller};
 use afs_entries::Cache;
@@ -43,9 +44,12 @@ pub struct CacheManager {
     /// Its own calls, and whether a break spoils the reply to the last one.
     pub(crate) calls: Caller,
     pub(crate) spoiled: bool,
-    /// The act that runs, with its call, and how often it was told to wait.
+    /// The act that runs, with its call, or that waits for the location database, with its question; how often it was told to wait, and
+    /// asked where a volume went.
     pub(crate) asked: Option<Asked>,
+    pub(crate) seeking: Option<Seeking>,
     pub(crate) busy: u32,
+    pub(crate) moved: u32,
 }
 
 impl Model for CacheManager {
@@ -55,7 +59,7 @@ impl Model for CacheManager {
 
     ghost Value = { NodeState ClientState };
 
-    ghost view = { λ c. record { node = c.node; state = record { epoch = c.callers.boot; last = c.calls.last; user = c.user; capacity = c.cache.capacity; table = c.table.items; boots = c.boots.items; seats = c.callers.seats; cache = c.cache.entries; running = running_of c.asked; busy = c.busy; callee = c.calls.callee; tries = c.calls.tries; spoiled = c.spoiled; gifts = gifts_of c.asked } } };
+    ghost view = { λ c. record { node = c.node; state = record { epoch = c.callers.boot; last = c.calls.last; user = c.user; capacity = c.cache.capacity; table = c.table.items; boots = c.boots.items; seats = c.callers.seats; cache = c.cache.entries; running = running_of c.asked; busy = c.busy; callee = c.calls.callee; tries = c.calls.tries; spoiled = c.spoiled; gifts = gifts_of c.asked; seeking = c.seeking; moved = c.moved } } };
 
     ghost invariant = { λ c. FitsClient c.node c.user c.calls.callee };
 }
@@ -90,13 +94,15 @@ impl CacheManager {
             calls: Caller::new(Node::Server(1)),
             spoiled: false,
             asked: None,
+            seeking: None,
             busy: 0,
+            moved: 0,
         })
     }
 
     /// Begins an act, at this time in ticks.
     pub fn act(&mut self, act: &Act, now: u32) -> Mem<Outs>
-        requires idle { self.old.state.running ≡ None }
+        requires idle { act_of self.old.state ≡ None }
         requires last { self.old.state.last < number_limit }
         requires short { IsShortAct act.now }
         ensures step { Answers (begin_row self.old.node self.old.state now act.now) self.old self.new result }
@@ -110,7 +116,7 @@ impl CacheManager {
     /// One message, at this time in ticks.
     pub fn receive(&mut self, bytes: &[u8], now: u32) -> Mem<Outs>
         requires last { self.old.state.last < number_limit }
-        ensures step { Takes (λ place. client_row self.old.node self.old.state now place (received_by client_calls bytes.now)) self.old self.new result }
+        ensures step { Takes (λ place. guest_row self.old.node self.old.state now place (received_by client_calls bytes.now)) self.old self.new result }
         // A message that stands in the bytes is found, unless it is a call that isn't served.
         ensures found { FindsMessages client_calls bytes.now }
         // The client makes one call at most.
@@ -123,7 +129,7 @@ impl CacheManager {
 
     /// The unanswered call has waited too long. What becomes of it doesn't depend on the time.
     pub fn timeout(&mut self, _now: u32) -> Mem<Outs>
-        requires waits { IsSome self.old.state.running }
+        requires waits { IsSome (act_of self.old.state) }
         ensures step { Answers (times_out self.old.node self.old.state self.old.state.running) self.old self.new result }
         // The call stays the client's last one.
         ensures last { OnOk result (self.new.state.last ≡ self.old.state.last) }
@@ -136,7 +142,9 @@ impl CacheManager {
     pub fn waits_on(&self) -> Option<(Node, Key)>
         ensures { result ≡ waits self.now }
     {
-        let _asked = self.asked.as_ref()?;
+        if self.asked.is_none() && self.seeking.is_none() {
+            return None;
+        }
         Some((
             self.calls.callee,
             Key {

@@ -20,7 +20,7 @@ use afs_num::sequences::Sequence;
 use afs_num::types::{Code, Mem};
 
 /// The call was given up.
-const DEAD: Code = Code(-1);
+pub const DEAD: Code = Code(-1);
 
 /// The entries of the volume that a call may change.
 fn changed_by(call: &FsCall) -> Drops
@@ -33,7 +33,7 @@ fn changed_by(call: &FsCall) -> Drops
 }
 
 impl CacheManager {
-    fn tell_timeout(&self, count: u32) -> Mem<Lines>
+    pub(crate) fn tell_timeout(&self, count: u32) -> Mem<Lines>
         ensures { IfOk result (λ ls. ls ≡ timeout_line self.now.node self.now.state count ∷ []) }
     {
         let mut lines = Sequence::new(self.alloc);
@@ -70,19 +70,20 @@ impl CacheManager {
     }
 
     /// The call has had so many timeouts by now.
-    fn count_tries(&mut self, tries: u32)
+    pub(crate) fn count_tries(&mut self, tries: u32)
         ensures { self.new ≡ record self.old { state = record self.old.state { tries = tries } } }
     {
         self.calls.tries = tries;
     }
 
-    /// The call is sent again, and at its last timeout given up.
+    /// The call is sent again, and at its last timeout given up. Where none runs that is the question of the act that waits for the location
+    /// database.
     pub(crate) fn time_out(&mut self) -> Mem<Outs>
         ensures { Answers (times_out self.old.node self.old.state self.old.state.running) self.old self.new result }
     {
         let tries = self.calls.tries;
         let Some(asked) = self.running() else {
-            return self.ignore();
+            return self.time_out_seeking();
         };
         match timed_out(tries) {
             Timeout::Again(tries) => {

@@ -6,7 +6,7 @@ ghost use Rattle.afs_model.specs.Calls.{admitted, call_seated, runs};
 ghost use Rattle.afs_model.specs.FsRows.{call_number};
 ghost use Rattle.afs_model.specs.Heads.{is_zero, IsSoundHead};
 ghost use Rattle.afs_model.specs.Messages.{HasSpelling, IsSoundReceived};
-ghost use Rattle.afs_rows.specs.ClientRow.{breaks, drop_line, hears, is_waiting, names_act, replies_step, takes_in, told_step, without_fids};
+ghost use Rattle.afs_rows.specs.ClientRow.{breaks, drop_line, guest_row, hears, is_waiting, names_act, replies_step, takes_in, told_step, without_fids};
 ghost use Rattle.afs_rows.specs.ClientRow.{done as done_by};
 ghost use Rattle.afs_rows.specs.ServerRow.{bad_fields, boot_told, not_served, replied, seat_for};
 ghost use Rattle.afs_shape.specs.Tables.{is_among};
@@ -23,7 +23,7 @@ use afs_entries::Drops;
 use afs_history::lines::{Line, Lines, Outs};
 use afs_message::spelled::SpelledMessage;
 use afs_num::calls::{FsCall, FsReply};
-use afs_num::messages::{Call, Carried, Message, Received, Reply};
+use afs_num::messages::{Call, Carried, Received, Reply};
 use afs_num::sequences::Sequence;
 use afs_num::types::{Code, Fid, Head, Mem, Node};
 
@@ -317,11 +317,25 @@ impl CacheManager {
         }
     }
 
+    /// A message: while an act waits for the location database, what isn't its answer comes as to a client without an act.
+    fn take_message(&mut self, head: &Head, carried: Carried, now: u32) -> Mem<Outs>
+        requires sound { HasSpelling (record { head = head.now; carried = carried }) }
+        requires last { self.old.state.last < number_limit }
+        ensures { Takes (λ place. guest_row self.old.node self.old.state now place (Received.Whole (record { head = head.now; carried = carried }))) self.old self.new result }
+    {
+        let sought = self.is_sought(head, &carried);
+        if sought {
+            self.hear_database(head, carried, now)
+        } else {
+            self.take_whole(head, carried, now)
+        }
+    }
+
     /// What was received. A message to another node does nothing.
     pub(crate) fn take_in(&mut self, received: Received, now: u32) -> Mem<Outs>
         requires sound { IsSoundReceived received }
         requires last { self.old.state.last < number_limit }
-        ensures { Takes (λ place. takes_in self.old.node self.old.state now place received) self.old self.new result }
+        ensures { Takes (λ place. guest_row self.old.node self.old.state now place received) self.old self.new result }
     {
         match received {
             Received::Nothing => self.ignore(),
@@ -330,9 +344,10 @@ impl CacheManager {
                 let code = unreadable(&head);
                 self.take_asking(&head, Asking::Refused(code))
             }
-            Received::Whole {
-                message: Message { head, carried },
-            } => self.take_whole(&head, carried, now),
+            Received::Whole { message } => {
+                let head = message.head;
+                self.take_message(&head, message.carried, now)
+            }
         }
     }
 }

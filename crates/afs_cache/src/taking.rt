@@ -134,7 +134,7 @@ impl CacheManager {
         Ok(self.follow(plan))
     }
 
-    fn answer(&mut self, code: Code) -> Mem<Outs>
+    pub(crate) fn answer(&mut self, code: Code) -> Mem<Outs>
         ensures { Takes (λ place. answers_step self.old.node self.old.state place code) self.old self.new result }
     {
         let lines = self.no_lines();
@@ -532,14 +532,11 @@ impl CacheManager {
         requires last { self.old.state.last < number_limit }
         ensures { Takes (λ place. by_act self.old.state place (λ act. refuses self.old.node self.old.state place act code) self.old.state.running) self.old self.new result }
     {
-        let Some(_asked) = self.running() else {
-            return self.ignore();
-        };
         let again = self.asks_again(code);
         if again {
             self.call_later()
         } else {
-            self.answer(code)
+            self.refuse_for_good(code)
         }
     }
 

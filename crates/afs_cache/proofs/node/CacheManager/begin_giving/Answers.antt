@@ -17,9 +17,9 @@ returns c =
     let x = c.in_ok-fids.field-0 in
     let cache = unlisted x.fids.items old.state.cache in
     plan_moves (λ (d : ClientState) (front : List Line → List Line). gives_by old.node d front act gifts)
-    (λ (front : List Line → List Line). gives_all old.node (record old.state { busy = 0 }) c.args.now act front)
-    c.args.lines x.lines old.state c.in_ok-plan.plan old c.follow.new.self c.follow.result cache 0
+    (λ (front : List Line → List Line). gives_all old.node (record old.state { busy = 0; moved = 0 }) c.args.now act front)
+    c.args.lines x.lines old.state c.in_ok-plan.plan old c.follow.new.self c.follow.result cache 0 0
     c.in_ok-plan.ensures.plan (c.follow.ensures.node ∙ ap (λ (s : NodeState ClientState). s.node) c.self.view_is)
     (c.follow.ensures.state ∙ ap (λ (s : ClientState). followed s c.in_ok-plan.plan)
-    (changed_busy (unlisted c.deref.result.now) _ old c.drop_all.new.self 0 c.self.view_is c.drop_all.ensures ∙ ap (λ (fs : List Fid). but_for old.state (unlisted fs old.state.cache) 0) c.deref.ensures.value))
+    (changed_busy (unlisted c.deref.result.now) _ old c.drop_all.new.self 0 0 c.self.view_is c.drop_all.ensures ∙ ap (λ (fs : List Fid). but_for old.state (unlisted fs old.state.cache) 0 0) c.deref.ensures.value))
     c.follow.ensures.outs (λ (first : List Line). gives_dropped old.node old.state c.args.now c.args.lines first x gifts act c.in_ok-fids.ensures c.in_ok-gifts.ensures.value)

@@ -16,7 +16,7 @@ returns c =
     let whole = whole_walk c.args.now c.args.going (seen_with old.state None) in
     let fids = c.deref.result.now in
     let cache = touched_all fids old.state.cache in
-    plan_goes (λ (d : ClientState) (front : List Line → List Line). goes_on old.node d front (over whole d.cache)) (λ (front : List Line → List Line). goes_on old.node (record old.state { busy = 0 }) front whole) c.args.lines old.state way.plan old c.follow.new.self c.follow.result cache 0
+    plan_goes (λ (d : ClientState) (front : List Line → List Line). goes_on old.node d front (over whole d.cache)) (λ (front : List Line → List Line). goes_on old.node (record old.state { busy = 0; moved = 0 }) front whole) c.args.lines old.state way.plan old c.follow.new.self c.follow.result cache 0 0
     c.in_ok-used.ensures.plan (c.follow.ensures.node ∙ ap (λ (s : NodeState ClientState). s.node) c.self.view_is)
-    (c.follow.ensures.state ∙ ap (λ (s : ClientState). followed s way.plan) (touch_view _ old c.touch_all.new.self fids 0 c.self.view_is c.touch_all.ensures))
-    c.follow.ensures.outs (λ (front : List Line → List Line). way_goes old.node old.state cache 0 whole front (ap (λ (gs : List Fid). touched_all gs old.state.cache) c.deref.ensures.value ∙ c.in_ok-used.ensures.used))
+    (c.follow.ensures.state ∙ ap (λ (s : ClientState). followed s way.plan) (touch_view _ old c.touch_all.new.self fids 0 0 c.self.view_is c.touch_all.ensures))
+    c.follow.ensures.outs (λ (front : List Line → List Line). way_goes old.node old.state cache 0 0 whole front (ap (λ (gs : List Fid). touched_all gs old.state.cache) c.deref.ensures.value ∙ c.in_ok-used.ensures.used))

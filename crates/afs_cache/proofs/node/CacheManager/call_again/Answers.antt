@@ -19,5 +19,5 @@ returns c =
     let asked = c.in-Some.asked.now in
     let told = c.no_lines-lines.result in
     plan_taken (λ (d : ClientState) (front : List Line → List Line). calls_step old.node (record d { gifts = asked.gifts }) asked.going front) (λ (place : ℕ). by_act old.state place (calls_again old.node old.state place) old.state.running)
-    told old.state c.in_ok-plan.plan old c.follow.new.self c.follow.result old.state.cache old.state.busy c.in_ok-plan.ensures.plan c.follow.ensures.node c.follow.ensures.state c.follow.ensures.outs
+    told old.state c.in_ok-plan.plan old c.follow.new.self c.follow.result old.state.cache old.state.busy old.state.moved c.in_ok-plan.ensures.plan c.follow.ensures.node c.follow.ensures.state c.follow.ensures.outs
     (λ place. again_as old.node old.state place asked told c.in-Some.ensures c.no_lines-lines.ensures)

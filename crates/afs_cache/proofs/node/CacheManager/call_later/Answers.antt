@@ -21,6 +21,6 @@ returns c =
     let asked = c.in-Some.asked.now in
     let told = c.no_lines-lines.result in
     plan_taken (λ (d : ClientState) (front : List Line → List Line). calls_step old.node (record d { gifts = asked.gifts }) asked.going front) (λ (place : ℕ). by_act old.state place (calls_again old.node (record old.state { busy = old.state.busy + 1 }) place) old.state.running)
-    told old.state c.in_ok-plan.plan old c.follow.new.self c.follow.result old.state.cache (old.state.busy + 1) c.in_ok-plan.ensures.plan (c.follow.ensures.node ∙ ap (λ (s : NodeState ClientState). s.node) c.wait_more.ensures)
+    told old.state c.in_ok-plan.plan old c.follow.new.self c.follow.result old.state.cache (old.state.busy + 1) old.state.moved c.in_ok-plan.ensures.plan (c.follow.ensures.node ∙ ap (λ (s : NodeState ClientState). s.node) c.wait_more.ensures)
     (c.follow.ensures.state ∙ ap (λ (s : NodeState ClientState). followed s.state c.in_ok-plan.plan) c.wait_more.ensures) c.follow.ensures.outs
     (λ place. later_as old.node old.state place asked told c.in-Some.ensures c.no_lines-lines.ensures)

@@ -17,8 +17,8 @@ returns c =
     let cache = unlisted x.fids.items old.state.cache in
     plan_moves (λ (d : ClientState) (front : List Line → List Line). ends_step old.node d d.cache front c.args.code)
     (λ (front : List Line → List Line). ends_step old.node old.state (left drops old.state.cache) (λ (ls : List Line). front (dropped old.node (filter (drops_of drops) old.state.cache) ls)) c.args.code)
-    c.args.lines x.lines old.state c.in_ok-plan.plan old c.follow.new.self c.follow.result cache old.state.busy
+    c.args.lines x.lines old.state c.in_ok-plan.plan old c.follow.new.self c.follow.result cache old.state.busy old.state.moved
     c.in_ok-plan.ensures.plan (c.follow.ensures.node ∙ ap (λ (s : NodeState ClientState). s.node) c.self.view_is)
     (c.follow.ensures.state ∙ ap (λ (s : ClientState). followed s c.in_ok-plan.plan)
-    (changed_view (unlisted c.deref.result.now) _ old c.drop_all.new.self c.self.view_is c.drop_all.ensures ∙ ap (λ (fs : List Fid). but_for old.state (unlisted fs old.state.cache) old.state.busy) c.deref.ensures.value))
+    (changed_view (unlisted c.deref.result.now) _ old c.drop_all.new.self c.self.view_is c.drop_all.ensures ∙ ap (λ (fs : List Fid). but_for old.state (unlisted fs old.state.cache) old.state.busy old.state.moved) c.deref.ensures.value))
     c.follow.ensures.outs (λ (first : List Line). ends_dropped old.node old.state drops c.args.lines first x c.args.code c.in_ok-fids.ensures)

@@ -21,5 +21,5 @@ returns c =
     let act = c.in_ok-going.going in
     let rest = c.in_ok-rest.rest.items in
     plan_taken (λ (d : ClientState) (front : List Line → List Line). gives_by old.node d front act rest) (λ (place : ℕ). by_act old.state place (λ (g : Going). gives_by old.node old.state (given place) g (behind_batch old.state.gifts)) old.state.running)
-    told old.state c.in_ok-plan.plan old c.follow.new.self c.follow.result old.state.cache old.state.busy c.in_ok-plan.ensures.plan c.follow.ensures.node c.follow.ensures.state c.follow.ensures.outs
+    told old.state c.in_ok-plan.plan old c.follow.new.self c.follow.result old.state.cache old.state.busy old.state.moved c.in_ok-plan.ensures.plan c.follow.ensures.node c.follow.ensures.state c.follow.ensures.outs
     (λ place. rest_taken old.node old.state place asked told act rest c.in-Some.ensures c.no_lines-lines.ensures c.in_ok-going.ensures.value c.in_ok-rest.ensures.value)

@@ -18,8 +18,8 @@ returns c =
     let cache = unlisted x.fids.items old.state.cache in
     plan_moves (λ (d : ClientState) (front : List Line → List Line). goes_on old.node d front (stays act d.cache))
     (λ (front : List Line → List Line). goes_on old.node old.state (λ (ls : List Line). front (dropped old.node (filter (drops_of drops) old.state.cache) ls)) (stays act (left drops old.state.cache)))
-    c.args.seen.lines x.lines old.state c.in_ok-plan.plan old c.follow.new.self c.follow.result cache old.state.busy
+    c.args.seen.lines x.lines old.state c.in_ok-plan.plan old c.follow.new.self c.follow.result cache old.state.busy old.state.moved
     c.in_ok-plan.ensures.plan (c.follow.ensures.node ∙ ap (λ (s : NodeState ClientState). s.node) c.self.view_is)
     (c.follow.ensures.state ∙ ap (λ (s : ClientState). followed s c.in_ok-plan.plan)
-    (changed_view (unlisted c.deref.result.now) _ old c.drop_all.new.self c.self.view_is c.drop_all.ensures ∙ ap (λ (fs : List Fid). but_for old.state (unlisted fs old.state.cache) old.state.busy) c.deref.ensures.value))
+    (changed_view (unlisted c.deref.result.now) _ old c.drop_all.new.self c.self.view_is c.drop_all.ensures ∙ ap (λ (fs : List Fid). but_for old.state (unlisted fs old.state.cache) old.state.busy old.state.moved) c.deref.ensures.value))
     c.follow.ensures.outs (λ (first : List Line). goes_dropped old.node old.state drops c.args.seen.lines first x act c.in_ok-fids.ensures)

@@ -21,6 +21,6 @@ returns c =
     let shown = c.status_told.result in
     let cache = map (refreshed c.args.now c.args.fid index shown made) old.state.cache in
     plan_taken (λ (d : ClientState) (front : List Line → List Line). ends_step old.node d d.cache front zero_code) (λ (place : ℕ). takes_stored old.node old.state c.args.now place c.args.fid index (status_told c.args.status.now) made)
-    told old.state c.in_ok-plan.plan old c.follow.new.self c.follow.result cache old.state.busy c.in_ok-plan.ensures.plan (c.follow.ensures.node ∙ ap (λ (s : NodeState ClientState). s.node) c.self.view_is)
+    told old.state c.in_ok-plan.plan old c.follow.new.self c.follow.result cache old.state.busy old.state.moved c.in_ok-plan.ensures.plan (c.follow.ensures.node ∙ ap (λ (s : NodeState ClientState). s.node) c.self.view_is)
     (c.follow.ensures.state ∙ ap (λ (s : ClientState). followed s c.in_ok-plan.plan) (changed_view (map (refreshed c.args.now c.args.fid index shown made)) _ old c.refresh.new.self c.self.view_is c.refresh.ensures))
     c.follow.ensures.outs (λ place. stored_taken old.node old.state c.args.now place told c.args.fid index shown (status_told c.args.status.now) made c.no_lines-lines.ensures c.status_told.ensures)

@@ -8,7 +8,7 @@ use Rattle.afs_cache.proofs.node.CacheManager.time_out.Goals as goal
 pub returns-in_default : goal.returns-in_default
 returns-in_default c =
     let old = c.args.self.now in
-    idle_timed old.node old.state old old c.ignore.result c.in_default.ensures c.ignore.ensures.answers
+    idle_timed old.node old.state old c.time_out_seeking.new.self c.time_out_seeking.result c.in_default.ensures c.time_out_seeking.ensures
 
 pub returns-in-Dead : goal.returns-in-Dead
 returns-in-Dead c =

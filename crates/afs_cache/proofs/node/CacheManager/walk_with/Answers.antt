@@ -19,6 +19,6 @@ returns c =
     let whole = whole_walk c.args.now c.args.going (seen_with old.state (Some c.args.fresh)) in
     let put = put_entry old.state.capacity (entry_of c.args.fresh) old.state.cache in
     let cache = touched_all c.deref.result.now put in
-    plan_goes (λ (d : ClientState) (front : List Line → List Line). goes_on old.node d front (over whole d.cache)) (λ (front : List Line → List Line). goes_on old.node old.state front whole) c.args.lines old.state way.plan old c.follow.new.self c.follow.result cache old.state.busy
+    plan_goes (λ (d : ClientState) (front : List Line → List Line). goes_on old.node d front (over whole d.cache)) (λ (front : List Line → List Line). goes_on old.node old.state front whole) c.args.lines old.state way.plan old c.follow.new.self c.follow.result cache old.state.busy old.state.moved
     c.in_ok-used.ensures.plan (c.follow.ensures.node ∙ ap (λ (s : NodeState ClientState). s.node) c.in_ok-put_used.ensures.ok) (c.follow.ensures.state ∙ ap (λ (s : NodeState ClientState). followed s.state way.plan) c.in_ok-put_used.ensures.ok)
-    c.follow.ensures.outs (λ (front : List Line → List Line). way_goes old.node old.state cache old.state.busy whole front (ap (λ (gs : List Fid). touched_all gs put) c.deref.ensures.value ∙ c.in_ok-used.ensures.used))
+    c.follow.ensures.outs (λ (front : List Line → List Line). way_goes old.node old.state cache old.state.busy old.state.moved whole front (ap (λ (gs : List Fid). touched_all gs put) c.deref.ensures.value ∙ c.in_ok-used.ensures.used))
