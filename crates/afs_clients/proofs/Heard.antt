@@ -1,5 +1,5 @@
 -- A client does with a message what it does with what it finds in its bytes.
-use Rattle.std.proofs.Common.{refl, ap, sym, ◌∙◌, ◌≡◌, ℕ, List, [], ◌∷◌, false, if◌then◌else◌}
+use Rattle.std.proofs.Common.{refl, ap, sym, ◌∙◌, ◌≡◌, ℕ, List, [], ◌∷◌, false, Option, Some, None, if◌then◌else◌}
 use Rattle.afs_num.specs.Nodes.{same_node}
 use Rattle.afs_num.specs.declared.calls.FsCall.TheVariants as calls
 use Rattle.afs_num.specs.declared.messages.Call.{Call}
@@ -19,9 +19,9 @@ use Rattle.afs_model.specs.CellRows.{call_number, client_calls}
 use Rattle.afs_model.specs.Messages.{is_unserved, is_whole, messages_spelled, FoundBy}
 use Rattle.afs_model.specs.Calls.{admitted, Admitted}
 use Rattle.afs_model.specs.Calls as pairs
-use Rattle.afs_rows.specs.ClientRow.{admits_call, client_row, ignores, refused_with, replies_step, runs_carried, takes_in, whole}
+use Rattle.afs_rows.specs.ClientRow.{admits_call, client_row, guest_row, ignores, refused_with, replies_step, runs_carried, sought_or, takes_in, whole}
 use Rattle.afs_rows.specs.ServerRow.{not_served}
-use Rattle.afs_rows.specs.Going.{ClientState}
+use Rattle.afs_rows.specs.Going.{ClientState, Seek}
 use Rattle.afs_rows.specs.Steps.{Step}
 use Rattle.afs_cache.specs.Managing.{Makes}
 use Rattle.afs_clients.specs.Happening.{ClientMakes}
@@ -47,18 +47,29 @@ same_step : (me : Node) (c : ClientState) (clock place : ℕ) (head : Head) (use
     → takes_in me c clock place (Unserved head) ≡ takes_in me c clock place (whole head (carried.Call user call))
 same_step me c clock place head user call e = ap (λ (s : Step ClientState). if same_node head.to me then s else ignores c place) (same_answer me c place head user call (admitted c.epoch c.seats head) e)
 
-pub client_finds : (me : Node) (c : ClientState) (clock place : ℕ) (m : Message) (found : Received) → FoundBy client_calls m found → client_row me c clock place found ≡ client_row me c clock place (Whole m)
+unserved_row : (me : Node) (c : ClientState) (clock place : ℕ) (head : Head) (user : List ℕ) (call : Call) → is_among client_calls (call_number call) ≡ false
+    → client_row me c clock place (Unserved head) ≡ client_row me c clock place (whole head (carried.Call user call))
 unfolding client_row
-client_finds me c clock place m found (is_whole e) = ap (takes_in me c clock place) e
+unserved_row me c clock place head user call far = same_step me c clock place head user call far
+
+-- a call answers no question
+no_answer : (me : Node) (c : ClientState) (clock place : ℕ) (head : Head) (user : List ℕ) (call : Call) (o : Option Seek)
+    → client_row me c clock place (whole head (carried.Call user call)) ≡ sought_or me c clock place (record { head = head; carried = carried.Call user call }) o
+no_answer me c clock place head user call None = refl
+no_answer me c clock place head user call (Some k) = refl
+
+pub client_finds : (me : Node) (c : ClientState) (clock place : ℕ) (m : Message) (found : Received) → FoundBy client_calls m found → guest_row me c clock place found ≡ guest_row me c clock place (Whole m)
+client_finds me c clock place m found (is_whole e) = ap (guest_row me c clock place) e
 client_finds me c clock place m found (is_unserved user call is far e) =
-    ap (takes_in me c clock place) e ∙ (same_step me c clock place m.head user call far ∙ ap (λ (x : Carried). takes_in me c clock place (whole m.head x)) (sym is))
+    ap (guest_row me c clock place) e
+    ∙ (unserved_row me c clock place m.head user call far ∙ (no_answer me c clock place m.head user call c.seeking ∙ ap (λ (x : Carried). guest_row me c clock place (whole m.head x)) (sym is)))
 
 -- what a client did with what it found, it did with the message
 pub hears_message : (n clock place : ℕ) (node : Node) (found : Received) (m : Message) (old new : ClientSeat) (outs : Outs) → node ≡ Client n → FoundBy client_calls m found → old.is_away ≡ false → new.is_away ≡ old.is_away
-    → Makes (client_row node old.client.state clock place found) new.client.state (λ ls. lines.Given place ∷ ls) outs → ClientMakes (lines.Given place ∷ []) (client_row (Client n) old.client.state clock place (Whole m)) old new outs
+    → Makes (guest_row node old.client.state clock place found) new.client.state (λ ls. lines.Given place ∷ ls) outs → ClientMakes (lines.Given place ∷ []) (guest_row (Client n) old.client.state clock place (Whole m)) old new outs
 hears_message n clock place node found m old new outs me finds up same h =
-    let row : client_row node old.client.state clock place found ≡ client_row (Client n) old.client.state clock place (Whole m) =
-    ap (λ (k : Node). client_row k old.client.state clock place found) me ∙ client_finds (Client n) old.client.state clock place m found finds in
+    let row : guest_row node old.client.state clock place found ≡ guest_row (Client n) old.client.state clock place (Whole m) =
+    ap (λ (k : Node). guest_row k old.client.state clock place found) me ∙ client_finds (Client n) old.client.state clock place m found finds in
     record {
       up = up;
       stays_up = same ∙ up;

@@ -5,7 +5,6 @@ use Rattle.afs_history.specs.declared.lines.Outs.{Outs}
 use Rattle.afs_history.specs.declared.scripts.Script.{Script}
 use Rattle.afs_clients.specs.Happening.{ClientGoes, ClientHappens, ClientsHappened}
 use Rattle.afs_clients.specs.Places.{put_place, Room}
-use Rattle.afs_rows.specs.States.{Location}
 use Rattle.afs_clients.specs.Seating.{GoesOn, IsHanded}
 use Rattle.afs_clients.specs.declared.clients.ClientSeat.{ClientSeat}
 use Rattle.afs_clients.specs.declared.happening.Happened.{Happened}
@@ -24,10 +23,9 @@ pub goes_from : (s : Script) (n : ℕ) (old new : ClientSeat) (what : Happened) 
 goes_from s n old new what h g = record {
   handed = record {
     node = g.node ∙ h.node;
-    epoch = ap (λ (x : List ℕ × (ℕ × (List Location × ℕ))). x.1.1.1) g.kept ∙ (h.epoch ∙ sym g.epoch);
-    capacity = ap (λ (x : List ℕ × (ℕ × (List Location × ℕ))). x.1.0) g.kept ∙ h.capacity;
-    user = ap (λ (x : List ℕ × (ℕ × (List Location × ℕ))). x.0) g.kept ∙ h.user;
-    table = ap (λ (x : List ℕ × (ℕ × (List Location × ℕ))). x.1.1.0) g.kept ∙ h.table;
+    epoch = ap (λ (x : List ℕ × (ℕ × ℕ)). x.1.1) g.kept ∙ (h.epoch ∙ sym g.epoch);
+    capacity = ap (λ (x : List ℕ × (ℕ × ℕ)). x.1.0) g.kept ∙ h.capacity;
+    user = ap (λ (x : List ℕ × (ℕ × ℕ)). x.0) g.kept ∙ h.user;
     acts = g.acts h.acts;
   };
   epoch = omega (arith, g.epoch);

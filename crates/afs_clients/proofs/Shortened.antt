@@ -10,15 +10,17 @@ use Rattle.afs_history.specs.declared.acts.Act.TheVariants as acts
 use Rattle.afs_history.specs.declared.scripts.Script.{Script}
 use Rattle.afs_history.specs.declared.scripts.Task.{Task}
 use Rattle.afs_history.specs.declared.scripts.Task.TheVariants as tasks
-use Rattle.afs_acts.specs.Acts.{AreShort, IsShortAct}
+use Rattle.afs_history.specs.declared.acts.Operand.{Operand}
+use Rattle.afs_history.specs.declared.acts.Operand.TheVariants as operands
+use Rattle.afs_acts.specs.Acts.{AreShort, IsShortAct, IsShortCall, IsShortIfAny, IsShortOperand}
 use Rattle.afs_model.specs.FsRows.{name_limit}
 use Rattle.afs_rows.specs.ClientRow.{new_client}
-use Rattle.afs_rows.specs.Going.{ClientState}
+use Rattle.afs_rows.specs.Going.{ClientState, operands_of}
 use Rattle.afs_rows.specs.Runs.{locations, user_at}
 use Rattle.afs_schedule.specs.Schedules.{client_act, doer, tasks_of}
 use Rattle.afs_words.specs.declared.nodes.Counts.{Counts}
 use Rattle.afs_grammar.specs.CellScripts as script
-use Rattle.afs_grammar.specs.CellScripts.{counts_of, FitsTask, IsCellScript, IsName}
+use Rattle.afs_grammar.specs.CellScripts.{counts_of, FitsTask, IsCellScript, IsName, IsOperand}
 use Rattle.afs_clients.specs.Seating.{IsFirstClient, IsShortTask, AreFirstClients}
 use Rattle.afs_clients.specs.declared.clients.ClientSeat.{ClientSeat}
 
@@ -29,24 +31,69 @@ names_short : (ns : List (List ℕ)) → All (IsName 256) ns → AreShort ns
 names_short [] h = All-nil IsShortName
 names_short (n ∷ ns) h = All-cons IsShortName n ns (All-head (IsName 256) n ns h).1 (names_short ns (All-tail (IsName 256) n ns h))
 
+short_call : (a : Act) → script.IsShortAct a → IsShortCall a
+short_call (acts.Open o) h = tt
+short_call (acts.ListNames o) h = tt
+short_call (acts.ReadLink o) h = tt
+short_call (acts.Stat o) h = tt
+short_call (acts.StatAll o) h = tt
+short_call (acts.Close o contents) h = h.1
+short_call (acts.Make p) h = names_short p.names h.names
+short_call (acts.MakeDirectory p) h = names_short p.names h.names
+short_call (acts.Remove p) h = names_short p.names h.names
+short_call (acts.RemoveDirectory p) h = names_short p.names h.names
+short_call (acts.Move p q) h = (names_short p.names h.0.names, names_short q.names h.1.names)
+short_call (acts.Link p q) h = names_short q.names h.1.names
+short_call (acts.Symlink p target) h = (names_short p.names h.0.names, h.1)
+short_call (acts.SetMode o mode) h = tt
+short_call (acts.SetAccessList o text) h = h.1
+short_call (acts.GetAccessList o) h = tt
+short_call acts.GiveUp h = tt
+
+short_operand : (o : Operand) → IsOperand o → IsShortOperand o
+short_operand (operands.Path p) h = h.volume.1
+short_operand (operands.Fid f) h = tt
+
+short_first : (a : Act) → script.IsShortAct a → IsShortIfAny (operands_of a).0
+short_first (acts.Open o) h = short_operand o h
+short_first (acts.ListNames o) h = short_operand o h
+short_first (acts.ReadLink o) h = short_operand o h
+short_first (acts.Stat o) h = short_operand o h
+short_first (acts.StatAll o) h = short_operand o h
+short_first (acts.Close o contents) h = short_operand o h.0
+short_first (acts.Make p) h = h.volume.1
+short_first (acts.MakeDirectory p) h = h.volume.1
+short_first (acts.Remove p) h = h.volume.1
+short_first (acts.RemoveDirectory p) h = h.volume.1
+short_first (acts.Move p q) h = h.0.volume.1
+short_first (acts.Link p q) h = h.0.volume.1
+short_first (acts.Symlink p target) h = h.0.volume.1
+short_first (acts.SetMode o mode) h = short_operand o h
+short_first (acts.SetAccessList o text) h = short_operand o h.0
+short_first (acts.GetAccessList o) h = short_operand o h
+short_first acts.GiveUp h = tt
+
+short_second : (a : Act) → script.IsShortAct a → IsShortIfAny (operands_of a).1
+short_second (acts.Move p q) h = h.1.volume.1
+short_second (acts.Link p q) h = h.1.volume.1
+short_second (acts.Open o) h = tt
+short_second (acts.ListNames o) h = tt
+short_second (acts.ReadLink o) h = tt
+short_second (acts.Stat o) h = tt
+short_second (acts.StatAll o) h = tt
+short_second (acts.Close o contents) h = tt
+short_second (acts.Make p) h = tt
+short_second (acts.MakeDirectory p) h = tt
+short_second (acts.Remove p) h = tt
+short_second (acts.RemoveDirectory p) h = tt
+short_second (acts.Symlink p target) h = tt
+short_second (acts.SetMode o mode) h = tt
+short_second (acts.SetAccessList o text) h = tt
+short_second (acts.GetAccessList o) h = tt
+short_second acts.GiveUp h = tt
+
 short_act : (a : Act) → script.IsShortAct a → IsShortAct a
-short_act (acts.Open o) h = tt
-short_act (acts.ListNames o) h = tt
-short_act (acts.ReadLink o) h = tt
-short_act (acts.Stat o) h = tt
-short_act (acts.StatAll o) h = tt
-short_act (acts.Close o contents) h = h.1
-short_act (acts.Make p) h = names_short p.names h.names
-short_act (acts.MakeDirectory p) h = names_short p.names h.names
-short_act (acts.Remove p) h = names_short p.names h.names
-short_act (acts.RemoveDirectory p) h = names_short p.names h.names
-short_act (acts.Move p q) h = (names_short p.names h.0.names, names_short q.names h.1.names)
-short_act (acts.Link p q) h = names_short q.names h.1.names
-short_act (acts.Symlink p target) h = (names_short p.names h.0.names, h.1)
-short_act (acts.SetMode o mode) h = tt
-short_act (acts.SetAccessList o text) h = h.1
-short_act (acts.GetAccessList o) h = tt
-short_act acts.GiveUp h = tt
+short_act a h = record { first = short_first a h; second = short_second a h; call = short_call a h }
 
 short_task : (c : Counts) (t : Task) → FitsTask c t → IsShortTask t
 short_task c (tasks.Client n a) h = short_act a h.1
@@ -85,7 +132,6 @@ first_client s n seat h node state up plan epoch = record {
     epoch = ap (λ (c : ClientState). c.epoch) state ∙ sym epoch;
     capacity = ap (λ (c : ClientState). c.capacity) state;
     user = ap (λ (c : ClientState). c.user) state;
-    table = ap (λ (c : ClientState). c.table) state;
     acts = subst (λ (more : List Task). All IsShortTask more) (sym plan) (tasks_short (counts_of s) (Client n) s.tasks h.tasks);
   };
 }

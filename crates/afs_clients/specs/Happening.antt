@@ -15,16 +15,19 @@ use Rattle.afs_history.specs.declared.lines.Outs.{Outs}
 use Rattle.afs_history.specs.declared.scripts.Event.TheVariants as events
 use Rattle.afs_history.specs.declared.scripts.Script.{Script}
 use Rattle.afs_model.specs.Messages.{messages_spelled, parcels_read, received}
-use Rattle.afs_rows.specs.ClientRow.{begin_row, client_row, timeout_row, reborn}
+use Rattle.afs_rows.specs.ClientRow.{act_of, begin_row, guest_row, reborn}
 use Rattle.afs_rows.specs.Going.{ClientState, Going}
-use Rattle.afs_rows.specs.Runs.{server_waits, sets_fail, sets_stop, starts_again, stops, wakes, Input, MayBegin, Outcome}
+use Rattle.afs_rows.specs.Runs.{locations, server_waits, sets_fail, sets_stop, starts_again, stops, wakes, Input, Outcome}
 use Rattle.afs_rows.specs.Steps.{Step}
-use Rattle.afs_schedule.specs.Schedules.{at_server, client_act, IsInput, Turn}
+use Rattle.afs_schedule.specs.Schedules.{at_server, client_act, IsInput, IsRestart, Turn}
+pub use Rattle.afs_cache.specs.Managing.{seek_times_out, times_out}
 use Rattle.afs_clients.specs.Places.{put_place}
 use Rattle.afs_clients.specs.Seating.{IsHanded}
 use Rattle.afs_clients.specs.declared.clients.ClientSeat.{ClientSeat}
 use Rattle.afs_clients.specs.declared.happening.ClientInput.{ClientInput}
 use Rattle.afs_clients.specs.declared.happening.ClientInput.TheVariants as client
+use Rattle.afs_clients.specs.declared.happening.DatabaseInput.{DatabaseInput}
+use Rattle.afs_clients.specs.declared.happening.DatabaseInput.TheVariants as database
 use Rattle.afs_clients.specs.declared.happening.Happened.{Happened}
 use Rattle.afs_clients.specs.declared.happening.Happened.TheVariants as happened
 use Rattle.afs_clients.specs.declared.happening.ServerInput.{ServerInput}
@@ -32,19 +35,29 @@ use Rattle.afs_clients.specs.declared.happening.ServerInput.TheVariants as serve
 
 -- ---- events
 
--- which input of the cell it is: a restart leaves open whether the disk fails, and what it kept where it had failed by itself
+-- which input of the cell it is, at a server and at the location database: a restart leaves open whether the disk fails, and what it kept where it had failed by itself
 abbrev pub IsGiven : ℕ → ServerInput → Turn → Input → Type 0
 IsGiven i (server.TimeOut callee) t x = x ≡ server_waits i callee
 IsGiven i server.Wake t x = x ≡ wakes i
 IsGiven i (server.Crash pick) t x = x ≡ at_server i (stops i)
-IsGiven i server.Restart t x = (after : Bool) × ((outcome : Outcome) × (MayBegin (t.cell.hosts i).down after × (x ≡ at_server i (starts_again i after outcome))))
+IsGiven i server.Restart t x = IsRestart (t.cell.hosts i).down (λ (after : Bool) (outcome : Outcome). at_server i (starts_again i after outcome)) x
 IsGiven i (server.Stop calls pick) t x = x ≡ at_server i (sets_stop i calls pick)
 IsGiven i (server.Fail call) t x = x ≡ at_server i (sets_fail i call)
+
+abbrev pub IsGivenToLoc : DatabaseInput → Turn → Input → Type 0
+IsGivenToLoc (database.Crash pick) t x = x ≡ stops 0
+IsGivenToLoc database.Restart t x = IsRestart t.cell.loc.down (starts_again 0) x
+IsGivenToLoc (database.Stop calls pick) t x = x ≡ sets_stop 0 calls pick
+IsGivenToLoc (database.Fail call) t x = x ≡ sets_fail 0 call
 
 -- a failure is due at a call that is yet to come
 abbrev pub IsDue : ServerInput → Type 0
 IsDue (server.Fail call) = 1 ≤ call
 IsDue input = Unit {0}
+
+abbrev pub IsDueAtLoc : DatabaseInput → Type 0
+IsDueAtLoc (database.Fail call) = 1 ≤ call
+IsDueAtLoc input = Unit {0}
 
 -- there is none of this number
 pub record NoneHappened {A : Type 0} (i : ℕ) (old new : List A) (what : Happened) : Type 0 where
@@ -71,20 +84,21 @@ pub record HasBegun (n clock : ℕ) (old new : ClientSeat) (outs : Outs) : Type 
   pub act : Act
   pub next : client_act (slice_get old.plan 0) ≡ Some act
   pub plan : new.plan ≡ drop 1 old.plan
-  pub idle : old.client.state.running ≡ None
+  pub idle : act_of old.client.state ≡ None
   pub makes : ClientMakes [] (begin_row (Client n) old.client.state clock act) old new outs
 
 pub record HasTimedOut (n : ℕ) (callee : Node) (old new : ClientSeat) (outs : Outs) : Type 0 where
   pub act : Going
-  pub running : old.client.state.running ≡ Some act
+  pub waits : act_of old.client.state ≡ Some act
   pub callee_is : same_node old.client.state.callee callee ≡ true
-  pub makes : ClientMakes [] (timeout_row (Client n) old.client.state act) old new outs
+  pub makes : ClientMakes [] (times_out (Client n) old.client.state old.client.state.running) old new outs
   pub plan : new.plan ≡ old.plan
 
-pub record HasFallen (n : ℕ) (old new : ClientSeat) (outs : Outs) : Type 0 where
+-- it will begin with the script's table
+pub record HasFallen (s : Script) (n : ℕ) (old new : ClientSeat) (outs : Outs) : Type 0 where
   pub up : old.is_away ≡ false
   pub away : new.is_away ≡ true
-  pub state : new.client.state ≡ reborn old.client.state
+  pub state : new.client.state ≡ reborn (locations s) old.client.state
   pub plan : new.plan ≡ old.plan
   pub tells : ClientTells (lines.Crash (Client n)) outs
 
@@ -96,14 +110,14 @@ pub record HasRisen (n : ℕ) (old new : ClientSeat) (outs : Outs) : Type 0 wher
   pub tells : ClientTells (lines.Restart (Client n) old.client.state.epoch) outs
 
 pub record ClientHears (n clock place : ℕ) (bytes : List ℕ) (old new : ClientSeat) (outs : Outs) : Type 0 where
-  pub makes : (m : Message) → received bytes ≡ Whole m → ClientMakes (lines.Given place ∷ []) (client_row (Client n) old.client.state clock place (Whole m)) old new outs
+  pub makes : (m : Message) → received bytes ≡ Whole m → ClientMakes (lines.Given place ∷ []) (guest_row (Client n) old.client.state clock place (Whole m)) old new outs
   pub plan : new.plan ≡ old.plan
 
-abbrev pub ClientTakes : ℕ → ℕ → ClientInput → ClientSeat → ClientSeat → Outs → Type 0
-ClientTakes n clock client.Act old new outs = HasBegun n clock old new outs
-ClientTakes n clock (client.TimeOut callee) old new outs = HasTimedOut n callee old new outs
-ClientTakes n clock client.Crash old new outs = HasFallen n old new outs
-ClientTakes n clock client.Restart old new outs = HasRisen n old new outs
+abbrev pub ClientTakes : Script → ℕ → ℕ → ClientInput → ClientSeat → ClientSeat → Outs → Type 0
+ClientTakes s n clock client.Act old new outs = HasBegun n clock old new outs
+ClientTakes s n clock (client.TimeOut callee) old new outs = HasTimedOut n callee old new outs
+ClientTakes s n clock client.Crash old new outs = HasFallen s n old new outs
+ClientTakes s n clock client.Restart old new outs = HasRisen n old new outs
 
 -- the event that gives a client this
 abbrev pub IsAsked : ClientInput → ℕ → Turn → Input → Type 0
@@ -114,11 +128,11 @@ IsAsked client.Restart n t x = IsInput t (events.Restart (Client n)) x
 
 -- nothing comes of this at the client
 abbrev pub IsBusy : ClientState → Type 0
-IsBusy c = (act : Going) × (c.running ≡ Some act)
+IsBusy c = (act : Going) × (act_of c ≡ Some act)
 
 abbrev pub IsVoidClient : ClientInput → ClientSeat → Type 0
 IsVoidClient client.Act seat = (seat.is_away ≡ true) ⊎ (IsBusy seat.client.state ⊎ (client_act (slice_get seat.plan 0) ≡ None))
-IsVoidClient (client.TimeOut callee) seat = (seat.is_away ≡ true) ⊎ ((seat.client.state.running ≡ None) ⊎ (same_node seat.client.state.callee callee ≡ false))
+IsVoidClient (client.TimeOut callee) seat = (seat.is_away ≡ true) ⊎ ((act_of seat.client.state ≡ None) ⊎ (same_node seat.client.state.callee callee ≡ false))
 IsVoidClient client.Crash seat = seat.is_away ≡ true
 IsVoidClient client.Restart seat = seat.is_away ≡ false
 

@@ -6,10 +6,11 @@ use Rattle.afs_words.specs.declared.nodes.Counts.{Counts}
 use Rattle.afs_grammar.specs.CellScripts.{FitsEvent}
 use Rattle.afs_rows.specs.Runs.{nothing, Input}
 use Rattle.afs_schedule.specs.Schedules.{IsInput, Turn}
-use Rattle.afs_clients.specs.Happening.{IsAsked, IsDue, IsGiven}
+use Rattle.afs_clients.specs.Happening.{IsAsked, IsDue, IsDueAtLoc, IsGiven, IsGivenToLoc}
 use Rattle.afs_clients.specs.declared.events.Given.{Given}
 use Rattle.afs_clients.specs.declared.events.Given.TheVariants as given
 use Rattle.afs_clients.specs.declared.happening.ClientInput.{ClientInput}
+use Rattle.afs_clients.specs.declared.happening.DatabaseInput.{DatabaseInput}
 use Rattle.afs_clients.specs.declared.happening.ServerInput.{ServerInput}
 
 -- an input of the client's is the event, and the client is one of the cell where the event fits it
@@ -22,9 +23,15 @@ pub record IsForServer (event : Event) (i : ℕ) (what : ServerInput) : Type 0 w
   pub input : (t : Turn) (x : Input) → IsGiven i what t x → IsInput t event x
   pub due : (c : Counts) → FitsEvent c event → IsDue what
 
+-- and of the location database's
+pub record IsForLoc (event : Event) (what : DatabaseInput) : Type 0 where
+  pub input : (t : Turn) (x : Input) → IsGivenToLoc what t x → IsInput t event x
+  pub due : (c : Counts) → FitsEvent c event → IsDueAtLoc what
+
 abbrev pub IsMeant : Event → Given → Type 0
 IsMeant event given.Nothing = (t : Turn) → IsInput t event nothing
 IsMeant event (given.Client n what) = IsForClient event n what
 IsMeant event (given.Server i what) = IsForServer event i what
+IsMeant event (given.Database what) = IsForLoc event what
 IsMeant event (given.Message place) = event ≡ events.Deliver place
 IsMeant event (given.Ticks n) = event ≡ events.Tick n

@@ -20,13 +20,12 @@ abbrev pub IsShortTask : Task → Type 0
 IsShortTask (tasks.Client n act) = IsShortAct act
 IsShortTask (tasks.Admin n act) = Unit {0}
 
--- What a client was handed at its start, or when it began again, is the script's; so are the acts that it has not begun.
+-- What a client was handed at its start, or when it began again, and keeps, is the script's; so are the acts that it has not begun.
 pub record IsHanded (s : Script) (n : ℕ) (seat : ClientSeat) : Type 0 where
   pub node : seat.client.node ≡ Client n
   pub epoch : seat.client.state.epoch ≡ seat.epoch
   pub capacity : seat.client.state.capacity ≡ s.cache
   pub user : seat.client.state.user ≡ user_at s n
-  pub table : seat.client.state.table ≡ locations s
   pub acts : All IsShortTask seat.plan
 
 -- it waits for the reply of this node

@@ -5,9 +5,9 @@ ghost use Rattle.std.specs.List.{All};
 ghost use Rattle.afs_num.specs.declared.types.Node.TheVariants.{Client};
 ghost use Rattle.afs_cache.specs.Managing.{number_limit};
 ghost use Rattle.afs_grammar.specs.CellScripts.{IsCellScript};
-ghost use Rattle.afs_rows.specs.ClientRow.{new_client};
+ghost use Rattle.afs_rows.specs.ClientRow.{act_of, new_client};
 ghost use Rattle.afs_rows.specs.Runs.{locations, user_at, user_in};
-ghost use Rattle.afs_clients.specs.Happening.{ClientGoes, ClientHappens, ClientHears, ClientTakes, IsVoidClient};
+ghost use Rattle.afs_clients.specs.Happening.{ClientGoes, ClientHappens, ClientHears, ClientTakes, HasBegun, HasFallen, HasRisen, HasTimedOut, IsVoidClient};
 ghost use Rattle.afs_clients.specs.Seating.{awaits, GoesOn, IsFirstClient, IsHanded, IsShortTask};
 ghost use Rattle.afs_clients.specs.declared.happening.ClientInput.TheVariants as input;
 
@@ -89,16 +89,16 @@ impl<'a> ClientSeat<'a> {
         })
     }
 
-    /// Whether an act runs.
+    /// Whether an act runs, or waits for the location database.
     fn is_busy(&self) -> bool
-        ensures { result ≡ is_some self.now.client.state.running }
+        ensures { result ≡ is_some (act_of self.now.client.state) }
     {
         self.client.waits_on().is_some()
     }
 
     /// Whether it waits for the reply of this node.
     fn waits_for(&self, callee: Node) -> bool
-        ensures { result ≡ awaits self.now.client.state callee self.now.client.state.running }
+        ensures { result ≡ awaits self.now.client.state callee (act_of self.now.client.state) }
     {
         match self.client.waits_on() {
             Some((node, _)) => node.is(&callee),
@@ -112,7 +112,7 @@ impl<'a> ClientSeat<'a> {
         requires node { self.old.client.node ≡ Client client }
         requires last { self.old.client.state.last < number_limit }
         requires short { All IsShortTask self.old.plan }
-        ensures happens { ClientHappens (IsVoidClient input.Act) (ClientTakes client now input.Act) self.old self.new result }
+        ensures happens { ClientHappens (IsVoidClient input.Act) (HasBegun client now) self.old self.new result }
         ensures goes_on { GoesOn self.old self.new }
     {
         if self.is_away || self.is_busy() {
@@ -149,7 +149,7 @@ impl<'a> ClientSeat<'a> {
     /// Its unanswered call to this node times out.
     fn time_out(&mut self, client: u8, callee: Node, now: u32) -> Happened
         requires node { self.old.client.node ≡ Client client }
-        ensures happens { ClientHappens (IsVoidClient (input.TimeOut callee)) (ClientTakes client now (input.TimeOut callee)) self.old self.new result }
+        ensures happens { ClientHappens (IsVoidClient (input.TimeOut callee)) (HasTimedOut client callee) self.old self.new result }
         ensures goes_on { GoesOn self.old self.new }
     {
         let _client = client;
@@ -168,7 +168,7 @@ impl<'a> ClientSeat<'a> {
         requires client { (1 ≤ client) × (client ≤ 16) }
         requires handed { IsHanded script.now client self.old }
         requires epoch { self.old.epoch < 4294967295 }
-        ensures happens { ClientHappens (IsVoidClient input.Crash) (ClientTakes client 0 input.Crash) self.old self.new result }
+        ensures happens { ClientHappens (IsVoidClient input.Crash) (HasFallen script.now client) self.old self.new result }
         ensures handed { IsHanded script.now client self.new }
         ensures epoch { self.new.epoch ≤ self.old.epoch + 1 }
         ensures last { self.new.client.state.last ≤ self.old.client.state.last + 1 }
@@ -192,7 +192,7 @@ impl<'a> ClientSeat<'a> {
     /// It is up again.
     fn restart(&mut self, alloc: Global, client: u8) -> Happened
         requires epoch { self.old.client.state.epoch ≡ self.old.epoch }
-        ensures happens { ClientHappens (IsVoidClient input.Restart) (ClientTakes client 0 input.Restart) self.old self.new result }
+        ensures happens { ClientHappens (IsVoidClient input.Restart) (HasRisen client) self.old self.new result }
         ensures goes_on { GoesOn self.old self.new }
     {
         if !self.is_away {
@@ -223,7 +223,7 @@ impl<'a> ClientSeat<'a> {
         requires handed { IsHanded script.now client self.old }
         requires last { self.old.client.state.last < number_limit }
         requires epoch { self.old.epoch < 4294967295 }
-        ensures happens { ClientHappens (IsVoidClient given) (ClientTakes client now given) self.old self.new result }
+        ensures happens { ClientHappens (IsVoidClient given) (ClientTakes script.now client now given) self.old self.new result }
         ensures goes { ClientGoes script.now client self.old self.new result }
     {
         match given {

@@ -1,22 +1,25 @@
 //! What an event gives to a node of the cell.
 
 ghost use Rattle.std.specs.Prelude.{◌≡◌, ℕ};
-ghost use Rattle.afs_num.specs.declared.types.Node.TheVariants.{Server};
+ghost use Rattle.afs_num.specs.declared.types.Node.TheVariants.{Loc, Server};
 ghost use Rattle.afs_history.specs.declared.scripts.Event.TheVariants as events;
 ghost use Rattle.afs_clients.specs.Meaning.{IsMeant};
 ghost use Rattle.afs_clients.specs.declared.events.Given.TheVariants as given;
+ghost use Rattle.afs_clients.specs.declared.happening.DatabaseInput.TheVariants as database;
 ghost use Rattle.afs_clients.specs.declared.happening.ServerInput.TheVariants as server;
 
-use crate::happening::{ClientInput, ServerInput};
+use crate::happening::{ClientInput, DatabaseInput, ServerInput};
 use afs_history::scripts::Event;
 use afs_num::types::Node;
 
-/// What an event is: nothing; something for a client or a server of this number; the message of a place; or that the clock rises.
+/// What an event is: nothing; something for a client or a server of this number, or for the location database; the message of a place;
+/// or that the clock rises.
 #[derive(Clone, Copy, Debug)]
 pub enum Given {
     Nothing,
     Client(u8, ClientInput),
     Server(u8, ServerInput),
+    Database(DatabaseInput),
     Message(u64),
     Ticks(u32),
 }
@@ -61,10 +64,11 @@ fn crash(node: Node) -> Given
 fn crash_disk(node: Node, pick: u8) -> Given
     ensures meant { IsMeant (events.CrashDisk node pick) result }
     ensures picked { (i : ℕ) → node ≡ Server i → result ≡ given.Server i (server.Crash pick) }
+    ensures picked_at_loc { node ≡ Loc → result ≡ given.Database (database.Crash pick) }
 {
     match node {
         Node::Server(server) => Given::Server(server, ServerInput::Crash(pick)),
-        Node::Loc => Given::Nothing,
+        Node::Loc => Given::Database(DatabaseInput::Crash(pick)),
         Node::Client(_) => Given::Nothing,
         Node::Admin(_) => Given::Nothing,
     }
@@ -77,7 +81,7 @@ fn restart(node: Node) -> Given
     match node {
         Node::Client(client) => Given::Client(client, ClientInput::Restart),
         Node::Server(server) => Given::Server(server, ServerInput::Restart),
-        Node::Loc => Given::Nothing,
+        Node::Loc => Given::Database(DatabaseInput::Restart),
         Node::Admin(_) => Given::Nothing,
     }
 }
@@ -88,7 +92,7 @@ fn stop(node: Node, calls: u32, pick: u8) -> Given
 {
     match node {
         Node::Server(server) => Given::Server(server, ServerInput::Stop { calls, pick }),
-        Node::Loc => Given::Nothing,
+        Node::Loc => Given::Database(DatabaseInput::Stop { calls, pick }),
         Node::Client(_) => Given::Nothing,
         Node::Admin(_) => Given::Nothing,
     }
@@ -100,7 +104,7 @@ fn fail(node: Node, call: u32) -> Given
 {
     match node {
         Node::Server(server) => Given::Server(server, ServerInput::Fail { call }),
-        Node::Loc => Given::Nothing,
+        Node::Loc => Given::Database(DatabaseInput::Fail { call }),
         Node::Client(_) => Given::Nothing,
         Node::Admin(_) => Given::Nothing,
     }
@@ -111,6 +115,7 @@ pub fn meaning_of(event: Event) -> Given
     requires { event ≡ events.Drain → ⊥ }
     ensures meant { IsMeant event result }
     ensures picked { (i pick : ℕ) → event ≡ events.CrashDisk (Server i) pick → result ≡ given.Server i (server.Crash pick) }
+    ensures picked_at_loc { (pick : ℕ) → event ≡ events.CrashDisk Loc pick → result ≡ given.Database (database.Crash pick) }
 {
     match event {
         Event::Act { node } => act(node),

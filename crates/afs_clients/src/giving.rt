@@ -40,7 +40,7 @@ pub fn client_takes<'a>(
 ) -> Happened
     requires script { IsCellScript script.now }
     requires ready { AllReady script.now clients.old.items }
-    ensures { ClientsHappened script.now client (IsVoidClient given) (ClientTakes client now given) clients.old.items clients.new.items result }
+    ensures { ClientsHappened script.now client (IsVoidClient given) (ClientTakes script.now client now given) clients.old.items clients.new.items result }
 {
     let Some(i) = clients.find(client) else {
         return Happened::Nothing;

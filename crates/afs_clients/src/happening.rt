@@ -19,6 +19,18 @@ pub enum ServerInput {
     Fail { call: u32 },
 }
 
+/// What the location database is given beside messages.
+#[derive(Clone, Copy, Debug)]
+pub enum DatabaseInput {
+    /// It crashes, and its disk with this pick.
+    Crash(u8),
+    Restart,
+    /// Its disk is to pass so many device calls and then to stop it.
+    Stop { calls: u32, pick: u8 },
+    /// Its disk is to fail at this one of its next device calls.
+    Fail { call: u32 },
+}
+
 /// What a client is given beside messages.
 #[derive(Clone, Copy, Debug)]
 pub enum ClientInput {

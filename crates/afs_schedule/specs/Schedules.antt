@@ -11,8 +11,9 @@ use Rattle.afs_history.specs.declared.scripts.Script.{Script}
 use Rattle.afs_history.specs.declared.scripts.Task.{Task}
 use Rattle.afs_history.specs.declared.scripts.Task.TheVariants as tasks
 use Rattle.afs_rows.specs.Callbacks.{put_at}
+use Rattle.afs_rows.specs.ClientRow.{act_of}
 use Rattle.afs_rows.specs.Going.{ClientState, Going}
-use Rattle.afs_rows.specs.Runs.{begins, client_starts, client_stops, gives, gives_out, is_away, moved, nothing, server_waits, sets_fail, sets_stop, start, starts_again, steady, stops, ticks, waits, wakes, Cell, Entry, Input, Leads, Luck, MayBegin, Outcome}
+use Rattle.afs_rows.specs.Runs.{begins, client_starts, client_stops, gives, gives_out, is_away, moved, nothing, server_waits, sets_fail, sets_stop, start, starts_again, steady, stops, ticks, waits, wakes, Cell, Entry, Fall, Input, Leads, Luck, MayBegin, Outcome}
 
 -- ---- a schedule under way: the cell, what each client and each administrator has not begun, and the places that a deliver named
 
@@ -73,7 +74,7 @@ is_idle (Some act) = false
 -- a client that is up and idle begins its next act; else nothing happens
 abbrev pub act_input : Cell → ℕ → Option Act → Input
 act_input c n None = nothing
-act_input c n (Some act) = if not (is_away c n) && is_idle (c.clients n).running then begins n act else nothing
+act_input c n (Some act) = if not (is_away c n) && is_idle (act_of (c.clients n)) then begins n act else nothing
 
 -- only the call to this node times out
 abbrev pub timeout_input : ClientState → ℕ → Node → Input
@@ -85,14 +86,18 @@ IsLuck steady = Unit {0}
 IsLuck (gives_out call) = 1 ≤ call
 
 -- Servers are numbered from 1; number 0 of the inputs that stop a node with a disk, let it begin again or set its disk is the location
--- database. So an event that names server 0, which no cell has, is nothing.
+-- database, which has a name of its own in events. So an event that names server 0, which no cell has, is nothing.
 abbrev pub at_server : ℕ → Input → Input
 at_server zero x = nothing
 at_server (suc i) x = x
 
--- What each event is. A delivery leaves open whether the disk fails by itself. So does a restart of a server: it begins before the
--- interrupted step or after it as the blow tells that ended it, where the disk was set to that, and this is open where it failed by
--- itself. No event is a step of the location database or of an administrator yet.
+-- how a node with a disk begins again: before the interrupted step or after it
+abbrev pub IsRestart : Option Fall → (Bool → Outcome → Input) → Input → Type 0
+IsRestart down begun x = (after : Bool) × ((outcome : Outcome) × (MayBegin down after × (x ≡ begun after outcome)))
+
+-- What each event is. A delivery leaves open whether the disk fails by itself. So does a restart of a node with a disk: it begins before
+-- the interrupted step or after it as the blow tells that ended it, where the disk was set to that, and this is open where it failed by
+-- itself. No event is a step of an administrator yet.
 abbrev pub IsInput : Turn → Event → Input → Type 0
 IsInput t (events.Act (Client n)) x = x ≡ act_input t.cell n (client_act (slice_get (t.left (Client n)) 0))
 IsInput t (events.Act node) x = x ≡ nothing
@@ -106,13 +111,17 @@ IsInput t (events.Tick n) x = x ≡ ticks n
 IsInput t (events.Crash (Client n)) x = x ≡ client_stops n
 IsInput t (events.Crash node) x = x ≡ nothing
 IsInput t (events.CrashDisk (Server i) pick) x = x ≡ at_server i (stops i)
+IsInput t (events.CrashDisk Loc pick) x = x ≡ stops 0
 IsInput t (events.CrashDisk node pick) x = x ≡ nothing
 IsInput t (events.Restart (Client n)) x = x ≡ client_starts n
-IsInput t (events.Restart (Server i)) x = (after : Bool) × ((outcome : Outcome) × (MayBegin (t.cell.hosts i).down after × (x ≡ at_server i (starts_again i after outcome))))
+IsInput t (events.Restart (Server i)) x = IsRestart (t.cell.hosts i).down (λ (after : Bool) (outcome : Outcome). at_server i (starts_again i after outcome)) x
+IsInput t (events.Restart Loc) x = IsRestart t.cell.loc.down (starts_again 0) x
 IsInput t (events.Restart node) x = x ≡ nothing
 IsInput t (events.Stop (Server i) calls pick) x = x ≡ at_server i (sets_stop i calls pick)
+IsInput t (events.Stop Loc calls pick) x = x ≡ sets_stop 0 calls pick
 IsInput t (events.Stop node calls pick) x = x ≡ nothing
 IsInput t (events.Fail (Server i) call) x = x ≡ at_server i (sets_fail i call)
+IsInput t (events.Fail Loc call) x = x ≡ sets_fail 0 call
 IsInput t (events.Fail node call) x = x ≡ nothing
 
 -- ---- a schedule is a list of inputs

@@ -19,5 +19,5 @@ take-requires-clause-epoch c = (c.requires.ready c.args.client c.at.result.now (
 
 pub returns : goal.returns
 returns c =
-    client_changed c.args.script.now c.args.client (IsVoidClient c.args.given) (ClientTakes c.args.client c.args.now c.args.given) c.args.clients.now.items c.at.result.now c.take.new.self (at_found c.args.clients.now.items c.args.client (c.in-Some.i + 1) c.at.result.now c.in-Some.ensures.some.0 c.at.ensures.value)
+    client_changed c.args.script.now c.args.client (IsVoidClient c.args.given) (ClientTakes c.args.script.now c.args.client c.args.now c.args.given) c.args.clients.now.items c.at.result.now c.take.new.self (at_found c.args.clients.now.items c.args.client (c.in-Some.i + 1) c.at.result.now c.in-Some.ensures.some.0 c.at.ensures.value)
     (put_place (c.in-Some.i + 1) c.take.new.self c.args.clients.now.items) c.take.result (ap (λ (k : ℕ). put_place k c.take.new.self c.args.clients.now.items) c.in-Some.ensures.some.0) c.take.ensures.happens c.take.ensures.goes
