@@ -11,9 +11,10 @@ use Rattle.afs_command.specs.declared.statuses.Status.TheVariants as statuses
 use Rattle.afs_command.specs.declared.scripts.Refusal.{Refusal}
 use Rattle.afs_command.specs.declared.scripts.Refusal.TheVariants as refusals
 
--- how far the grammar is built: disks that stop, every act on paths, several clients and breaks, at one server
+-- how far the grammar is built: disks that stop, every act on paths, several clients and breaks, several servers and the location
+-- database
 abbrev pub level : ℕ
-level = 6
+level = 7
 
 -- the input is none: this is its first bad line, and the reason
 abbrev pub IsBad : ℕ → Reason → List ℕ → Type 0

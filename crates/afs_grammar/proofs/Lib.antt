@@ -1,6 +1,7 @@
 pub mod Acting
 pub mod Built
 pub mod CellScripts
+pub mod Entries
 pub mod FirstBad
 pub mod Laid
 pub mod LineByLine

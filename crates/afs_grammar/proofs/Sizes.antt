@@ -25,14 +25,14 @@ word_size : (n : ℕ) → length (word n) ≡ 4
 unfolding word
 word_size n = refl
 
-behind : (n : ℕ) (rest : List ℕ) → length (word n ++ rest) ≡ 4 + length rest
+pub behind : (n : ℕ) (rest : List ℕ) → length (word n ++ rest) ≡ 4 + length rest
 behind n rest = length-append (word n) rest ∙ ap (λ (k : ℕ). k + length rest) (word_size n)
 
 words_size : (ns : List ℕ) → length (words ns) ≡ 4 * length ns
 words_size [] = refl
 words_size (n ∷ ns) = ap length (flat_map-cons word n ns) ∙ (behind n (words ns) ∙ omega (arith, words_size ns))
 
-opaque_size : (bytes : List ℕ) → length (opaque bytes) ≡ 4 + filled_up (length bytes)
+pub opaque_size : (bytes : List ℕ) → length (opaque bytes) ≡ 4 + filled_up (length bytes)
 unfolding opaque pad
 opaque_size bytes =
     behind (length bytes) (bytes ++ replicate (pad_length (length bytes)) 0)
@@ -149,7 +149,7 @@ stored_is (p ∷ ps) =
 
 -- ---- the record
 
-head_is : length (head_form.spelled no_head) ≡ 24
+pub head_is : length (head_form.spelled no_head) ≡ 24
 unfolding head_form word opaque pad
 head_is = refl
 

@@ -1,4 +1,4 @@
--- How long the first record of a server is, counted by its volumes, whose numbers ascend.
+-- How long the first record of a server is, counted by its volumes, whose numbers ascend; and that of the location database.
 use Rattle.afs_ideal.specs.SetUp.{first_volume}
 use Rattle.std.specs.Prelude.{◌≡◌, ◌≤◌, ℕ, ◌+◌, List, [], ◌∷◌, length}
 use Rattle.afs_ideal.specs.Images.{acl_by}
@@ -6,8 +6,10 @@ use Rattle.afs_ideal.specs.Tables.{Table}
 use Rattle.afs_ideal.specs.Volumes.{Vnode, Volume, bytes_by}
 use Rattle.afs_records.specs.Changes.{record_of_volumes}
 use Rattle.afs_records.specs.Durable.{place_length}
+use Rattle.afs_records.specs.LocDurable.{loc_first_record}
+use Rattle.afs_records.specs.LocRecords.{loc_record_bytes}
 use Rattle.afs_history.specs.declared.scripts.VolumeLine.{VolumeLine}
-use Rattle.afs_grammar.specs.Lines.{filled_up, stored_all}
+use Rattle.afs_grammar.specs.Lines.{filled_up, loc_length, stored_all}
 
 -- a vnode has two words where it is listed, and its image has seventeen and a mark, beside its access list and its bytes
 abbrev pub vnode_size : Vnode → ℕ
@@ -31,3 +33,6 @@ AscendFrom n (l ∷ ls) = (n ≤ l.id) × AscendFrom (l.id + 1) ls
 
 abbrev pub FirstRecordIsTheSum : Type 0
 FirstRecordIsTheSum = (n : ℕ) (ls : List VolumeLine) → AscendFrom n ls → place_length (record_of_volumes (stored_all ls)) ≡ 41 + volumes_size ls
+
+abbrev pub FirstEntriesAreTheSum : Type 0
+FirstEntriesAreTheSum = (ls : List VolumeLine) → length (loc_record_bytes (loc_first_record ls)) ≡ loc_length ls

@@ -3,7 +3,7 @@
 ghost use Rattle.afs_grammar.specs.CellScripts.{ScriptsAreOfCells};
 ghost use Rattle.afs_grammar.specs.FirstBad.{FirstBadLineDecides, LastLineDecides, LongerIsAsItsFront, TooLongIsNoScript};
 ghost use Rattle.afs_grammar.specs.Narrow.{NarrowFormsHaveOneServer};
-ghost use Rattle.afs_grammar.specs.Sizes.{FirstRecordIsTheSum};
+ghost use Rattle.afs_grammar.specs.Sizes.{FirstEntriesAreTheSum, FirstRecordIsTheSum};
 ghost use Rattle.afs_grammar.specs.Worked.{BadLines, OneIsRead};
 
 /// Where lines are good and the line behind them is bad, the whole is bad with that line's number and reason, whatever
@@ -41,6 +41,11 @@ pub fn narrow_forms_have_one_server()
 /// The first record of a server is as long as its volumes' sizes say, whose numbers ascend.
 pub fn first_record_is_the_sum()
     ensures { FirstRecordIsTheSum }
+{}
+
+/// The first record of the location database is as long as its volumes' names say.
+pub fn first_entries_are_the_sum()
+    ensures { FirstEntriesAreTheSum }
 {}
 
 /// Some bad lines, each with its reason.

@@ -107,7 +107,7 @@ fn bad_line_has_its_reason(rt: HostRuntime) -> Result<(), Fail> {
 }
 
 /// The level of a form, the number of the first bad line and its reason by that form, and the script.
-const EARLY: [(u8, &str); 8] = [
+const EARLY: [(u8, &str); 10] = [
     (3, "3 Word|cell 1\nservers 1\ncapacity 65536\n"),
     (3, "3 Word|cell 1\nservers 1\nuser c1 x\n"),
     (
@@ -120,6 +120,8 @@ const EARLY: [(u8, &str); 8] = [
     ),
     (5, "3 Limit|cell 1\nservers 1\nclients 2\n"),
     (6, "2 Limit|cell 1\nservers 2\n"),
+    (6, "4 Word|cell 1\nservers 1\nschedule\nrestart loc\n"),
+    (7, "5 Missing|cell 1\nservers 2\nschedule\nrestart loc\n"),
     (8, "3 Word|cell 1\nservers 2\nadmins 1\n"),
     (9, "3 Word|cell 1\nservers 1\nplan crash s1 1\n"),
 ];

@@ -1,3 +1,4 @@
 mod Few
+mod Listing
 mod Scripts
 mod SetUps

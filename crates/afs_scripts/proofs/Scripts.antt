@@ -1,4 +1,4 @@
--- What every script of a cell has: short names, ascending numbers, volumes at its own servers, and one server below level 7.
+-- What every script of a cell has: short names, ascending numbers and volumes at its own servers.
 use Rattle.std.proofs.Common.{◌≡◌, ℕ, ◌+◌, ◌≤◌, List, [], ◌∷◌, arith}
 use Rattle.afs_history.specs.declared.scripts.VolumeLine.{VolumeLine}
 use Rattle.afs_law.specs.Cells.{AreInCell}
@@ -6,10 +6,8 @@ use Rattle.afs_law.specs.Laws.{AscendBy}
 use Rattle.afs_volstore.specs.Laying.{HaveShortNames}
 use Rattle.afs_words.specs.declared.nodes.Counts.{Counts}
 use Rattle.afs_grammar.specs.CellScripts.{counts_of, AreVolumes}
-use Rattle.afs_grammar.proofs.CellScripts.{scripts_are_of_cells}
 use Rattle.afs_grammar.proofs.Names.{short_name}
-use Rattle.afs_grammar.proofs.Servers.{one_server}
-use Rattle.afs_scripts.specs.SetUps.{AreAtFirst, NamesAreShort, NumbersAscend, OneServerAtSix, VolumesAreInCell}
+use Rattle.afs_scripts.specs.SetUps.{NamesAreShort, NumbersAscend, VolumesAreInCell}
 
 ascend : (c : Counts) (m n : ℕ) (ls : List VolumeLine) → m ≤ n → AreVolumes c n ls → AscendBy m ls
 ascend c m n [] le h = tt
@@ -31,12 +29,3 @@ in_cell c n (l ∷ ls) h = (h.0.server, in_cell c (n + 1) ls h.1)
 
 pub volumes_in_cell : VolumesAreInCell
 volumes_in_cell s h = record { servers = h.servers.1; volumes = in_cell (counts_of s) 536870912 s.volumes h.volumes }
-
-at_one : (c : Counts) (n : ℕ) (ls : List VolumeLine) → c.servers ≡ 1 → AreVolumes c n ls → AreAtFirst ls
-at_one c n [] one h = tt
-at_one c n (l ∷ ls) one h = (let server = h.0.server in omega (arith, one, server.0, server.1), at_one c (n + 1) ls one h.1)
-
-pub one_server_at_six : OneServerAtSix
-one_server_at_six level bytes s e lt =
-    let one = one_server level bytes s e lt in
-    (one, at_one (counts_of s) 536870912 s.volumes one (scripts_are_of_cells level bytes s e).volumes)
