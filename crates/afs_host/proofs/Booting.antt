@@ -15,7 +15,7 @@ use Rattle.afs_disk.specs.Disk.{LeavesOnly, Rose}
 use Rattle.afs_disk.specs.Fuses.{Fused}
 use Rattle.afs_journal.specs.Records.{whole_records, IsBeforeOrAfter}
 use Rattle.afs_model.specs.Messages.{messages_spelled}
-use Rattle.afs_records.specs.Changes.{boot_record, can_boot}
+use Rattle.afs_records.specs.Changes.{boot_record, can_boot, no_head}
 use Rattle.afs_ideal.specs.Operations.{last_count}
 use Rattle.afs_records.specs.Durable.{folded, has_room, Durable, StandFor}
 use Rattle.afs_records.specs.Laws.{started, StartsAreKept}
@@ -39,7 +39,7 @@ use Rattle.afs_host.specs.declared.starting.Start.{Start}
 use Rattle.afs_host.specs.declared.starting.Start.TheVariants as starts
 use Rattle.afs_host.proofs.Lying.{begun_lies, found_free, kept_before, kept_there, some_of}
 
-left_true : (a b : Bool) → (a && b) ≡ true → a ≡ true
+pub left_true : (a b : Bool) → (a && b) ≡ true → a ≡ true
 left_true true b h = refl
 left_true false b h = absurd cc
 
@@ -74,14 +74,14 @@ is_true false no_false = absurd (no_false refl)
 can_fits : (d : Durable) → can_boot d ≡ true → d.boot < last_count
 can_fits d can = ltb-true d.boot last_count (left_true (nat_lt d.boot last_count) (has_room d (boot_record (d.boot + 1))) can)
 
+-- a record without a caller has an empty head
+pub no_head_fits : head_form.Fits no_head
+unfolding head_form
+no_head_fits = ((omega (arith), (omega (arith), ((omega (arith), refl), (omega (arith), (omega (arith), omega (arith)))))), refl)
+
 -- the record of a boot whose number is a word has a spelling
 pub fits_boot : (d : Durable) → can_boot d ≡ true → FitsRecord (boot_record (d.boot + 1))
-unfolding head_form
-fits_boot d can = record {
-  head = ((omega (arith), (omega (arith), ((omega (arith), refl), (omega (arith), (omega (arith), omega (arith)))))), refl);
-  body = (omega (arith, can_fits d can), tt);
-  caller = refl;
-}
+fits_boot d can = record { head = no_head_fits; body = (omega (arith, can_fits d can), tt); caller = refl }
 
 -- ---- a failure is no other refusal
 
@@ -191,7 +191,7 @@ failed_boots {D} seen may_leave moment left_since now kept_law faults limit begu
 one_longer : (bs : List (List ℕ)) (bytes : List ℕ) (rs : List (List ℕ)) (n : ℕ) → rs ≡ bs ++ bytes ∷ [] → length rs ≡ n → n ≡ length bs → ⊥
 one_longer bs bytes rs n is counted same = absurd (omega (arith, ap length is, counted, same, length-append bs (bytes ∷ [])))
 
-still : (bs : List (List ℕ)) (bytes : List ℕ) (rs : List (List ℕ)) (n : ℕ) → (rs ≡ bs) ⊎ (rs ≡ bs ++ bytes ∷ []) → length rs ≡ n → n ≡ length bs → rs ≡ bs
+pub still : (bs : List (List ℕ)) (bytes : List ℕ) (rs : List (List ℕ)) (n : ℕ) → (rs ≡ bs) ⊎ (rs ≡ bs ++ bytes ∷ []) → length rs ≡ n → n ≡ length bs → rs ≡ bs
 still bs bytes rs n (inl is) counted same = is
 still bs bytes rs n (inr is) counted same = absurd (one_longer bs bytes rs n is counted same)
 

@@ -36,9 +36,9 @@ use Rattle.afs_host.proofs.Stepping.{as_up, same_row}
 
 -- ---- its record
 
-pub decided_one : (o : Option StoreRecord) → (o ≡ None → ⊥) → (r : StoreRecord) × (o ≡ Some r)
-decided_one None some = absurd (some refl)
-decided_one (Some r) some = (r, refl)
+pub one_of : {A : Type 0} (o : Option A) → (o ≡ None → ⊥) → (r : A) × (o ≡ Some r)
+one_of {A} None some = absurd (some refl)
+one_of {A} (Some r) some = (r, refl)
 
 -- a step that makes a record makes four device calls
 pub saves_calls : (s : ServerState) (clock : ℕ) (d : Decision) → (record_decided s.lasting.boot clock d ≡ None → ⊥) → device_calls s clock d ≡ 4
@@ -89,7 +89,7 @@ pub ended_lies : {D : Type 0} (seen : D → Option (List ℕ)) (may_leave : D �
 ended_lies {D} seen may_leave moment left_since now clock found old before after ended m by b told c left =
     let d = old.store.durable in
     let bytes = some_of (seen before) (ended.told told) in
-    let r = decided_one (record_decided d.boot clock (decides old.store.node (server_seen old.memory old.store) clock found)) ended.some in
+    let r = one_of (record_decided d.boot clock (decides old.store.node (server_seen old.memory old.store) clock found)) ended.some in
     let only = ended.around r.0 r.1 bytes.0 bytes.1 in
     let around = only.each c (now after (moment before) c only.later left) in
     begun_lies old.store.node (server_seen old.memory old.store) (in_step m clock b) (whole_records bytes.0) old.store.count d r.0
@@ -103,7 +103,7 @@ pub ended_left : {D : Type 0} (seen : D → Option (List ℕ)) (left_by : D → 
 ended_left {D} seen left_by may_leave moment left_since now leaves clock found old before after ended m by b told n picked pick c left =
     let d = old.store.durable in
     let bytes = some_of (seen before) (ended.told told) in
-    let r = decided_one (record_decided d.boot clock (decides old.store.node (server_seen old.memory old.store) clock found)) ended.some in
+    let r = one_of (record_decided d.boot clock (decides old.store.node (server_seen old.memory old.store) clock found)) ended.some in
     let only = ended.around r.0 r.1 bytes.0 bytes.1 in
     let around = only.each c (now after (moment before) c only.later (leaves after pick c left)) in
     begun_as old.store.node (server_seen old.memory old.store) (in_step m clock b) (whole_records bytes.0) old.store.count d r.0
@@ -112,7 +112,7 @@ ended_left {D} seen left_by may_leave moment left_since now leaves clock found o
 -- ---- the server is down
 
 -- which call of the step wasn't made, and which pick the disk was left with: that is what the blow leaves
-left_by_stop : (b : Blow) (n pick : ℕ) → n ≡ b.call → (b.stops ≡ true → pick ≡ b.pick) → (b.stops ≡ false → pick ≡ 1) → (t : Bool) → b.stops ≡ t → is_left_whole n pick ≡ leaves_after b
+pub left_by_stop : (b : Blow) (n pick : ℕ) → n ≡ b.call → (b.stops ≡ true → pick ≡ b.pick) → (b.stops ≡ false → pick ≡ 1) → (t : Bool) → b.stops ≡ t → is_left_whole n pick ≡ leaves_after b
 left_by_stop b n pick is stop fail true e =
     ap (λ (k : ℕ). nat_eq k 4 && nat_eq pick 1) is ∙ (ap (λ (p : ℕ). nat_eq b.call 4 && nat_eq p 1) (stop e) ∙ ap (λ (t : Bool). nat_eq b.call 4 && (not t || nat_eq b.pick 1)) (sym e))
 left_by_stop b n pick is stop fail false e =

@@ -74,11 +74,11 @@ effect_all me capacity (b ∷ bs) bytes r d x h is takes =
 
 -- ---- the lines with which a restart begins
 
-same_mark_is : (a b : Mark) → a ≡ b → same_mark a b ≡ true
+pub same_mark_is : (a b : Mark) → a ≡ b → same_mark a b ≡ true
 same_mark_is a b e =
     ap (λ (t : Bool). t && nat_eq a.records b.records) (eq-eqb a.generation b.generation (ap (λ (m : Mark). m.generation) e)) ∙ eq-eqb a.records b.records (ap (λ (m : Mark). m.records) e)
 
-other_mark : (bs : List (List ℕ)) (bytes : List ℕ) (mark : Mark) → mark_of bs ≡ mark → same_mark (mark_of (bs ++ bytes ∷ [])) mark ≡ false
+pub other_mark : (bs : List (List ℕ)) (bytes : List ℕ) (mark : Mark) → mark_of bs ≡ mark → same_mark (mark_of (bs ++ bytes ∷ [])) mark ≡ false
 other_mark bs bytes mark e = subst (λ (m : Mark). same_mark (mark_of (bs ++ bytes ∷ [])) m ≡ false) e (ne_eqb (length (bs ++ bytes ∷ [])) (length bs) (λ same. omega (arith, same, length-append bs (bytes ∷ []))))
 
 none_told : (mark : Mark) (records : List (List ℕ)) (o : Option (List Line)) (front : List Line) → same_mark (mark_of records) mark ≡ true → option_map (lines_unless_told mark records) o ≡ Some front → front ≡ []
@@ -165,7 +165,7 @@ lies_stand me s fall mark records capacity sc (inl b) = (b.before.durable, ap (�
 lies_stand me s fall mark records capacity sc (inr a) =
     (a.after.durable, ap (λ (n : ℕ). fold_all n records) (sym (ap (λ (l : Lasting). l.capacity) a.after.read ∙ (capacity_after me s fall ∙ sc))) ∙ a.after.stands)
 
-none_some : (number : ℕ) → None ≡ Some number → ⊥
+pub none_some : (number : ℕ) → None ≡ Some number → ⊥
 none_some number e = absurd cc
 
 pub lies_good : (me : Node) (s : ServerState) (fall : Fall) (mark : Mark) (records : List (List ℕ)) (capacity number : ℕ) → s.lasting.capacity ≡ capacity → LiesIn me s fall mark records → first_bad capacity records ≡ Some number → ⊥

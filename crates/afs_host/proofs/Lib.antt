@@ -6,6 +6,15 @@ pub mod Fallen
 pub mod Finding
 pub mod Handled
 pub mod Heard
+pub mod LocBecoming
+pub mod LocBooting
+pub mod LocBreaking
+pub mod LocFinding
+pub mod LocHandled
+pub mod LocHeard
+pub mod LocLying
+pub mod LocStarted
+pub mod LocStepping
 pub mod Lying
 pub mod Placed
 pub mod Started

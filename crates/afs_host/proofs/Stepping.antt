@@ -27,7 +27,7 @@ use Rattle.afs_model.specs.Calls as pairs
 use Rattle.afs_model.specs.CellRows.{call_number}
 use Rattle.afs_model.specs.Messages.{is_unserved, is_whole, messages_spelled, FoundBy}
 use Rattle.afs_rows.specs.Callbacks.{expired, turned_in}
-use Rattle.afs_rows.specs.Hosts.{fail_blow, lowered, sooner, steady, stop_blow, struck, within, Armed, Blow, goes, served, served_by, HostStep}
+use Rattle.afs_rows.specs.Hosts.{fail_blow, lowered, sooner, steady, stop_blow, struck, within, Armed, Blow, goes, served, served_by, Host, HostStep}
 use Rattle.afs_rows.specs.ServerHosts.{ServerHost, server_kind}
 use Rattle.afs_rows.specs.ServerRow.{admits, called, decides, device_calls, drops, hears, is_client, not_served, refuses, repeats, runs, runs_carried, runs_received, saves, serves_call, shows, tells_boot, whole, Decision}
 use Rattle.afs_rows.specs.ServerSteps.{done, server_row}
@@ -37,15 +37,20 @@ use Rattle.afs_records.proofs.Forms.{some_is}
 use Rattle.afs_volstore.specs.Stores.{Store}
 use Rattle.afs_server_parts.specs.Called.{call_to}
 use Rattle.afs_server.specs.Handling.{calls_served, record_decided, server_seen, IsDone, Makes}
-use Rattle.afs_host.specs.Seats.{waits_for, IsStepUp, IsUp, ServerRunning}
+use Rattle.afs_server.specs.Seen.{Memory}
+use Rattle.afs_host.specs.Seats.{waits_for, IsHostUp, IsStepUp, IsUp, Running, ServerRunning}
 use Rattle.afs_host.specs.Setting.{IsSet}
 
--- what holds of the host that is just the server's state holds of each for which it stands
-pub as_up : {D : Type 0} (r : ServerRunning D) (h : ServerHost) (P : ServerHost → Type 0) → IsUp r h → P (record { state = server_seen r.memory r.store; down = None; armed = r.armed }) → P h
-as_up {D} r h P up p =
-    let state = subst (λ (s : ServerState). P (record { state = s; down = None; armed = r.armed })) (sym up.state) p in
+-- what holds of the host that is just the node's state holds of each for which it stands
+pub as_host_up : {N T S : Type 0} (seen : N → T → S) (r : Running N T) (h : Host S) (P : Host S → Type 0) → IsHostUp seen r h → P (record { state = seen r.memory r.store; down = None; armed = r.armed }) → P h
+as_host_up {N} {T} {S} seen r h P up p =
+    let state = subst (λ (s : S). P (record { state = s; down = None; armed = r.armed })) (sym up.state) p in
     let down = subst (λ d. P (record { state = h.state; down = d; armed = r.armed })) (sym up.down) state in
     subst (λ (a : Armed). P (record { state = h.state; down = h.down; armed = a })) (sym up.armed) down
+
+-- so of a server's
+pub as_up : {D : Type 0} (r : ServerRunning D) (h : ServerHost) (P : ServerHost → Type 0) → IsUp r h → P (record { state = server_seen r.memory r.store; down = None; armed = r.armed }) → P h
+as_up {D} r h P up p = as_host_up (λ (m : Memory) (t : Store (Fused D)). server_seen m t) r h P up p
 
 -- ---- a server that doesn't serve a call answers as if it had read it
 

@@ -1,3 +1,8 @@
+pub mod LocSeated
+pub mod LocSeats
+pub mod LocServing
+pub mod LocStanding
+pub mod LocStarting
 pub mod Seated
 pub mod Seats
 pub mod Serving

@@ -22,15 +22,15 @@ use Rattle.afs_host.specs.Setting.{pick_of, stops_now}
 use Rattle.afs_host.specs.Standing.{Lies, LiesAs}
 use Rattle.afs_host.specs.Views.{count_mark, shown_store, StoreView}
 
--- What became of a server that was given a message: it is up, and gave this out; or it went down, as this line tells. Or memory
+-- What became of a node that was given a message: it is up, and gave this out; or it went down, as this line tells. Or memory
 -- ran out, and then nothing was done.
-pub data Served (D : Type 0) : Type 0 where
-  is_up : ServerRunning D → Outs → Served D
-  is_down : Resting D → Line → Served D
-  unchanged : ServerRunning D → Served D
+pub data Served (U D : Type 0) : Type 0 where
+  is_up : U → Outs → Served U D
+  is_down : Resting D → Line → Served U D
+  unchanged : U → Served U D
 
 -- the disk, whatever became of the server
-abbrev pub disk_served : {D : Type 0} → Served D → D
+abbrev pub disk_served : {D : Type 0} → Served (ServerRunning D) D → D
 disk_served {D} (is_up r outs) = disk_of r
 disk_served {D} (is_down s line) = s.disk
 disk_served {D} (unchanged r) = disk_of r
@@ -45,7 +45,7 @@ pub record HasServed {S : Type 0} (kind : Kind S) (h : Host S) (clock place : �
 -- So it is of each host that the server stands for, and of the message that was found, at any place: the server is up, and gave
 -- this out after the line of the place; or it went down, and that line and this are all. Or memory ran out, and it is as it was.
 abbrev pub IsServed : {D : Type 0} → (D → Option (List ℕ)) → (D → ℕ → Option (List ℕ)) → (D → ℕ) → (D → List ℕ → Type 0) → (D → ℕ) → (D → ℕ → List ℕ → Type 0) → (D → ℕ) → (D → ℕ) →
-    ServerRunning D → ℕ → Received → Served D → Type 0
+    ServerRunning D → ℕ → Received → Served (ServerRunning D) D → Type 0
 IsServed {D} seen left_by size may_leave moment left_since faults limit old clock found (is_up r outs) =
     (h : ServerHost) → IsUp old h → (m : Message) → found ≡ Whole m → (place : ℕ) →
     HasServed (server_kind old.store.node) h clock place m (IsStepUp r (lines.Given place ∷ []) outs) (Rose (faults (disk_of old)) (faults (disk_of r)))
@@ -57,7 +57,7 @@ IsServed {D} seen left_by size may_leave moment left_since faults limit old cloc
 
 -- Whatever the bytes are, the server makes the step of its row on what it finds in them; or it went down, and they are those of a
 -- message.
-abbrev pub MakesRow : {D : Type 0} → ServerRunning D → ℕ → List ℕ → Served D → Type 0
+abbrev pub MakesRow : {D : Type 0} → ServerRunning D → ℕ → List ℕ → Served (ServerRunning D) D → Type 0
 MakesRow {D} old clock bytes (is_up r outs) =
     (h : ServerHost) → IsUp old h → (place : ℕ) → IsStepUp r (lines.Given place ∷ []) outs (given (server_kind old.store.node) h clock place (received_by calls_served bytes))
 MakesRow {D} old clock bytes (is_down s line) = (m : Message) × (received bytes ≡ Whole m)
@@ -120,25 +120,25 @@ abbrev pub HasFallen : {D : Type 0} → (D → Option (List ℕ)) → (D → ℕ
 HasFallen {D} seen left_by may_leave faults limit r s line = HasGoneDown seen left_by may_leave faults limit (shown_store r.store) r.armed s line
 
 -- It is so, whatever became of the server: where its disk ended the step, that is what is left of it once it has fallen.
-abbrev pub Becomes : {D : Type 0} → (D → Option (List ℕ)) → (D → ℕ → Option (List ℕ)) → (D → List ℕ → Type 0) → (D → ℕ) → (D → ℕ) → (Served D → Type 0) → ServerRunning D → Result Outs NodeFault → Type 0
+abbrev pub Becomes : {D : Type 0} → (D → Option (List ℕ)) → (D → ℕ → Option (List ℕ)) → (D → List ℕ → Type 0) → (D → ℕ) → (D → ℕ) → (Served (ServerRunning D) D → Type 0) → ServerRunning D → Result Outs NodeFault → Type 0
 Becomes {D} seen left_by may_leave faults limit Is new (Ok outs) = Is (is_up new outs)
 Becomes {D} seen left_by may_leave faults limit Is new (Err nodes.OutOfMemory) = Is (unchanged new)
 Becomes {D} seen left_by may_leave faults limit Is new (Err nodes.Down) = (s : Resting D) (line : Line) → HasFallen seen left_by may_leave faults limit new s line → Is (is_down s line)
 
 -- where it went down its mark is that from before the step, whatever its disk tells
-abbrev pub KeepsMark : {D : Type 0} → ServerRunning D → Served D → Type 0
+abbrev pub KeepsMark : {D : Type 0} → ServerRunning D → Served (ServerRunning D) D → Type 0
 KeepsMark {D} old (is_up r outs) = Unit {0}
 KeepsMark {D} old (is_down s line) = s.mark ≡ count_mark old.store.count
 KeepsMark {D} old (unchanged r) = Unit {0}
 
 -- where it was stopped, what a read gives is what its disk keeps
-abbrev pub RestsServed : {D : Type 0} → (D → Option (List ℕ)) → (D → List ℕ → Type 0) → Node → Served D → Type 0
+abbrev pub RestsServed : {D : Type 0} → (D → Option (List ℕ)) → (D → List ℕ → Type 0) → Node → Served (ServerRunning D) D → Type 0
 RestsServed {D} seen may_leave me (is_up r outs) = Unit {0}
 RestsServed {D} seen may_leave me (is_down s line) = line ≡ lines.Crash me → IfSome (seen s.disk) (λ bytes. LeavesJust bytes (may_leave s.disk))
 RestsServed {D} seen may_leave me (unchanged r) = Unit {0}
 
 -- ---- while it is up it can be given what comes next
-abbrev pub GoesOnServed : {D : Type 0} → ServerRunning D → Served D → Type 0
+abbrev pub GoesOnServed : {D : Type 0} → ServerRunning D → Served (ServerRunning D) D → Type 0
 GoesOnServed {D} old (is_up r outs) = GoesOn 4 50 old r
 GoesOnServed {D} old (is_down s line) = Unit {0}
 GoesOnServed {D} old (unchanged r) = GoesOn 4 50 old r

@@ -1,7 +1,10 @@
-//! A node of a cell with its disk, up or down, and a file server as such a node: what it is given, how it goes down, and how it begins
-//! again. Each call is the step of its host.
+//! A node of a cell with its disk, up or down; and a file server and the location database as such nodes: what they are given, how they
+//! go down, and how they begin again. Each call is the step of its host.
 #![tactic(auto)]
 
+mod database;
+mod database_serving;
+mod database_starting;
 mod resting;
 mod running;
 mod seats;
@@ -12,7 +15,7 @@ mod starting;
 mod stores;
 
 pub use resting::Resting;
-pub use running::{Running, ServerRunning};
-pub use seats::{Seat, ServerSeat};
+pub use running::{DatabaseRunning, Running, ServerRunning};
+pub use seats::{DatabaseSeat, Seat, ServerSeat};
 pub use starting::Start;
 pub use stores::OnDisk;

@@ -12,6 +12,7 @@ use crate::setting::{Armed, Stop};
 use crate::stores::OnDisk;
 use afs_disk::{Disk, Fuse};
 use afs_history::lines::Line;
+use afs_locdb::LocDb;
 use afs_server::FileServer;
 use afs_volstore::VolStore;
 use std::marker::Model;
@@ -26,6 +27,9 @@ pub struct Running<N, T: OnDisk> {
 
 /// A file server that is up, over such a disk.
 pub type ServerRunning<D> = Running<FileServer, VolStore<Fuse<D>>>;
+
+/// The location database that is up, over such a disk: all that it has in memory is in its store.
+pub type DatabaseRunning<D> = Running<(), LocDb<Fuse<D>>>;
 
 impl<N, T: OnDisk> Model for Running<N, T> {
     ghost use Rattle.afs_host.specs.Setting.{armed_seen};

@@ -1,7 +1,7 @@
 //! The place of a node of the cell that has a disk.
 
 use crate::resting::Resting;
-use crate::running::ServerRunning;
+use crate::running::{DatabaseRunning, ServerRunning};
 
 /// A node that is up, or what is left of one that is down.
 #[derive(Drop)]
@@ -12,3 +12,6 @@ pub enum Seat<U, R> {
 
 /// The place of a file server over such a disk.
 pub type ServerSeat<D> = Seat<ServerRunning<D>, Resting<D>>;
+
+/// The place of the location database over such a disk.
+pub type DatabaseSeat<D> = Seat<DatabaseRunning<D>, Resting<D>>;

@@ -14,7 +14,7 @@ use afs_server::faults::NodeFault;
 use afs_volstore::VolStore;
 
 /// How many device calls a record takes.
-const CALLS_OF_A_RECORD: u64 = 4;
+pub(crate) const CALLS_OF_A_RECORD: u64 = 4;
 
 impl<D: Disk> Running<FileServer, VolStore<Fuse<D>>> {
     /// The server is given the bytes of a message, at this time in ticks. Where its disk ended the step, it is to fall.

@@ -32,7 +32,7 @@ pub enum Start<U, R> {
 }
 
 /// That the disk of a node failed, and nothing else.
-fn fault_alone(alloc: Global, node: Node) -> Mem<Lines>
+pub(crate) fn fault_alone(alloc: Global, node: Node) -> Mem<Lines>
     ensures { IfOk result (λ ls. ls ≡ lines.Fault node ∷ []) }
 {
     let mut lines = Lines::new(alloc);
@@ -41,7 +41,7 @@ fn fault_alone(alloc: Global, node: Node) -> Mem<Lines>
 }
 
 /// These lines, with room for one more.
-fn with_room(lines: Lines) -> Mem<Vec<Line>>
+pub(crate) fn with_room(lines: Lines) -> Mem<Vec<Line>>
     ensures items { IfOk result (λ ls. ls.items ≡ lines) }
     ensures room { IfOk result (λ ls. vec_len ls < vec_capacity ls) }
 {
@@ -51,7 +51,7 @@ fn with_room(lines: Lines) -> Mem<Vec<Line>>
 }
 
 /// These lines, and one more, for which there is room.
-fn with_line(lines: Vec<Line>, last: Line) -> Lines
+pub(crate) fn with_line(lines: Vec<Line>, last: Line) -> Lines
     requires { vec_len lines < vec_capacity lines }
     ensures { result ≡ lines.items ++ last ∷ [] }
 {
@@ -111,7 +111,7 @@ fn rise<D: Disk>(
 
 /// A node stays down, and tells this after the lines with which the restart began: what these told is told, so its mark is
 /// that of the store.
-fn stay<U, T: OnDisk>(store: T, front: Vec<Line>, last: Line) -> Start<U, Resting<T::D>>
+pub(crate) fn stay<U, T: OnDisk>(store: T, front: Vec<Line>, last: Line) -> Start<U, Resting<T::D>>
     requires room { vec_len front < vec_capacity front }
     ensures stays { Stays (T.shown store) front.items last result }
     ensures kept { (T.shown store).closed ≡ false → T.kept store (T.D.seen (T.shown store).fuse.disk) (T.D.may_leave (T.shown store).fuse.disk) }
@@ -122,7 +122,7 @@ fn stay<U, T: OnDisk>(store: T, front: Vec<Line>, last: Line) -> Start<U, Restin
 }
 
 /// What is left of a node of which nothing was told: its mark is the one that was told before.
-fn untold<T: OnDisk>(store: T, told: Mark) -> Resting<T::D>
+pub(crate) fn untold<T: OnDisk>(store: T, told: Mark) -> Resting<T::D>
     ensures value { result ≡ record { disk = (T.shown store).fuse.disk; mark = told } }
     ensures kept { (T.shown store).closed ≡ false → T.kept store (T.D.seen (T.shown store).fuse.disk) (T.D.may_leave (T.shown store).fuse.disk) }
     ensures counted { (T.shown store).closed ≡ false → IsCounted (T.shown store).count (T.D.seen (T.shown store).fuse.disk) }
@@ -171,7 +171,7 @@ fn boot<D: Disk>(
 
 impl<D: Disk> Resting<D> {
     /// A node whose disk can't be taken up stays down, and tells just this, unless memory ran out.
-    fn refused<U>(self, refusal: StoreFault, told: Lines) -> Start<U, Resting<D>>
+    pub(crate) fn refused<U>(self, refusal: StoreFault, told: Lines) -> Start<U, Resting<D>>
         ensures { IsRefused refusal self told result }
     {
         if refusal == StoreFault::OutOfMemory {

@@ -7,6 +7,7 @@ ghost use Rattle.afs_volstore.specs.Stores.{IsCounted, IsKept};
 ghost use Rattle.afs_host.specs.Views.{count_mark, StoreView};
 
 use afs_disk::{Disk, Fuse};
+use afs_locdb::LocDb;
 use afs_num::records::Mark;
 use afs_num::types::Node;
 use afs_volstore::VolStore;
@@ -69,6 +70,48 @@ impl<E: Disk> OnDisk for VolStore<Fuse<E>> {
     ghost kept = { λ s seen may_leave. IsKept s.durable seen may_leave };
 
     ghost sound = { λ s f. refl };
+
+    fn node(&self) -> Node {
+        self.node()
+    }
+
+    fn mark(&self) -> Mark {
+        self.mark()
+    }
+
+    fn arm(&mut self, passes: u64) {
+        self.arm(passes);
+    }
+
+    fn fail_at(&mut self, call: u64) {
+        self.fail_at(call);
+    }
+
+    fn stopped(&self) -> bool {
+        self.stopped()
+    }
+
+    fn release(self) -> E {
+        self.into_disk().into_inner()
+    }
+}
+
+impl<E: Disk> OnDisk for LocDb<Fuse<E>> {
+    ghost use Rattle.std.proofs.Common.{refl};
+    ghost use Rattle.afs_store.specs.Stores as folded;
+    ghost use Rattle.afs_locstore.specs.LocFold.{loc_fold};
+    ghost use Rattle.afs_locdb.specs.Seen.{over};
+    ghost use Rattle.afs_host.specs.Views.{shown_database};
+
+    type D = E;
+
+    ghost shown = { λ b. shown_database b };
+
+    ghost with_fuse = { λ b f. over f b };
+
+    ghost kept = { λ b seen may_leave. folded.IsKept loc_fold b.store.durable seen may_leave };
+
+    ghost sound = { λ b f. refl };
 
     fn node(&self) -> Node {
         self.node()

@@ -1,0 +1,38 @@
+use Rattle.std.specs.Prelude.{◌≡◌, ℕ, List, false}
+use Rattle.std.proofs.Common.{refl, ap, sym, subst, ◌∙◌, inl}
+use Rattle.afs_num.specs.declared.records.Mark.{Mark}
+use Rattle.afs_rows.specs.Hosts.{at_rest}
+use Rattle.afs_rows.specs.LocRow.{LocState}
+use Rattle.afs_disk.specs.Disk.{LeavesJust}
+use Rattle.afs_journal.specs.Records.{whole_records}
+use Rattle.afs_host.specs.LocStanding.{LocLies, LocLiesBefore}
+use Rattle.afs_host.proofs.LocLying.{kept_before}
+use Rattle.afs_host.proofs.Lying.{if_some, is_told, left_image}
+use Rattle.afs_host.proofs.database.Running+unit+LocDb+Fuse+D.crash.Goals as goal
+
+pub returns-clause-step : goal.returns-clause-step
+returns-clause-step g c = λ h up.
+    let store = c.args.self.store.store in
+    let left = c.left_by.ensures in
+    let read = sym (ap (λ (s : LocState). s.lasting) up.state) in
+    let kept = left.kept c.requires.up in
+    let counted = left.counted c.requires.up in
+    record {
+      fall = at_rest;
+      down = refl;
+      armed = refl;
+      capacity = ap (λ (s : LocState). s.lasting.capacity) up.state ∙ (left.capacity ∙ sym left.limit);
+      lies = λ told b l.
+          subst (λ (mark : Mark). LocLies h.state at_rest mark b) (sym left.mark)
+          (inl (kept_before store.durable store.count (g.D.Disk.seen store.disk.disk) (g.D.Disk.may_leave store.disk.disk) h.state read kept counted (left.told.0 told) b
+          (left_image (g.D.Disk.seen c.left_by.result.disk) (g.D.Disk.may_leave store.disk.disk) (g.D.Disk.may_leave c.left_by.result.disk) left.image told b l)));
+      found = λ b at. (
+        false,
+        (
+          tt,
+          subst (λ (mark : Mark). LocLiesBefore h.state mark (whole_records b)) (sym left.mark)
+              (kept_before store.durable store.count (g.D.Disk.seen store.disk.disk) (g.D.Disk.may_leave store.disk.disk) h.state read kept counted (left.told.0 (is_told (g.D.Disk.seen c.left_by.result.disk) b at)) b
+              (if_some (g.D.Disk.seen c.left_by.result.disk) (λ (bytes : List ℕ). g.D.Disk.may_leave store.disk.disk bytes × LeavesJust bytes (g.D.Disk.may_leave c.left_by.result.disk)) b at left.image).0),
+        ),
+      );
+    }
