@@ -1,4 +1,4 @@
--- The disks of a cell's servers are lent, and given back.
+-- The disks of a cell's location database and servers are lent, and given back.
 use Rattle.std.specs.Prelude.{◌≡◌, ◌≤◌, ◌⊎◌, ℕ, zero, suc, ◌+◌, List, [], ◌∷◌, ◌++◌, Option, Some, Result, take, option_map, IsErr, IsSome}
 use Rattle.afs_num.specs.Places.{at_place}
 use Rattle.afs_num.specs.declared.devices.Failed.{Failed}
@@ -14,7 +14,7 @@ use Rattle.afs_final.specs.declared.reading.Left.{Left}
 
 -- ---- lends
 
--- one disk for each of so many servers, by their numbers from this one on, each of this capacity
+-- one disk for each of so many nodes, by their numbers from this one on, each of this capacity
 abbrev pub lends : Place → ℕ → ℕ → ℕ → List Lend
 lends place capacity i zero = []
 lends place capacity i (suc more) = record { place = place; node = i; capacity = capacity } ∷ lends place capacity (i + 1) more
@@ -25,7 +25,7 @@ LendsSome all old new = (n : ℕ) × (new ≡ option_map (λ ls. ls ++ take n al
 
 -- ---- disks that were lent
 
--- the disks of these servers, by their numbers from this one on, each of this capacity
+-- the disks of these nodes, by their numbers from this one on, each of this capacity
 abbrev pub AreLent : {D : Type 0} → (D → ℕ) → ℕ → ℕ → List (Lent D) → Type 0
 AreLent {D} limit capacity i [] = Unit {0}
 AreLent {D} limit capacity i (l ∷ ls) = (l.node ≡ i) × ((limit l.disk ≡ capacity) × AreLent limit capacity (i + 1) ls)
@@ -45,6 +45,10 @@ AreUnused {D} faults (l ∷ ls) = (faults l.disk ≡ 0) × AreUnused faults ls
 abbrev pub kept_disks : {D : Type 0} → ℕ → List (Left (Store D) D) → List (Lent D)
 kept_disks {D} i [] = []
 kept_disks {D} i (f ∷ fs) = record { node = i; disk = kept_disk f } ∷ kept_disks (i + 1) fs
+
+-- all disks of a cell: that of its location database, and those of its servers behind what was read of them
+abbrev pub all_kept : {D : Type 0} → D → List (Left (Store D) D) → List (Lent D)
+all_kept {D} database left = record { node = 0; disk = database } ∷ kept_disks 1 left
 
 -- A bank failed so often: its count of faults rose by so many, or by more, and where it didn't fail, it stands. One that stands at the last
 -- value of a counter counts as risen.

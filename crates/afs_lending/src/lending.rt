@@ -1,9 +1,9 @@
-//! The bank lends the disks of a cell's servers, and takes them back.
+//! The bank lends the disks of a cell's location database and servers, and takes them back.
 
 ghost use Rattle.std.specs.Prelude.{◌≡◌, ◌≤◌, ◌<◌, ◌+◌, ◌^◌, ◌++◌, ◌∷◌, ◌⊎◌, [], ℕ, length, option_map, vec_capacity, vec_len, IfErr, IfOk, OnErr, OnOk};
 ghost use Rattle.afs_disk.specs.Banks.{counted};
 ghost use Rattle.afs_disk.specs.Disk.{Rose};
-ghost use Rattle.afs_lending.specs.Lending.{kept_disks, lends, with_faults, AreLent, AreUnused, GivesBackBut, GoBack, LendsSome, LentTell, OneGoesBack};
+ghost use Rattle.afs_lending.specs.Lending.{all_kept, lends, with_faults, AreLent, AreUnused, GivesBackBut, GoBack, LendsSome, LentTell, OneGoesBack};
 
 use afs_disk::{Bank, Disks, LendFault, Lent, Place};
 use afs_final::{Left, disk_in};
@@ -23,8 +23,9 @@ fn put_last<T>(all: &mut Vec<T>, one: T)
     }
 }
 
-/// One disk for each of so many nodes, by their numbers from the first one on, each of this capacity. Servers are numbered from 1. At
-/// the first lend that fails no more are asked for, and the disks of those before it come back as they were lent.
+/// One disk for each of so many nodes, by their numbers from the first one on, each of this capacity. The location database is number 0,
+/// servers are numbered from 1. At the first lend that fails no more are asked for, and the disks of those before it come back as they
+/// were lent.
 pub fn lend_all<B: Bank<D: Drop>>(
     alloc: Global,
     bank: &mut B,
@@ -102,25 +103,27 @@ pub fn give_back_all<B: Bank<D: Drop>>(bank: &mut B, disks: Disks<B::D>) -> Resu
     all
 }
 
-/// The disks go back after they were read, by their nodes' numbers from the first one on.
+/// The disks go back: first that of the location database, which is number 0, and then those of the servers, after they were read, by
+/// their numbers from 1 on.
 pub fn give_back<B: Bank<D: Drop>>(
     bank: &mut B,
-    first: u8,
+    database: B::D,
     left: Vec<Left<VolStore<B::D>, B::D>>,
 ) -> Result<(), Failed>
-    requires { (first + length left.items ≤ 2 ^ 8) × (length left.items < 2 ^ 8) }
-    ensures all { OnOk result (GivesBackBut B.D.seen 0 (kept_disks first left.items) (B.given bank.old) (B.given bank.new)) }
-    ensures back { GoBack B.D.seen (kept_disks first left.items) (B.given bank.old) (B.given bank.new) (B.faults bank.old) (B.faults bank.new) }
+    requires { length left.items ≤ 8 }
+    ensures all { OnOk result (GivesBackBut B.D.seen 0 (all_kept database left.items) (B.given bank.old) (B.given bank.new)) }
+    ensures back { GoBack B.D.seen (all_kept database left.items) (B.given bank.old) (B.given bank.new) (B.faults bank.old) (B.faults bank.new) }
     ensures quiet { OnOk result (B.faults bank.new ≡ B.faults bank.old) }
     ensures cause { OnErr result (Rose (B.faults bank.old) (B.faults bank.new)) }
-    ensures faults { (n : ℕ) → B.lent_faults bank.new n ≡ with_faults B.D.faults (kept_disks first left.items) n (B.lent_faults bank.old n) }
+    ensures faults { (n : ℕ) → B.lent_faults bank.new n ≡ with_faults B.D.faults (all_kept database left.items) n (B.lent_faults bank.old n) }
     ensures lends { B.lends bank.new ≡ B.lends bank.old }
     ensures never_falls { B.faults bank.old ≤ B.faults bank.new }
 {
-    let mut all = Ok(());
+    let taken = give_one(bank, 0, database, Ok(()));
+    let mut all = taken;
     let mut before = 0;
     for found in left {
-        all = give_one(bank, first + before, disk_in(found), all);
+        all = give_one(bank, 1 + before, disk_in(found), all);
         before += 1;
     }
     all

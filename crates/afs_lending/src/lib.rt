@@ -1,4 +1,4 @@
-//! The disks of a cell's servers are lent, told of behind a history, and given back. None of it needs a cell.
+//! The disks of a cell's location database and servers are lent, those of the servers told of behind a history, and all given back. None of it needs a cell.
 #![tactic(auto)]
 
 mod lending;
