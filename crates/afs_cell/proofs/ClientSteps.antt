@@ -17,9 +17,12 @@ use Rattle.afs_history.specs.declared.lines.Outs.{Outs}
 use Rattle.afs_history.specs.declared.scripts.Event.TheVariants as events
 use Rattle.afs_model.specs.Messages.{messages_spelled, parcels_read}
 use Rattle.afs_rows.specs.Callbacks.{put}
-use Rattle.afs_rows.specs.ClientRow.{begin_row, client_row, reborn, timeout_row}
-use Rattle.afs_rows.specs.Going.{ClientState, Going}
-use Rattle.afs_rows.specs.Runs.{begins, begun_by, client_falls, client_moves, client_rises, client_starts, client_stops, given_at, given_to, gives, has_client, is_away, message_at, moved, nothing, turned, voided, waited_by, waits, Cell, Entry, Input, Moved}
+use Rattle.afs_rows.specs.ClientRow.{act_by, act_of, act_sought, begin_row, guest_row, reborn}
+use Rattle.afs_rows.specs.States.{Location}
+use Rattle.afs_clients.specs.Happening.{seek_times_out, times_out}
+use Rattle.afs_rows.specs.Going.{ClientState, Going, Seek}
+use Rattle.afs_rows.specs.Runs.{begins, begun_by, client_falls, client_moves, client_rises, client_starts, client_stops, given_at, given_to, gives, has_client, is_away, message_at, moved, nothing, locations, sought_for, turned, voided, waited_by, waits, Cell, Entry, Input, Moved}
+use Rattle.afs_rows.specs.LocSteps.{LocHost}
 use Rattle.afs_rows.specs.ServerHosts.{ServerHost}
 use Rattle.afs_rows.specs.Hosts.{steady}
 use Rattle.afs_rows.specs.Steps.{Step}
@@ -29,6 +32,7 @@ use Rattle.afs_clients.specs.Happening.{entry_of, ClientHears, ClientMakes, HasB
 use Rattle.afs_clients.specs.Places.{put_place}
 use Rattle.afs_cell.specs.Steps.{IsAt, Plays}
 use Rattle.afs_cell.specs.Worlds.{falls, IsClient, WorldState}
+use Rattle.afs_host.specs.LocSeated.{IsLocHost}
 use Rattle.afs_host.specs.Seated.{IsHost}
 use Rattle.afs_clients.specs.declared.clients.ClientSeat.{ClientSeat}
 use Rattle.afs_clients.specs.declared.happening.ClientInput.{ClientInput}
@@ -52,10 +56,12 @@ after_client {D} w n now front outs = record w {
 -- one client of the cell is changed so, and nothing else but the messages
 pub record CellMoved (c : Cell) (n : ℕ) (m : Moved) (state : ClientState) (away : Bool) (ls : List Line) (ms : List Message) : Type 0 where
   pub entry : m.entry ≡ entry_with (actors.Node (Client n)) ls ms
+  pub loc : m.cell.loc ≡ c.loc
   pub host_count : m.cell.host_count ≡ c.host_count
   pub hosts : m.cell.hosts ≡ c.hosts
   pub count : m.cell.count ≡ c.count
   pub clock : m.cell.clock ≡ c.clock
+  pub handed : m.cell.handed ≡ c.handed
   pub sent : m.cell.sent ≡ c.sent ++ ms
   pub state_here : m.cell.clients n ≡ state
   pub away_here : m.cell.away n ≡ away
@@ -71,10 +77,12 @@ put_there n x h j e = ap (λ (b : Bool). cond b x (h j)) e
 moves_so : (c : Cell) (n : ℕ) (s : Step ClientState) → CellMoved c n (client_moves c n s) s.state (c.away n) s.lines s.sent
 moves_so c n s = record {
   entry = refl;
+  loc = refl;
   host_count = refl;
   hosts = refl;
   count = refl;
   clock = refl;
+  handed = refl;
   sent = refl;
   state_here = put_here n s.state c.clients;
   away_here = refl;
@@ -85,10 +93,12 @@ moves_so c n s = record {
 turns_so : (c : Cell) (n : ℕ) (away : Bool) (s : Step ClientState) → CellMoved c n (turned n away (client_moves c n s)) s.state away s.lines s.sent
 turns_so c n away s = record {
   entry = refl;
+  loc = refl;
   host_count = refl;
   hosts = refl;
   count = refl;
   clock = refl;
+  handed = refl;
   sent = refl;
   state_here = put_here n s.state c.clients;
   away_here = put_here n away c.away;
@@ -116,6 +126,7 @@ module _ {D : Type 0} (seen : D → Option (List ℕ)) (may_leave : D → List �
       → IsAt seen may_leave limit w t.cell t.left → IsAt seen may_leave limit (after_client w n now front outs) (moved t.cell link.input).cell (left_by link.input t.left)
   at_moved w t is n was now front outs found link at = record {
     cell = record {
+      loc = subst (λ (h : LocHost). IsLocHost seen may_leave limit w.database h) (sym link.moves.loc) at.cell.loc;
       host_count = link.moves.host_count ∙ at.cell.host_count;
       hosts = λ j z here. subst (λ (h : ℕ → ServerHost). IsHost seen may_leave limit (Server j) z (h j)) (sym link.moves.hosts) (at.cell.hosts j z here);
       count = link.moves.count ∙ (at.cell.count ∙ sym (length_put n now w.clients));
@@ -127,6 +138,7 @@ module _ {D : Type 0} (seen : D → Option (List ℕ)) (may_leave : D → List �
           parcels_read-append w.wire outs.parcels ∙ ap₂ (λ a b. a ++ b) at.cell.sent link.read ∙ sym (messages_spelled-append t.cell.sent link.ms)
           ∙ ap messages_spelled (sym link.moves.sent);
       clock = link.moves.clock ∙ at.cell.clock;
+      handed = link.moves.handed ∙ at.cell.handed;
     };
     acts =
         each_put (λ (j : ℕ) (z : ClientSeat). t.left (Client j) ≡ z.plan) (λ (j : ℕ) (z : ClientSeat). left_by link.input t.left (Client j) ≡ z.plan) n now was w.clients found at.acts
@@ -143,7 +155,7 @@ module _ {D : Type 0} (seen : D → Option (List ℕ)) (may_leave : D → List �
         ∙ ap (λ (e : Entry). told w.wire w.history ++ e ∷ [])
         (ap (λ (ms : List Message). entry_with (actors.Node (Client n)) (front ++ outs.lines) ms) (messages_of-read outs.parcels link.ms link.read) ∙ sym link.moves.entry);
     at = at_moved w t is n was now front outs found link at;
-    counts = counts_still faults link.input (moved t.cell link.input).entry w.servers link.harmless;
+    counts = counts_still faults link.input (moved t.cell link.input).entry w link.harmless;
   }
 
 -- ---- which input it is
@@ -174,22 +186,31 @@ makes_linked is t n x was now front outs s one moves here makes plan plans harml
   harmless = harmless;
 }
 
-begins_so : (c : Cell) (n : ℕ) (act : Act) → is_away c n ≡ false → (c.clients n).running ≡ None → act_input c n (Some act) ≡ begins n act
+begins_so : (c : Cell) (n : ℕ) (act : Act) → is_away c n ≡ false → act_of (c.clients n) ≡ None → act_input c n (Some act) ≡ begins n act
 begins_so c n act up idle = ap₂ (λ (a : Bool) (g : Option Going). if not a && is_idle g then begins n act else nothing) up idle
 
-moved_begun : (c : Cell) (n : ℕ) (act : Act) → is_away c n ≡ false → (c.clients n).running ≡ None → moved c (begins n act) ≡ client_moves c n (begin_row (Client n) (c.clients n) c.clock act)
+moved_begun : (c : Cell) (n : ℕ) (act : Act) → is_away c n ≡ false → act_of (c.clients n) ≡ None → moved c (begins n act) ≡ client_moves c n (begin_row (Client n) (c.clients n) c.clock act)
 unfolding moved
-moved_begun c n act up idle = unless (is_away c n) (voided c) (begun_by c n act (c.clients n).running) up ∙ ap (begun_by c n act) idle
+moved_begun c n act up idle = unless (is_away c n) (voided c) (begun_by c n act (act_of (c.clients n))) up ∙ ap (begun_by c n act) idle
 
-moved_waited : (c : Cell) (n : ℕ) (act : Going) → is_away c n ≡ false → (c.clients n).running ≡ Some act → moved c (waits n) ≡ client_moves c n (timeout_row (Client n) (c.clients n) act)
+-- an act that runs waits for a server, and one that asks for the location database
+sought_so : (c : Cell) (n : ℕ) (act : Going) (o : Option Seek) → act_sought o ≡ Some act → sought_for c n o ≡ client_moves c n (seek_times_out (Client n) (c.clients n) o)
+sought_so c n act None e = absurd cc
+sought_so c n act (Some k) e = refl
+
+waited_so : (c : Cell) (n : ℕ) (act : Going) (o : Option Going) → act_by o (c.clients n).seeking ≡ Some act → waited_by c n o ≡ client_moves c n (times_out (Client n) (c.clients n) o)
+waited_so c n act None e = sought_so c n act (c.clients n).seeking e
+waited_so c n act (Some g) e = refl
+
+moved_waited : (c : Cell) (n : ℕ) (act : Going) → is_away c n ≡ false → act_of (c.clients n) ≡ Some act → moved c (waits n) ≡ client_moves c n (times_out (Client n) (c.clients n) (c.clients n).running)
 unfolding moved
-moved_waited c n act up runs = unless (is_away c n) (voided c) (waited_by c n (c.clients n).running) up ∙ ap (waited_by c n) runs
+moved_waited c n act up runs = unless (is_away c n) (voided c) (waited_by c n (c.clients n).running) up ∙ waited_so c n act (c.clients n).running runs
 
-moved_heard : (c : Cell) (n place : ℕ) (m : Message) → message_at c.sent place ≡ Some m → m.head.to ≡ Client n → is_away c n ≡ false → moved c (gives place steady) ≡ client_moves c n (client_row (Client n) (c.clients n) c.clock place (Whole m))
+moved_heard : (c : Cell) (n place : ℕ) (m : Message) → message_at c.sent place ≡ Some m → m.head.to ≡ Client n → is_away c n ≡ false → moved c (gives place steady) ≡ client_moves c n (guest_row (Client n) (c.clients n) c.clock place (Whole m))
 unfolding moved
 moved_heard c n place m at to up =
     ap (given_at c place steady) at ∙ (ap (given_to c place steady m) to
-    ∙ unless (is_away c n) (voided c) (client_moves c n (client_row (Client n) (c.clients n) c.clock place (Whole m))) up)
+    ∙ unless (is_away c n) (voided c) (client_moves c n (guest_row (Client n) (c.clients n) c.clock place (Whole m))) up)
 
 moved_fallen : (c : Cell) (n : ℕ) → is_away c n ≡ false → moved c (client_stops n) ≡ client_falls c n
 unfolding moved
@@ -209,7 +230,7 @@ module _ {D : Type 0} (seen : D → Option (List ℕ)) (may_leave : D → List �
   pub link_begun : HasBegun n t.cell.clock was now outs → ClientLinked (IsInput t (events.Act (Client n))) t n now [] outs
   link_begun h =
       let up = is_up h.makes.up in
-      let idle : (t.cell.clients n).running ≡ None = ap (λ (c : ClientState). c.running) (sym here.state_is) ∙ h.idle in
+      let idle : act_of (t.cell.clients n) ≡ None = ap act_of (sym here.state_is) ∙ h.idle in
       let plan : t.left (Client n) ≡ was.plan = at.acts n was found in
       let next : client_act (slice_get (t.left (Client n)) 0) ≡ Some h.act = ap (λ (ts : List Task). client_act (slice_get ts 0)) plan ∙ h.next in
       makes_linked (IsInput t (events.Act (Client n))) t n (begins n h.act) was now [] outs (begin_row (Client n) (t.cell.clients n) t.cell.clock h.act)
@@ -220,11 +241,11 @@ module _ {D : Type 0} (seen : D → Option (List ℕ)) (may_leave : D → List �
   pub link_timed_out : (callee : Node) → HasTimedOut n callee was now outs → ClientLinked (IsInput t (events.Timeout (Client n) callee)) t n now [] outs
   link_timed_out callee h =
       let up = is_up h.makes.up in
-      let runs : (t.cell.clients n).running ≡ Some h.act = ap (λ (c : ClientState). c.running) (sym here.state_is) ∙ h.running in
+      let runs : act_of (t.cell.clients n) ≡ Some h.act = ap act_of (sym here.state_is) ∙ h.waits in
       let same : same_node (t.cell.clients n).callee callee ≡ true = ap (λ (c : ClientState). same_node c.callee callee) (sym here.state_is) ∙ h.callee_is in
-      makes_linked (IsInput t (events.Timeout (Client n) callee)) t n (waits n) was now [] outs (timeout_row (Client n) (t.cell.clients n) h.act)
+      makes_linked (IsInput t (events.Timeout (Client n) callee)) t n (waits n) was now [] outs (times_out (Client n) (t.cell.clients n) (t.cell.clients n).running)
       (sym (ap (λ (b : Bool). if b then waits n else nothing) same)) (moved_waited t.cell n h.act up runs) here
-      (subst (λ (c : ClientState). ClientMakes [] (timeout_row (Client n) c h.act) was now outs) here.state_is h.makes)
+      (subst (λ (c : ClientState). ClientMakes [] (times_out (Client n) c c.running) was now outs) here.state_is h.makes)
       (at.acts n was found ∙ sym h.plan) (λ j e. refl) refl
 
   pub link_heard : (place : ℕ) (p : Parcel) → at_place w.wire place ≡ Some p → p.head.to ≡ Client n → ClientHears n t.cell.clock place p.bytes was now outs
@@ -232,15 +253,15 @@ module _ {D : Type 0} (seen : D → Option (List ℕ)) (may_leave : D → List �
   link_heard place p stands to h =
       let f = message_found seen may_leave faults limit w t.cell place p at.cell stands in
       let makes = h.makes f.message f.carries.bytes in
-      makes_linked (IsInput t (events.Deliver place)) t n (gives place steady) was now (lines.Given place ∷ []) outs (client_row (Client n) (t.cell.clients n) t.cell.clock place (Whole f.message))
+      makes_linked (IsInput t (events.Deliver place)) t n (gives place steady) was now (lines.Given place ∷ []) outs (guest_row (Client n) (t.cell.clients n) t.cell.clock place (Whole f.message))
       (steady, (refl, tt)) (moved_heard t.cell n place f.message f.at (sym (ap (λ x. x.to) f.carries.head) ∙ to) (is_up makes.up)) here
-      (subst (λ (c : ClientState). ClientMakes (lines.Given place ∷ []) (client_row (Client n) c t.cell.clock place (Whole f.message)) was now outs) here.state_is makes)
+      (subst (λ (c : ClientState). ClientMakes (lines.Given place ∷ []) (guest_row (Client n) c t.cell.clock place (Whole f.message)) was now outs) here.state_is makes)
       (at.acts n was found ∙ sym h.plan) (λ j e. refl) refl
 
   nothing_sent : outs.parcels ≡ [] → parcels_read outs.parcels ≡ messages_spelled []
   nothing_sent e = ap parcels_read e
 
-  pub link_fallen : HasFallen n was now outs → ClientLinked (IsInput t (events.Crash (Client n))) t n now [] outs
+  pub link_fallen : HasFallen w.script n was now outs → ClientLinked (IsInput t (events.Crash (Client n))) t n now [] outs
   link_fallen h = record {
     input = client_stops n;
     is_one = refl;
@@ -249,8 +270,8 @@ module _ {D : Type 0} (seen : D → Option (List ℕ)) (may_leave : D → List �
     moves =
         subst (λ (m : Moved). CellMoved t.cell n m now.client.state true outs.lines []) (sym (moved_fallen t.cell n (is_up h.up)))
         (subst (λ (ls : List Line). CellMoved t.cell n (client_falls t.cell n) now.client.state true ls []) (sym h.tells.lines)
-        (subst (λ (st : ClientState). CellMoved t.cell n (client_falls t.cell n) st true (lines.Crash (Client n) ∷ []) []) (sym (h.state ∙ ap reborn here.state_is))
-        (turns_so t.cell n true (record { state = reborn (t.cell.clients n); lines = lines.Crash (Client n) ∷ []; sent = [] }))));
+        (subst (λ (st : ClientState). CellMoved t.cell n (client_falls t.cell n) st true (lines.Crash (Client n) ∷ []) []) (sym (h.state ∙ (ap (λ (table : List Location). reborn table was.client.state) (sym at.cell.handed) ∙ ap (reborn t.cell.handed) here.state_is)))
+        (turns_so t.cell n true (record { state = reborn t.cell.handed (t.cell.clients n); lines = lines.Crash (Client n) ∷ []; sent = [] }))));
     away_is = h.away;
     read = nothing_sent h.tells.sent;
     plan = at.acts n was found ∙ sym h.plan;
@@ -293,22 +314,27 @@ no_begin n act a i (inl e) = ap (λ (b : Bool). if not b && i then begins n act 
 no_begin n act true i (inr e) = refl
 no_begin n act false i (inr e) = ap (λ (b : Bool). if b then begins n act else nothing) e
 
-no_act : (c : Cell) (n : ℕ) (next : Option Act) → (is_away c n ≡ true) ⊎ ((is_idle (c.clients n).running ≡ false) ⊎ (next ≡ None)) → act_input c n next ≡ nothing
+no_act : (c : Cell) (n : ℕ) (next : Option Act) → (is_away c n ≡ true) ⊎ ((is_idle (act_of (c.clients n)) ≡ false) ⊎ (next ≡ None)) → act_input c n next ≡ nothing
 no_act c n None none = refl
-no_act c n (Some act) (inl e) = no_begin n act (is_away c n) (is_idle (c.clients n).running) (inl e)
-no_act c n (Some act) (inr (inl e)) = no_begin n act (is_away c n) (is_idle (c.clients n).running) (inr e)
+no_act c n (Some act) (inl e) = no_begin n act (is_away c n) (is_idle (act_of (c.clients n))) (inl e)
+no_act c n (Some act) (inr (inl e)) = no_begin n act (is_away c n) (is_idle (act_of (c.clients n))) (inr e)
 no_act c n (Some act) (inr (inr e)) = absurd cc
 
 pub moved_nothing : (c : Cell) → moved c nothing ≡ voided c
 unfolding moved
 moved_nothing c = refl
 
-waits_void : (c : Cell) (n : ℕ) → (is_away c n ≡ true) ⊎ ((c.clients n).running ≡ None) → moved c (waits n) ≡ voided c
+idle_void : (c : Cell) (n : ℕ) (g : Option Going) (o : Option Seek) → (c.clients n).seeking ≡ o → act_by g o ≡ None → waited_by c n g ≡ voided c
+idle_void c n None None s e = ap (sought_for c n) s
+idle_void c n None (Some k) s e = absurd cc
+idle_void c n (Some act) o s e = absurd cc
+
+waits_void : (c : Cell) (n : ℕ) → (is_away c n ≡ true) ⊎ (act_of (c.clients n) ≡ None) → moved c (waits n) ≡ voided c
 unfolding moved
 waits_void c n (inl e) = ap (λ (b : Bool). cond b (voided c) (waited_by c n (c.clients n).running)) e
-waits_void c n (inr e) = ap (λ (g : Option Going). cond (is_away c n) (voided c) (waited_by c n g)) e ∙ cond_same (is_away c n) (voided c)
+waits_void c n (inr e) = ap (λ (m : Moved). cond (is_away c n) (voided c) m) (idle_void c n (c.clients n).running (c.clients n).seeking refl e) ∙ cond_same (is_away c n) (voided c)
 
-timeout_void : (c : Cell) (n : ℕ) (same : Bool) → (is_away c n ≡ true) ⊎ (((c.clients n).running ≡ None) ⊎ (same ≡ false)) → moved c (if same then waits n else nothing) ≡ voided c
+timeout_void : (c : Cell) (n : ℕ) (same : Bool) → (is_away c n ≡ true) ⊎ ((act_of (c.clients n) ≡ None) ⊎ (same ≡ false)) → moved c (if same then waits n else nothing) ≡ voided c
 timeout_void c n false none = moved_nothing c
 timeout_void c n true (inl e) = waits_void c n (inl e)
 timeout_void c n true (inr (inl e)) = waits_void c n (inr e)
@@ -326,12 +352,12 @@ heard_void : (c : Cell) (n place : ℕ) (m : Message) → message_at c.sent plac
 unfolding moved
 heard_void c n place m at to away =
     ap (given_at c place steady) at ∙ (ap (given_to c place steady m) to
-    ∙ ap (λ (b : Bool). cond b (voided c) (client_moves c n (client_row (Client n) (c.clients n) c.clock place (Whole m)))) away)
+    ∙ ap (λ (b : Bool). cond b (voided c) (client_moves c n (guest_row (Client n) (c.clients n) c.clock place (Whole m)))) away)
 
 pub void_heard : (t : Turn) (n place : ℕ) (m : Message) → message_at t.cell.sent place ≡ Some m → m.head.to ≡ Client n → (has_client t.cell.count n ≡ false) ⊎ (t.cell.away n ≡ true) → Voided (IsInput t (events.Deliver place)) t
 void_heard t n place m at to none = record { input = gives place steady; is_one = (steady, (refl, tt)); moves = heard_void t.cell n place m at to (absent t.cell n none); left = refl; harmless = refl }
 
-act_void : (t : Turn) (n : ℕ) → (is_away t.cell n ≡ true) ⊎ ((is_idle (t.cell.clients n).running ≡ false) ⊎ (client_act (slice_get (t.left (Client n)) 0) ≡ None)) → Voided (IsInput t (events.Act (Client n))) t
+act_void : (t : Turn) (n : ℕ) → (is_away t.cell n ≡ true) ⊎ ((is_idle (act_of (t.cell.clients n)) ≡ false) ⊎ (client_act (slice_get (t.left (Client n)) 0) ≡ None)) → Voided (IsInput t (events.Act (Client n))) t
 act_void t n none = record { input = nothing; is_one = sym (no_act t.cell n (client_act (slice_get (t.left (Client n)) 0)) none); moves = moved_nothing t.cell; left = refl; harmless = refl }
 
 timed_harmless : (n : ℕ) (b : Bool) → falls (if b then waits n else nothing) ≡ 0
@@ -342,7 +368,7 @@ timed_left : (n : ℕ) (b : Bool) (left : Node → List Task) → left_by (if b 
 timed_left n true left = refl
 timed_left n false left = refl
 
-timed_void : (t : Turn) (n : ℕ) (callee : Node) → (is_away t.cell n ≡ true) ⊎ (((t.cell.clients n).running ≡ None) ⊎ (same_node (t.cell.clients n).callee callee ≡ false)) → Voided (IsInput t (events.Timeout (Client n) callee)) t
+timed_void : (t : Turn) (n : ℕ) (callee : Node) → (is_away t.cell n ≡ true) ⊎ ((act_of (t.cell.clients n) ≡ None) ⊎ (same_node (t.cell.clients n).callee callee ≡ false)) → Voided (IsInput t (events.Timeout (Client n) callee)) t
 timed_void t n callee none = record {
   input = timeout_input (t.cell.clients n) n callee;
   is_one = refl;
@@ -355,18 +381,18 @@ module _ (t : Turn) (n : ℕ) (was : ClientSeat) (here : IsClient was (t.cell.cl
   is_down : was.is_away ≡ true → is_away t.cell n ≡ true
   is_down e = absent t.cell n (inr (sym here.away_is ∙ e))
 
-  act_by : IsVoidClient client.Act was → (is_away t.cell n ≡ true) ⊎ ((is_idle (t.cell.clients n).running ≡ false) ⊎ (client_act (slice_get (t.left (Client n)) 0) ≡ None))
-  act_by (inl e) = inl (is_down e)
-  act_by (inr (inl busy)) = inr (inl (ap (λ (c : ClientState). is_idle c.running) (sym here.state_is) ∙ ap is_idle busy.1))
-  act_by (inr (inr e)) = inr (inr (ap (λ (ts : List Task). client_act (slice_get ts 0)) plan ∙ e))
+  busy_by : IsVoidClient client.Act was → (is_away t.cell n ≡ true) ⊎ ((is_idle (act_of (t.cell.clients n)) ≡ false) ⊎ (client_act (slice_get (t.left (Client n)) 0) ≡ None))
+  busy_by (inl e) = inl (is_down e)
+  busy_by (inr (inl busy)) = inr (inl (ap (λ (c : ClientState). is_idle (act_of c)) (sym here.state_is) ∙ ap is_idle busy.1))
+  busy_by (inr (inr e)) = inr (inr (ap (λ (ts : List Task). client_act (slice_get ts 0)) plan ∙ e))
 
-  timed_by : (callee : Node) → IsVoidClient (client.TimeOut callee) was → (is_away t.cell n ≡ true) ⊎ (((t.cell.clients n).running ≡ None) ⊎ (same_node (t.cell.clients n).callee callee ≡ false))
+  timed_by : (callee : Node) → IsVoidClient (client.TimeOut callee) was → (is_away t.cell n ≡ true) ⊎ ((act_of (t.cell.clients n) ≡ None) ⊎ (same_node (t.cell.clients n).callee callee ≡ false))
   timed_by callee (inl e) = inl (is_down e)
-  timed_by callee (inr (inl e)) = inr (inl (ap (λ (c : ClientState). c.running) (sym here.state_is) ∙ e))
+  timed_by callee (inr (inl e)) = inr (inl (ap act_of (sym here.state_is) ∙ e))
   timed_by callee (inr (inr e)) = inr (inr (ap (λ (c : ClientState). same_node c.callee callee) (sym here.state_is) ∙ e))
 
   pub void_asked : (input : ClientInput) → IsVoidClient input was → Voided (IsAsked input n t) t
-  void_asked client.Act h = act_void t n (act_by h)
+  void_asked client.Act h = act_void t n (busy_by h)
   void_asked (client.TimeOut callee) h = timed_void t n callee (timed_by callee h)
   void_asked client.Crash h = record { input = client_stops n; is_one = refl; moves = stops_void t.cell n (is_down h); left = refl; harmless = refl }
   void_asked client.Restart h = record { input = client_starts n; is_one = refl; moves = starts_void t.cell n (sym here.away_is ∙ h); left = refl; harmless = refl }

@@ -27,7 +27,7 @@ use Rattle.afs_cell.proofs.ClientSteps.{after_client, client_plays, link_begun, 
 use Rattle.afs_cell.proofs.Links.{message_found, Voided}
 use Rattle.afs_clients.proofs.Numbers.{each_put, length_put, no_client, put_same}
 use Rattle.afs_cell.proofs.Parcels.{sent_by-push}
-use Rattle.afs_cell.proofs.Settled.{client_more, nothing_changes, nothing_happens, one_longer, servers_more, ReadyClients}
+use Rattle.afs_cell.proofs.Settled.{client_more, loc_ready_longer, nothing_changes, nothing_happens, one_longer, servers_more, ReadyClients}
 
 -- the world with these clients
 abbrev pub with_clients : {D : Type 0} → WorldState D → List ClientSeat → WorldState D
@@ -54,6 +54,7 @@ module _ {D : Type 0} (seen : D → Option (List ℕ)) (may_leave : D → List �
     cell_script = safe.cell_script;
     server_count = safe.server_count;
     client_count = length_put n now w.clients ∙ safe.client_count;
+    database = λ still. loc_ready_longer w.history (entry_of (Client n) (front ++ outs.lines) (length outs.parcels)) w.database (safe.database going);
     servers = λ still. servers_more w.history (entry_of (Client n) (front ++ outs.lines) (length outs.parcels)) w.servers (safe.servers going);
     clients = λ still.
         subst (λ (k : ℕ). ReadyClients s k (put_place n now w.clients)) (sym (one_longer w.history (entry_of (Client n) (front ++ outs.lines) (length outs.parcels))))
@@ -71,7 +72,7 @@ module _ {D : Type 0} (seen : D → Option (List ℕ)) (may_leave : D → List �
   }
 
   client_told : (is : Turn → Input → Type 0) (was now : ClientSeat) (front : List Line) (outs : Outs) → IsSafe limit s w → w.is_lost ≡ false → length w.history < most_entries → at_place w.clients n ≡ Some was → ClientGoes s n was now (happened.Step outs)
-      → (AllTell seen w.servers → (t : Turn) → IsAt seen may_leave limit w t.cell t.left → ClientLinked (is t) t n now front outs) → Stepped seen may_leave faults limit s is w (after_client w n now front outs) (Ok tt)
+      → (AllTell seen w → (t : Turn) → IsAt seen may_leave limit w t.cell t.left → ClientLinked (is t) t n now front outs) → Stepped seen may_leave faults limit s is w (after_client w n now front outs) (Ok tt)
   client_told is was now front outs safe going place found goes link = record {
     steps = record {
       count = one_longer w.history (entry_of (Client n) (front ++ outs.lines) (length outs.parcels));
@@ -91,6 +92,7 @@ module _ {D : Type 0} (seen : D → Option (List ℕ)) (may_leave : D → List �
       cell_script = safe.cell_script;
       server_count = safe.server_count;
       client_count = length_put n now w.clients ∙ safe.client_count;
+      database = λ going. absurd (true_false going);
       servers = λ going. absurd (true_false going);
       clients = λ going. absurd (true_false going);
       disks = safe.disks;
@@ -107,7 +109,7 @@ module _ {D : Type 0} (seen : D → Option (List ℕ)) (may_leave : D → List �
     Result1 new result = Stepped seen may_leave faults limit s is w new result
 
     nothing_settles : (clients : List ClientSeat) (new : WorldState D) (result : Result (Unit {0}) WorldFault) → IsSafe limit s w → w.is_lost ≡ false → length w.history < most_entries → clients ≡ w.clients
-        → (AllTell seen w.servers → (t : Turn) → IsAt seen may_leave limit w t.cell t.left → Voided (is t) t) → Settles (Client n) front happened.Nothing (with_clients w clients) new result → Result1 new result
+        → (AllTell seen w → (t : Turn) → IsAt seen may_leave limit w t.cell t.left → Voided (is t) t) → Settles (Client n) front happened.Nothing (with_clients w clients) new result → Result1 new result
     nothing_settles clients new (Ok done) safe going place same void settles =
         subst (λ (v : WorldState D). Stepped seen may_leave faults limit s is w v (Ok done)) (sym (settles ∙ ap (λ (cs : List ClientSeat). record w { clients = cs; history = w.history ++ void_entry ∷ [] }) same))
         (nothing_happens seen may_leave faults limit s is w safe going place void)
@@ -116,13 +118,13 @@ module _ {D : Type 0} (seen : D → Option (List ℕ)) (may_leave : D → List �
         (subst (λ (v : WorldState D). Stepped seen may_leave faults limit s is w v (Err faulty.OutOfMemory)) (sym (settles.1 ∙ ap (with_clients w) same)) (nothing_changes seen may_leave faults limit s is w safe))
 
     abbrev Voids : Type 0
-    Voids = AllTell seen w.servers → (t : Turn) → IsAt seen may_leave limit w t.cell t.left → (was : ClientSeat) → at_place w.clients n ≡ Some was → IsVoid was → Voided (is t) t
+    Voids = AllTell seen w → (t : Turn) → IsAt seen may_leave limit w t.cell t.left → (was : ClientSeat) → at_place w.clients n ≡ Some was → IsVoid was → Voided (is t) t
 
     abbrev Links : Type 0
-    Links = AllTell seen w.servers → (t : Turn) → IsAt seen may_leave limit w t.cell t.left → (was now : ClientSeat) (outs : Outs) → at_place w.clients n ≡ Some was → Takes was now outs → ClientLinked (is t) t n now (front_lines front) outs
+    Links = AllTell seen w → (t : Turn) → IsAt seen may_leave limit w t.cell t.left → (was now : ClientSeat) (outs : Outs) → at_place w.clients n ≡ Some was → Takes was now outs → ClientLinked (is t) t n now (front_lines front) outs
 
     abbrev Absents : Type 0
-    Absents = AllTell seen w.servers → (t : Turn) → IsAt seen may_leave limit w t.cell t.left → at_place w.clients n ≡ None → Voided (is t) t
+    Absents = AllTell seen w → (t : Turn) → IsAt seen may_leave limit w t.cell t.left → at_place w.clients n ≡ None → Voided (is t) t
 
     one_settles : (clients : List ClientSeat) (what : Happened) (new : WorldState D) (result : Result (Unit {0}) WorldFault) → IsSafe limit s w → w.is_lost ≡ false → length w.history < most_entries
         → ClientHappened s n IsVoid Takes w.clients clients what → Voids → Links → Settles (Client n) front what (with_clients w clients) new result → Result1 new result
@@ -148,7 +150,7 @@ module _ {D : Type 0} (seen : D → Option (List ℕ)) (may_leave : D → List �
     client_settles clients what new result safe going place (inr one) absents voids links settles = one_settles clients what new result safe going place one voids links settles
 
   -- the step of an input
-  link_taken : (input : ClientInput) (t : Turn) (was now : ClientSeat) (outs : Outs) → IsAt seen may_leave limit w t.cell t.left → at_place w.clients n ≡ Some was → ClientTakes n t.cell.clock input was now outs → ClientLinked (IsAsked input n t) t n now [] outs
+  link_taken : (input : ClientInput) (t : Turn) (was now : ClientSeat) (outs : Outs) → IsAt seen may_leave limit w t.cell t.left → at_place w.clients n ≡ Some was → ClientTakes w.script n t.cell.clock input was now outs → ClientLinked (IsAsked input n t) t n now [] outs
   link_taken client.Act t was now outs at found h = link_begun seen may_leave faults limit t w n was now outs at found h
   link_taken (client.TimeOut callee) t was now outs at found h = link_timed_out seen may_leave faults limit t w n was now outs at found callee h
   link_taken client.Crash t was now outs at found h = link_fallen seen may_leave faults limit t w n was now outs at found h
@@ -156,13 +158,13 @@ module _ {D : Type 0} (seen : D → Option (List ℕ)) (may_leave : D → List �
 
   -- a client of the cell was given something
   pub asked_settles : (input : ClientInput) (clients : List ClientSeat) (what : Happened) (new : WorldState D) (result : Result (Unit {0}) WorldFault) → IsSafe limit s w → w.is_lost ≡ false → length w.history < most_entries
-      → (at_place w.clients n ≡ None → ⊥) → ClientsHappened s n (IsVoidClient input) (ClientTakes n w.clock input) w.clients clients what → Settles (Client n) None what (with_clients w clients) new result
+      → (at_place w.clients n ≡ None → ⊥) → ClientsHappened s n (IsVoidClient input) (ClientTakes w.script n w.clock input) w.clients clients what → Settles (Client n) None what (with_clients w clients) new result
       → Stepped seen may_leave faults limit s (IsAsked input n) w new result
   asked_settles input clients what new result safe going place inside happens settles =
-      client_settles (IsAsked input n) None (IsVoidClient input) (ClientTakes n w.clock input) clients what new result safe going place happens
+      client_settles (IsAsked input n) None (IsVoidClient input) (ClientTakes w.script n w.clock input) clients what new result safe going place happens
       (λ tell t at none. absurd (inside none))
       (λ tell t at was found h. void_asked t n was (at.cell.clients n was found) (at.acts n was found) input h)
-      (λ tell t at was now outs found h. link_taken input t was now outs at found (subst (λ (k : ℕ). ClientTakes n k input was now outs) (sym at.cell.clock) h))
+      (λ tell t at was now outs found h. link_taken input t was now outs at found (subst (λ (k : ℕ). ClientTakes w.script n k input was now outs) (sym at.cell.clock) h))
       settles
 
   -- a client was given the message of a place

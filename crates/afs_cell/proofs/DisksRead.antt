@@ -9,7 +9,7 @@ use Rattle.afs_final.specs.declared.reading.Left.{Left}
 use Rattle.afs_clients.specs.Places.{Each}
 use Rattle.afs_cell.specs.Readable.{AreReadable, IsOpen, IsReadable}
 use Rattle.afs_cell.specs.Lends.{lent_from}
-use Rattle.afs_cell.specs.Worlds.{AllHold, IsSafe, WorldState}
+use Rattle.afs_cell.specs.Worlds.{IsSafe, WorldState}
 use Rattle.afs_host.specs.Seated.{seat_disk, IsReadySeat, ServerSeat}
 use Rattle.afs_clients.proofs.Handed.{server_is_node}
 
@@ -24,7 +24,7 @@ open_of : {D : Type 0} (i entries : ℕ) (s : ServerSeat D) → IsReadySeat (Ser
 open_of {D} i entries (Up r) ready = ready.can_run.up
 open_of {D} i entries (Down x) ready = tt
 
-readable_from : {D : Type 0} (limit : D → ℕ) (capacity i : ℕ) (ss : List (ServerSeat D)) → Each (λ (n : ℕ) (s : ServerSeat D). IsOpen s) ss → AllHold limit capacity ss → capacity ≤ 268435456 → 1 ≤ i → i + length ss ≤ 9 → AreReadable limit i ss
+readable_from : {D : Type 0} (limit : D → ℕ) (capacity i : ℕ) (ss : List (ServerSeat D)) → Each (λ (n : ℕ) (s : ServerSeat D). IsOpen s) ss → Each (λ (n : ℕ) (s : ServerSeat D). limit (seat_disk s) ≡ capacity) ss → capacity ≤ 268435456 → 1 ≤ i → i + length ss ≤ 9 → AreReadable limit i ss
 readable_from {D} limit capacity i [] up hold short low few = tt
 readable_from {D} limit capacity i (s ∷ ss) up hold short low few =
     let size : limit (seat_disk s) ≡ capacity = hold 1 s refl in (
@@ -34,4 +34,4 @@ readable_from {D} limit capacity i (s ∷ ss) up hold short low few =
 
 pub readable : {D : Type 0} (limit : D → ℕ) (s : Script) (w : WorldState D) → IsSafe limit s w → w.is_lost ≡ false → AreReadable limit 1 w.servers
 readable {D} limit s w safe going =
-    readable_from limit s.capacity 1 w.servers (λ n seat at. open_of n (length w.history) seat (safe.servers going n seat at)) safe.disks safe.cell_script.capacity.1 (omega arith) (omega (arith, safe.server_count, safe.cell_script.servers.1))
+    readable_from limit s.capacity 1 w.servers (λ n seat at. open_of n (length w.history) seat (safe.servers going n seat at)) safe.disks.1 safe.cell_script.capacity.1 (omega arith) (omega (arith, safe.server_count, safe.cell_script.servers.1))

@@ -14,6 +14,7 @@ use Rattle.afs_law.specs.Cells.{IsOfCell}
 use Rattle.afs_law.specs.Laws.{RunsAreLegal, RunsEndWell}
 use Rattle.afs_outside.specs.Outside.{AppendsFront}
 use Rattle.afs_records.specs.Durable.{Durable}
+use Rattle.afs_records.specs.LocDurable.{LocDurable}
 use Rattle.afs_rows.specs.Runs.{Cell, Entry, Input}
 use Rattle.afs_text.specs.FinalText.{final_text}
 use Rattle.afs_text.specs.HistoryText.{history_text, text}
@@ -22,24 +23,25 @@ use Rattle.afs_text.specs.Telling.{told, AreRead}
 use Rattle.afs_text.proofs.Kept.{history_told}
 use Rattle.afs_volstore.specs.Stores.{Store}
 use Rattle.afs_cell.specs.Lends as ends
-use Rattle.afs_cell.specs.Ends.{AreLeft, IsRefused}
+use Rattle.afs_cell.specs.Ends.{AreAllLeft, IsRefused}
 use Rattle.afs_cell.specs.Steps.{AreStanding, HasPlayedAll, HasPlayedFirst, HasPlayedSome}
-use Rattle.afs_cell.specs.Lends.{lent_from}
+use Rattle.afs_cell.specs.Lends.{disks_of, lent_from}
+use Rattle.afs_host.specs.LocSeated.{loc_seat_disk}
 use Rattle.afs_cell.specs.Worlds.{most_entries, own_falls, AllTell, IsCell, IsWorld, Runs, WorldState}
 use Rattle.afs_cell.specs.declared.faults.SetupFault.{SetupFault}
 use Rattle.afs_cell.specs.declared.faults.SetupFault.TheVariants as setup
 use Rattle.afs_final.specs.Reading.{fault_in, part, AreFound}
 use Rattle.afs_final.specs.declared.reading.Left.{Left}
 use Rattle.afs_disk.specs.Fuses.{last_count}
-use Rattle.afs_lending.specs.Lending.{kept_disks, lends, with_faults, AreLent, AreUnused, GivesBackBut, GoBack, HasFailed}
+use Rattle.afs_lending.specs.Lending.{all_kept, lends, with_faults, AreLent, AreUnused, GivesBackBut, GoBack, HasFailed}
 use Rattle.afs_command.specs.Spans.{span, IsUnchanged, RoseBy, Span}
 use Rattle.afs_lending.specs.Outside.{DidNotRise, Outside, SoManyFailed, Writes, WritesAll, WritesText, WritesWhole}
 use Rattle.afs_cell.specs.Refusing.{set_up_status}
 use Rattle.afs_lending.specs.Parts.{lend_status, returned, TellsLeft}
-use Rattle.afs_cell.specs.Replays.{lends_of, no_other, one_other, AreAllBut, AreOfServers, AtBankFault, EndsReplay, EndsRun, GivesBack, GivesBackLent, GivesBackThose, IsFew, IsFull, IsLegalRun, IsServerOf, LendingLeaves, MissedByTheBank, NoneIsMissing, NotToItsEnd, ReadingFails, Replays, ReplaysFirst, ReplaysSome, ReplaysUnread, SetUpLeaves, SomeOfIt, ToItsEnd, WritesEntries, WritesRun}
+use Rattle.afs_cell.specs.Replays.{lends_of, no_other, one_other, AreAllBut, AreOfNodes, AtBankFault, EndsReplay, EndsRun, GivesBack, GivesBackLent, GivesBackThose, HasDisk, IsFew, IsFull, IsLegalRun, IsServerOf, LendingLeaves, MissedByTheBank, NoneIsMissing, NotToItsEnd, ReadingFails, Replays, ReplaysFirst, ReplaysSome, ReplaysUnread, SetUpLeaves, SomeOfIt, ToItsEnd, WritesEntries, WritesRun}
 use Rattle.afs_command.specs.declared.statuses.Status.{Status}
 use Rattle.afs_command.specs.declared.statuses.Status.TheVariants as statuses
-use Rattle.afs_cell.proofs.LentCounts.{counts_lent, failed_among, failed_at, failed_counted, found_counted, none_counted, none_rose, one_disk_failed, one_rose, rose_at, rose_once, AreCounted, IsAmong, OneFailed}
+use Rattle.afs_cell.proofs.LentCounts.{all_but_one, all_counted, counts_lent, failed_among, failed_at, none_of, none_rose, one_disk_failed, one_rose, rose_at, rose_once, AreCounted, IsAmong, OneFailed}
 use Rattle.afs_cell.proofs.RunEnds.{found_come, found_count, given_so, left_so, legal_run, length_told, lent_come, lent_length, no_others, read_so, Missing}
 
 -- ---- the disks go back
@@ -61,10 +63,10 @@ missed_of {D} seen faults disks o goes =
     let same : goes.back.missing ≡ 0 + goes.back.missing = omega (arith) in
     (goes.back.missing, (goes.back.given, subst (λ (n : ℕ). SoManyFailed n o.bank_faults) same goes.back.failed))
 
--- the count of each server's disk rises by its own
-rose_by : {D : Type 0} (seen : D → Option (List ℕ)) (faults : D → ℕ) (own : ℕ → ℕ) (s : Script) (disks : List (Lent D)) (o : Outside) → GoesBack seen faults disks o → length disks ≡ s.servers → AreCounted faults own 1 disks → (i : ℕ) → IsServerOf s i → RoseBy (own i) (o.disk_faults i)
+-- the count of each disk rises by its own
+rose_by : {D : Type 0} (seen : D → Option (List ℕ)) (faults : D → ℕ) (own : ℕ → ℕ) (s : Script) (disks : List (Lent D)) (o : Outside) → GoesBack seen faults disks o → length disks ≡ s.servers + 1 → AreCounted faults own 0 disks → (i : ℕ) → HasDisk s i → RoseBy (own i) (o.disk_faults i)
 rose_by {D} seen faults own s disks o goes all are i has =
-    subst (λ (k : ℕ). RoseBy (own i) (span (o.disk_faults i).before k)) (sym (goes.counts i)) (rose_at faults own 1 i disks (o.disk_faults i).before are has.0 (omega (arith, has.1, all)))
+    subst (λ (k : ℕ). RoseBy (own i) (span (o.disk_faults i).before k)) (sym (goes.counts i)) (rose_at faults own 0 i disks (o.disk_faults i).before are (omega arith) (omega (arith, has, all)))
 
 -- ---- a world that played its script to its end
 
@@ -74,17 +76,17 @@ pub record HasEnded {D : Type 0} (seen : D → Option (List ℕ)) (may_leave : D
   pub in_cell : IsOfCell s
   pub world : IsWorld seen may_leave faults limit s w
   pub going : w.is_lost ≡ false
-  pub standing : AllTell seen w.servers → (c : Cell) → IsCell seen may_leave limit w c → AreStanding seen limit c (lent_from 1 w.servers)
+  pub standing : AllTell seen w → (c : Cell) → IsCell seen may_leave limit w c → AreStanding seen limit c (disks_of w)
 
 abbrev All : {D : Type 0} → (D → Option (List ℕ)) → (D → List ℕ → Type 0) → (D → ℕ) → (D → ℕ) → Script → WorldState D → Type 0
-All {D} seen may_leave faults limit s w = AllTell seen w.servers × HasPlayedAll seen may_leave faults limit s w
+All {D} seen may_leave faults limit s w = AllTell seen w × HasPlayedAll seen may_leave faults limit s w
 
 abbrev First : {D : Type 0} → (D → Option (List ℕ)) → (D → List ℕ → Type 0) → (D → ℕ) → (D → ℕ) → Script → WorldState D → Type 0
-First {D} seen may_leave faults limit s w = AllTell seen w.servers × HasPlayedFirst seen may_leave faults limit s w
+First {D} seen may_leave faults limit s w = AllTell seen w × HasPlayedFirst seen may_leave faults limit s w
 
 -- some of its events were played
 abbrev Part : {D : Type 0} → (D → Option (List ℕ)) → (D → List ℕ → Type 0) → (D → ℕ) → (D → ℕ) → Script → WorldState D → Type 0
-Part {D} seen may_leave faults limit s w = AllTell seen w.servers × HasPlayedSome seen may_leave faults limit s w
+Part {D} seen may_leave faults limit s w = AllTell seen w × HasPlayedSome seen may_leave faults limit s w
 
 -- the text of its history
 written_told : {D : Type 0} (seen : D → Option (List ℕ)) (may_leave : D → List ℕ → Type 0) (faults limit : D → ℕ) (s : Script) (w : WorldState D) (wire : Bool) (o : Outside) → IsWorld seen may_leave faults limit s w → AreRead w.wire → Writes o (kept_history_text wire w.wire w.history) → Writes o (history_text wire (told w.wire w.history))
@@ -126,24 +128,24 @@ run_of {D} seen may_leave faults limit s w fs wire Writes is found written = rec
 }
 
 -- its disks go back: each has counted its failures in the history
-lent_rose : {D : Type 0} (seen : D → Option (List ℕ)) (may_leave : D → List ℕ → Type 0) (faults limit : D → ℕ) (s : Script) (w : WorldState D) (inputs : List Input) (end : Cell) (o : Outside) → IsWorld seen may_leave faults limit s w → Runs seen may_leave faults limit s w inputs end → GoesBack seen faults (lent_from 1 w.servers) o
-    → (i : ℕ) → IsServerOf s i → RoseBy (own_falls i inputs (told w.wire w.history) + no_other i) (o.disk_faults i)
+lent_rose : {D : Type 0} (seen : D → Option (List ℕ)) (may_leave : D → List ℕ → Type 0) (faults limit : D → ℕ) (s : Script) (w : WorldState D) (inputs : List Input) (end : Cell) (o : Outside) → IsWorld seen may_leave faults limit s w → Runs seen may_leave faults limit s w inputs end → GoesBack seen faults (disks_of w) o
+    → (i : ℕ) → HasDisk s i → RoseBy (own_falls i inputs (told w.wire w.history) + no_other i) (o.disk_faults i)
 lent_rose {D} seen may_leave faults limit s w inputs end o is runs back =
     no_others s (λ (i : ℕ). own_falls i inputs (told w.wire w.history)) o.disk_faults
-    (rose_by seen faults (λ (i : ℕ). own_falls i inputs (told w.wire w.history)) s (lent_from 1 w.servers) o back (lent_length 1 w.servers ∙ is.safe.server_count) (counts_lent faults (λ (i : ℕ). own_falls i inputs (told w.wire w.history)) w.servers runs.counts))
+    (rose_by seen faults (λ (i : ℕ). own_falls i inputs (told w.wire w.history)) s (disks_of w) o back (omega (arith, lent_length 1 w.servers, is.safe.server_count)) (counts_lent faults (λ (i : ℕ). own_falls i inputs (told w.wire w.history)) w runs.counts))
 
 -- and so after they were read
 found_rose : {D : Type 0} (seen : D → Option (List ℕ)) (may_leave : D → List ℕ → Type 0) (faults limit : D → ℕ) (s : Script) (w : WorldState D) (inputs : List Input) (end : Cell) (fs : List (Left (Store D) D)) (o : Outside) → IsWorld seen may_leave faults limit s w → Runs seen may_leave faults limit s w inputs end
-    → AreFound seen faults limit (lent_from 1 w.servers) fs → GoesBack seen faults (kept_disks 1 fs) o → (i : ℕ) → IsServerOf s i → RoseBy (own_falls i inputs (told w.wire w.history) + no_other i) (o.disk_faults i)
+    → AreFound seen faults limit (lent_from 1 w.servers) fs → GoesBack seen faults (all_kept (loc_seat_disk w.database) fs) o → (i : ℕ) → HasDisk s i → RoseBy (own_falls i inputs (told w.wire w.history) + no_other i) (o.disk_faults i)
 found_rose {D} seen may_leave faults limit s w inputs end fs o is runs found back =
     no_others s (λ (i : ℕ). own_falls i inputs (told w.wire w.history)) o.disk_faults
-    (rose_by seen faults (λ (i : ℕ). own_falls i inputs (told w.wire w.history)) s (kept_disks 1 fs) o back (found_count seen faults limit 1 (lent_from 1 w.servers) fs found ∙ (lent_length 1 w.servers ∙ is.safe.server_count))
-    (found_counted seen faults limit (λ (i : ℕ). own_falls i inputs (told w.wire w.history)) 1 (lent_from 1 w.servers) fs found (counts_lent faults (λ (i : ℕ). own_falls i inputs (told w.wire w.history)) w.servers runs.counts)))
+    (rose_by seen faults (λ (i : ℕ). own_falls i inputs (told w.wire w.history)) s (all_kept (loc_seat_disk w.database) fs) o back (omega (arith, found_count seen faults limit 1 (lent_from 1 w.servers) fs found, lent_length 1 w.servers, is.safe.server_count))
+    (all_counted seen faults limit (λ (i : ℕ). own_falls i inputs (told w.wire w.history)) (loc_seat_disk w.database) (lent_from 1 w.servers) fs found (counts_lent faults (λ (i : ℕ). own_falls i inputs (told w.wire w.history)) w runs.counts)))
 
 -- its history is that of its script, and what was read from its disks is what that leaves
 replays : {D : Type 0} (seen : D → Option (List ℕ)) (may_leave : D → List ℕ → Type 0) (faults limit : D → ℕ) (s : Script) (w : WorldState D) (fs : List (Left (Store D) D)) (wire : Bool) (Writes : List ℕ → Type 0) (MayBeMissing : ℕ → Type 0) (o : Outside)
-    → HasEnded seen may_leave faults limit s w → AreFound seen faults limit (lent_from 1 w.servers) fs → fault_in fs ≡ None → Writes (kept_history_text wire w.wire w.history ++ final_text (map part fs)) → GoesBack seen faults (kept_disks 1 fs) o
-    → Missing MayBeMissing seen (kept_disks 1 fs) o.given.before o.given.after → All seen may_leave faults limit s w → Replays s wire Writes MayBeMissing o
+    → HasEnded seen may_leave faults limit s w → AreFound seen faults limit (lent_from 1 w.servers) fs → fault_in fs ≡ None → Writes (kept_history_text wire w.wire w.history ++ final_text (map part fs)) → GoesBack seen faults (all_kept (loc_seat_disk w.database) fs) o
+    → Missing MayBeMissing seen (all_kept (loc_seat_disk w.database) fs) o.given.before o.given.after → All seen may_leave faults limit s w → Replays s wire Writes MayBeMissing o
 replays {D} seen may_leave faults limit s w fs wire Writes MayBeMissing o is found none written back missing p =
     let cell = p.1.runs.cell_is is.going in
     let so = read_so seen may_leave faults limit w p.1.cell fs cell p.0 (is.standing p.0 p.1.cell cell) found none in
@@ -153,37 +155,39 @@ replays {D} seen may_leave faults limit s w fs wire Writes MayBeMissing o is fou
       run = legal_run seen may_leave faults limit is.law (ToItsEnd s) no_other s w o.disk_faults is.in_cell is.world.safe.entries p.1 (found_rose seen may_leave faults limit s w p.1.inputs p.1.cell fs o is.world p.1.runs found back);
       kept = map part fs;
       keep = so.keep;
+      loc = so.loc;
+      keep_loc = so.keep_loc;
       written = subst Writes (whole_text seen may_leave faults limit s w fs wire is.world p.1.runs.read) written;
-      given = given_so MayBeMissing seen p.1.cell (map part fs) (kept_disks 1 fs) o.given.before o.given.after so missing;
+      given = given_so MayBeMissing seen p.1.cell (map part fs) (all_kept (loc_seat_disk w.database) fs) o.given.before o.given.after so missing;
     }
 
 -- a disk failed while it was read
 reading_fails : {D : Type 0} (seen : D → Option (List ℕ)) (may_leave : D → List ℕ → Type 0) (faults limit : D → ℕ) (s : Script) (w : WorldState D) (fs : List (Left (Store D) D)) (wire : Bool) (o : Outside)
-    → HasEnded seen may_leave faults limit s w → AreFound seen faults limit (lent_from 1 w.servers) fs → fault_in fs ≡ Some lending.Failed → Writes o (kept_history_text wire w.wire w.history) → GoesBack seen faults (kept_disks 1 fs) o → ReadingFails s wire (All seen may_leave faults limit s w) o
+    → HasEnded seen may_leave faults limit s w → AreFound seen faults limit (lent_from 1 w.servers) fs → fault_in fs ≡ Some lending.Failed → Writes o (kept_history_text wire w.wire w.history) → GoesBack seen faults (all_kept (loc_seat_disk w.database) fs) o → ReadingFails s wire (All seen may_leave faults limit s w) o
 reading_fails {D} seen may_leave faults limit s w fs wire o is found failed written back =
     let all : length (lent_from 1 w.servers) ≡ s.servers = lent_length 1 w.servers ∙ is.world.safe.server_count in
-    let count : length (kept_disks 1 fs) ≡ s.servers = found_count seen faults limit 1 (lent_from 1 w.servers) fs found ∙ all in
+    let count : length (all_kept (loc_seat_disk w.database) fs) ≡ s.servers + 1 = omega (arith, found_count seen faults limit 1 (lent_from 1 w.servers) fs found, all) in
     let among : IsAmong 1 (length (lent_from 1 w.servers)) (failed_at 1 fs) = failed_among seen faults limit 1 (lent_from 1 w.servers) fs found failed in
     let has : IsServerOf s (failed_at 1 fs) = (among.0, omega (arith, among.1, all)) in
     record {
       server = failed_at 1 fs;
       has = has;
-      rose = one_rose (failed_at 1 fs) (o.disk_faults (failed_at 1 fs)) (rose_by seen faults (λ (j : ℕ). 0 + one_other (failed_at 1 fs) j) s (kept_disks 1 fs) o back count (failed_counted seen faults limit (λ (j : ℕ). 0) 1 (lent_from 1 w.servers) fs found failed (none_counted faults 1 w.servers)) (failed_at 1 fs) has);
+      rose = one_rose (failed_at 1 fs) (o.disk_faults (failed_at 1 fs)) (rose_by seen faults (λ (j : ℕ). 0 + one_other (failed_at 1 fs) j) s (all_kept (loc_seat_disk w.database) fs) o back count (all_but_one seen faults limit (λ (j : ℕ). 0) (loc_seat_disk w.database) (lent_from 1 w.servers) fs found failed (none_of faults w)) (failed_at 1 fs) has.1);
       written = entries_of seen may_leave faults limit s w IsFew wire o is.world is.world.safe.entries written;
       told = λ p. record {
         history = told w.wire w.history;
         end = p.1.cell;
         run = legal_run seen may_leave faults limit is.law (ToItsEnd s) (one_other (failed_at 1 fs)) s w o.disk_faults is.in_cell is.world.safe.entries p.1
-            (rose_by seen faults (λ (j : ℕ). own_falls j p.1.inputs (told w.wire w.history) + one_other (failed_at 1 fs) j) s (kept_disks 1 fs) o back count
-            (failed_counted seen faults limit (λ (j : ℕ). own_falls j p.1.inputs (told w.wire w.history)) 1 (lent_from 1 w.servers) fs found failed (counts_lent faults (λ (j : ℕ). own_falls j p.1.inputs (told w.wire w.history)) w.servers p.1.runs.counts)));
+            (rose_by seen faults (λ (j : ℕ). own_falls j p.1.inputs (told w.wire w.history) + one_other (failed_at 1 fs) j) s (all_kept (loc_seat_disk w.database) fs) o back count
+            (all_but_one seen faults limit (λ (j : ℕ). own_falls j p.1.inputs (told w.wire w.history)) (loc_seat_disk w.database) (lent_from 1 w.servers) fs found failed (counts_lent faults (λ (j : ℕ). own_falls j p.1.inputs (told w.wire w.history)) w p.1.runs.counts)));
         written = written_told seen may_leave faults limit s w wire o is.world p.1.runs.read written;
-        given = found_come (MissedByTheBank o) seen faults limit s.servers w.servers fs o.given.before o.given.after is.world.safe.server_count p.0 found (missed seen faults (kept_disks 1 fs) o back);
+        given = found_come (MissedByTheBank o) seen faults limit s.servers w fs o.given.before o.given.after is.world.safe.server_count p.0 found (missed seen faults (all_kept (loc_seat_disk w.database) fs) o back);
       };
     }
 
 -- memory ran out for what was found
 reading_stops : {D : Type 0} (seen : D → Option (List ℕ)) (may_leave : D → List ℕ → Type 0) (faults limit : D → ℕ) (s : Script) (w : WorldState D) (fs : List (Left (Store D) D)) (wire : Bool) (o : Outside)
-    → HasEnded seen may_leave faults limit s w → AreFound seen faults limit (lent_from 1 w.servers) fs → Writes o (kept_history_text wire w.wire w.history) → GoesBack seen faults (kept_disks 1 fs) o → All seen may_leave faults limit s w → ReplaysSome s wire o
+    → HasEnded seen may_leave faults limit s w → AreFound seen faults limit (lent_from 1 w.servers) fs → Writes o (kept_history_text wire w.wire w.history) → GoesBack seen faults (all_kept (loc_seat_disk w.database) fs) o → All seen may_leave faults limit s w → ReplaysSome s wire o
 reading_stops {D} seen may_leave faults limit s w fs wire o is found written back p =
     let some : HasPlayedSome seen may_leave faults limit s w = record { inputs = p.1.inputs; cell = p.1.cell; runs = p.1.runs; played = inl p.1.played } in
     record {
@@ -191,12 +195,12 @@ reading_stops {D} seen may_leave faults limit s w fs wire o is found written bac
       end = p.1.cell;
       run = legal_run seen may_leave faults limit is.law (SomeOfIt s) no_other s w o.disk_faults is.in_cell is.world.safe.entries some (found_rose seen may_leave faults limit s w p.1.inputs p.1.cell fs o is.world p.1.runs found back);
       written = written_told seen may_leave faults limit s w wire o is.world p.1.runs.read written;
-      given = found_come (MissedByTheBank o) seen faults limit s.servers w.servers fs o.given.before o.given.after is.world.safe.server_count p.0 found (missed seen faults (kept_disks 1 fs) o back);
+      given = found_come (MissedByTheBank o) seen faults limit s.servers w fs o.given.before o.given.after is.world.safe.server_count p.0 found (missed seen faults (all_kept (loc_seat_disk w.database) fs) o back);
     }
 
 pub ended : {D : Type 0} (seen : D → Option (List ℕ)) (may_leave : D → List ℕ → Type 0) (faults limit : D → ℕ) (s : Script) (w : WorldState D) (fs : List (Left (Store D) D)) (wire : Bool) (o : Outside) {T E : Type 0} (written : Result T E) (status : Status) (taken : Result (Unit {0}) Failed)
     → HasEnded seen may_leave faults limit s w → AreFound seen faults limit (lent_from 1 w.servers) fs → TellsLeft written (kept_history_text wire w.wire w.history) (final_text (map part fs)) (fault_in fs) o.sink o.passed o.sink_faults status
-    → OnOk taken (GivesBackBut seen 0 (kept_disks 1 fs) o.given.before o.given.after) → OnOk taken (o.bank_faults.after ≡ o.bank_faults.before) → OnErr taken (Rose o.bank_faults.before o.bank_faults.after) → GoesBack seen faults (kept_disks 1 fs) o → EndsRun s wire (All seen may_leave faults limit s w) ⊥ o (returned status taken)
+    → OnOk taken (GivesBackBut seen 0 (all_kept (loc_seat_disk w.database) fs) o.given.before o.given.after) → OnOk taken (o.bank_faults.after ≡ o.bank_faults.before) → OnErr taken (Rose o.bank_faults.before o.bank_faults.after) → GoesBack seen faults (all_kept (loc_seat_disk w.database) fs) o → EndsRun s wire (All seen may_leave faults limit s w) ⊥ o (returned status taken)
 ended {D} seen may_leave faults limit s w fs wire o written statuses.Done (Ok u) is found tells all quiet cause back =
     record {
       quiet = quiet;
@@ -208,13 +212,13 @@ ended {D} seen may_leave faults limit s w fs wire o written statuses.Done (Err f
     inr (inr (record {
       rose = rose;
       written = run_of seen may_leave faults limit s w fs wire (WritesAll o) is.world found tells.1;
-      told = λ p. replays seen may_leave faults limit s w fs wire (WritesAll o) (MissedByTheBank o) o is found tells.0 tells.1 back (missed seen faults (kept_disks 1 fs) o back) p;
+      told = λ p. replays seen may_leave faults limit s w fs wire (WritesAll o) (MissedByTheBank o) o is found tells.0 tells.1 back (missed seen faults (all_kept (loc_seat_disk w.database) fs) o back) p;
     }))
 ended {D} seen may_leave faults limit s w fs wire o written statuses.WriteFault taken is found tells all quiet cause back =
     record {
       rose = tells.1.1;
       written = run_of seen may_leave faults limit s w fs wire (AppendsFront o.sink.before o.sink.after) is.world found tells.1.0;
-      told = λ p. replays seen may_leave faults limit s w fs wire (AppendsFront o.sink.before o.sink.after) (MissedByTheBank o) o is found tells.0 tells.1.0 back (missed seen faults (kept_disks 1 fs) o back) p;
+      told = λ p. replays seen may_leave faults limit s w fs wire (AppendsFront o.sink.before o.sink.after) (MissedByTheBank o) o is found tells.0 tells.1.0 back (missed seen faults (all_kept (loc_seat_disk w.database) fs) o back) p;
     }
 ended {D} seen may_leave faults limit s w fs wire o written statuses.BankFault taken is found tells all quiet cause back = inr (inl (reading_fails seen may_leave faults limit s w fs wire o is found tells.0 tells.1 back))
 ended {D} seen may_leave faults limit s w fs wire o written statuses.OutOfMemory taken is found tells all quiet cause back = inr (record { written = entries_of seen may_leave faults limit s w IsFew wire o is.world is.world.safe.entries tells.1; told = λ p. reading_stops seen may_leave faults limit s w fs wire o is found tells.1 back p })
@@ -232,13 +236,13 @@ pub record HasStopped {D : Type 0} (seen : D → Option (List ℕ)) (may_leave :
   pub world : IsWorld seen may_leave faults limit s w
 
 pub stopped : {D : Type 0} (seen : D → Option (List ℕ)) (may_leave : D → List ℕ → Type 0) (faults limit : D → ℕ) (s : Script) (w : WorldState D) (wire : Bool) (o : Outside)
-    → HasStopped seen may_leave faults limit s w → Writes o (kept_history_text wire w.wire w.history) → GoesBack seen faults (lent_from 1 w.servers) o → Part seen may_leave faults limit s w → ReplaysSome s wire o
+    → HasStopped seen may_leave faults limit s w → Writes o (kept_history_text wire w.wire w.history) → GoesBack seen faults (disks_of w) o → Part seen may_leave faults limit s w → ReplaysSome s wire o
 stopped {D} seen may_leave faults limit s w wire o is written back p = record {
   history = told w.wire w.history;
   end = p.1.cell;
   run = legal_run seen may_leave faults limit is.law (SomeOfIt s) no_other s w o.disk_faults is.in_cell is.world.safe.entries p.1 (lent_rose seen may_leave faults limit s w p.1.inputs p.1.cell o is.world p.1.runs back);
   written = written_told seen may_leave faults limit s w wire o is.world p.1.runs.read written;
-  given = lent_come (MissedByTheBank o) seen s.servers w.servers o.given.before o.given.after is.world.safe.server_count p.0 (missed seen faults (lent_from 1 w.servers) o back);
+  given = lent_come (MissedByTheBank o) seen s.servers w o.given.before o.given.after is.world.safe.server_count p.0 (missed seen faults (disks_of w) o back);
 }
 
 -- all was played by then
@@ -248,7 +252,7 @@ all_played {D} seen may_leave faults limit s w p = (p.0, record { inputs = p.1.i
 -- ---- one whose history was full before that
 
 pub was_cut : {D : Type 0} (seen : D → Option (List ℕ)) (may_leave : D → List ℕ → Type 0) (faults limit : D → ℕ) (s : Script) (w : WorldState D) (wire : Bool) (o : Outside)
-    → HasEnded seen may_leave faults limit s w → length w.history ≡ most_entries → Writes o (kept_history_text wire w.wire w.history) → GoesBack seen faults (lent_from 1 w.servers) o → EndsRun s wire (First seen may_leave faults limit s w) ⊥ o statuses.Limit
+    → HasEnded seen may_leave faults limit s w → length w.history ≡ most_entries → Writes o (kept_history_text wire w.wire w.history) → GoesBack seen faults (disks_of w) o → EndsRun s wire (First seen may_leave faults limit s w) ⊥ o statuses.Limit
 was_cut {D} seen may_leave faults limit s w wire o is full written back = record {
   written = entries_of seen may_leave faults limit s w IsFull wire o is.world full written;
   told = λ p.
@@ -261,25 +265,27 @@ was_cut {D} seen may_leave faults limit s w wire o is full written back = record
         full = length_told w.wire w.history ∙ full;
         kept = left.0;
         keep = left.1.keep;
+        loc = left.1.loc;
+        keep_loc = left.1.keep_loc;
         written = written_told seen may_leave faults limit s w wire o is.world p.1.0.runs.read written;
-        given = given_so (MissedByTheBank o) seen p.1.0.cell left.0 (lent_from 1 w.servers) o.given.before o.given.after left.1 (missed seen faults (lent_from 1 w.servers) o back);
+        given = given_so (MissedByTheBank o) seen p.1.0.cell left.0 (disks_of w) o.given.before o.given.after left.1 (missed seen faults (disks_of w) o back);
       };
 }
 
 -- ---- disks that come back unplayed
 
--- disks that were lent in order of number are those of the servers
-pub of_servers : {D : Type 0} (limit : D → ℕ) (capacity i : ℕ) (ls : List (Lent D)) → ends.AreLent limit capacity i ls → AreOfServers i ls
-of_servers {D} limit capacity i [] are = tt
-of_servers {D} limit capacity i (l ∷ ls) are = (are.0, of_servers limit capacity (i + 1) ls are.1.1)
+-- disks that were lent in order of number are those of the nodes
+pub of_nodes : {D : Type 0} (limit : D → ℕ) (capacity i : ℕ) (ls : List (Lent D)) → ends.AreLent limit capacity i ls → AreOfNodes i ls
+of_nodes {D} limit capacity i [] are = tt
+of_nodes {D} limit capacity i (l ∷ ls) are = (are.0, of_nodes limit capacity (i + 1) ls are.1.1)
 
 pub not_set_up : {D : Type 0} (seen : D → Option (List ℕ)) (may_leave : D → List ℕ → Type 0) (faults : D → ℕ) (s : Script) (wire : Bool) (tells : Type 0) (disks : List (Lent D)) (e : SetupFault × List (Lent D)) (o : Outside)
-    → AreUnused faults disks → IsRefused faults disks e → AreLeft seen may_leave s 1 disks e.1 → AreOfServers 1 e.1 × (length e.1 ≡ s.servers) → IsUnchanged o.sink → GoesBack seen faults e.1 o → EndsRun s wire tells (SetUpLeaves seen may_leave faults s o) o (set_up_status e.0)
+    → AreUnused faults disks → IsRefused faults 0 disks e → AreAllLeft seen may_leave s disks e.1 → AreOfNodes 0 e.1 × (length e.1 ≡ s.servers + 1) → IsUnchanged o.sink → GoesBack seen faults e.1 o → EndsRun s wire tells (SetUpLeaves seen may_leave faults s o) o (set_up_status e.0)
 not_set_up {D} seen may_leave faults s wire tells disks (setup.Disk n, back) o unused refused left whose unwritten gone =
-    let one : OneFailed faults 1 back (λ (j : ℕ). (o.disk_faults j).before) = one_disk_failed faults n 1 disks back (λ (j : ℕ). (o.disk_faults j).before) unused refused.0 refused.1 whose.0 in
+    let one : OneFailed faults 0 back (λ (j : ℕ). (o.disk_faults j).before) = one_disk_failed faults n 0 disks back (λ (j : ℕ). (o.disk_faults j).before) unused refused.0 refused.1 whose.0 in
     inl (record {
-      server = one.server;
-      has = (one.among.0, omega (arith, one.among.1, whose.1));
+      node = one.server;
+      has = omega (arith, one.among.1, whose.1);
       rose = subst (λ (k : ℕ). RoseBy 1 (span (o.disk_faults one.server).before k)) (sym (gone.counts one.server)) one.rose;
       alone = λ j other. subst (λ (k : ℕ). k ≤ (o.disk_faults j).before) (sym (gone.counts j)) (one.alone j other);
       written = unwritten;
@@ -342,12 +348,12 @@ missed_since o earlier since missing failed = subst (λ (x : Span ℕ). SoManyFa
 but_map : (a b : ℕ → Type 0) → ((missing : ℕ) → a missing → b missing) → (count : ℕ) (disks : List (ℕ × List ℕ)) → AreAllBut a count disks → AreAllBut b count disks
 but_map a b f count disks h = (h.0, (h.1.0, f h.0 h.1.1))
 
-given_map : (a b : ℕ → Type 0) → ((missing : ℕ) → a missing → b missing) → (kept : List Durable) (before after : Given) → GivesBack a kept before after → GivesBack b kept before after
-given_map a b f kept None after g = tt
-given_map a b f kept (Some before) after g = (g.0, (g.1.0, (g.1.1.0, but_map a b f (length kept) g.0 g.1.1.1)))
+given_map : (a b : ℕ → Type 0) → ((missing : ℕ) → a missing → b missing) → (loc : LocDurable) (kept : List Durable) (before after : Given) → GivesBack a loc kept before after → GivesBack b loc kept before after
+given_map a b f loc kept None after g = tt
+given_map a b f loc kept (Some before) after g = (g.0, (g.1.0, (g.1.1.0, but_map a b f (length kept + 1) g.0 g.1.1.1)))
 
-given_since : (a b : ℕ → Type 0) (o earlier : Outside) → Since o earlier → ((missing : ℕ) → a missing → b missing) → (kept : List Durable) → GivesBack a kept o.given.before o.given.after → GivesBack b kept earlier.given.before earlier.given.after
-given_since a b o earlier since f kept g = subst (λ (x : Span Given). GivesBack b kept x.before x.after) (sym since.given) (given_map a b f kept o.given.before o.given.after g)
+given_since : (a b : ℕ → Type 0) (o earlier : Outside) → Since o earlier → ((missing : ℕ) → a missing → b missing) → (loc : LocDurable) (kept : List Durable) → GivesBack a loc kept o.given.before o.given.after → GivesBack b loc kept earlier.given.before earlier.given.after
+given_since a b o earlier since f loc kept g = subst (λ (x : Span Given). GivesBack b loc kept x.before x.after) (sym since.given) (given_map a b f loc kept o.given.before o.given.after g)
 
 those_map : (a b : ℕ → Type 0) → ((missing : ℕ) → a missing → b missing) → (n : ℕ) (before after : Given) → GivesBackThose a n before after → GivesBackThose b n before after
 those_map a b f n None after g = tt
@@ -363,8 +369,10 @@ replays_since s wire Writes WritesToo a b o earlier since w f r = record {
   run = run_as s (ToItsEnd s) no_other r.history r.end o earlier since r.run;
   kept = r.kept;
   keep = r.keep;
+  loc = r.loc;
+  keep_loc = r.keep_loc;
   written = w (text wire r.history r.kept) r.written;
-  given = given_since a b o earlier since f r.kept r.given;
+  given = given_since a b o earlier since f r.loc r.kept r.given;
 }
 
 run_since : (s : Script) (wire : Bool) (Writes WritesToo : List ℕ → Type 0) → ((t : List ℕ) → Writes t → WritesToo t) → WritesRun s wire Writes → WritesRun s wire WritesToo
@@ -400,8 +408,10 @@ first_since s wire o earlier since r = record {
   full = r.full;
   kept = r.kept;
   keep = r.keep;
+  loc = r.loc;
+  keep_loc = r.keep_loc;
   written = writes_since o earlier since (history_text wire r.history) r.written;
-  given = given_since (MissedByTheBank o) (MissedByTheBank earlier) o earlier since (missed_since o earlier since) r.kept r.given;
+  given = given_since (MissedByTheBank o) (MissedByTheBank earlier) o earlier since (missed_since o earlier since) r.loc r.kept r.given;
 }
 
 some_since : (s : Script) (wire : Bool) (o earlier : Outside) → Since o earlier → ReplaysSome s wire o → ReplaysSome s wire earlier
@@ -410,7 +420,7 @@ some_since s wire o earlier since r = record {
   end = r.end;
   run = run_as s (SomeOfIt s) no_other r.history r.end o earlier since r.run;
   written = writes_since o earlier since (history_text wire r.history) r.written;
-  given = those_since s.servers o earlier since r.given;
+  given = those_since (s.servers + 1) o earlier since r.given;
 }
 
 whole_since : (o earlier : Outside) → Since o earlier → (t : List ℕ) → WritesAll o t → WritesAll earlier t
@@ -436,15 +446,15 @@ unread_since s wire server o earlier since r = record {
   end = r.end;
   run = run_as s (ToItsEnd s) (one_other server) r.history r.end o earlier since r.run;
   written = writes_since o earlier since (history_text wire r.history) r.written;
-  given = those_since s.servers o earlier since r.given;
+  given = those_since (s.servers + 1) o earlier since r.given;
 }
 
 bank_fault_since : (s : Script) (wire : Bool) (tells tells_too left left_too : Type 0) (o earlier : Outside) → Since o earlier → (tells_too → tells) → (left → left_too) → AtBankFault s wire tells left o → AtBankFault s wire tells_too left_too earlier
 bank_fault_since s wire tells tells_too left left_too o earlier since t l (inl h) =
     inl (record {
-      server = h.server;
+      node = h.node;
       has = h.has;
-      rose = disk_since h.server o earlier since h.rose;
+      rose = disk_since h.node o earlier since h.rose;
       alone = λ i other. still_since i o earlier since (h.alone i other);
       written = unwritten_since o earlier since h.written;
       only_set_up = l h.only_set_up;
@@ -503,7 +513,7 @@ left_since {D} seen may_leave faults s o earlier since l = record {
 -- ---- what was lent
 
 -- No further disk was lent: so many were, and they went back.
-pub not_lent : (s : Script) (wire : Bool) (place : Place) (tells left : Type 0) (Unlent : ℕ → ℕ → Type 0) (fault : LendFault) (n : ℕ) (o : Outside) (result status : Status) → n < s.servers → o.lends.after ≡ option_map (λ ls. ls ++ lends place s.capacity 1 n) o.lends.before
+pub not_lent : (s : Script) (wire : Bool) (place : Place) (tells left : Type 0) (Unlent : ℕ → ℕ → Type 0) (fault : LendFault) (n : ℕ) (o : Outside) (result status : Status) → n < s.servers + 1 → o.lends.after ≡ option_map (λ ls. ls ++ lends place s.capacity 0 n) o.lends.before
     → IsUnchanged o.sink → (fault ≡ lending.Failed → RoseBy 1 o.bank_faults) → (fault ≡ lending.Failed → Unlent 1 n) → (fault ≡ lending.OutOfMemory → Unlent 0 n) → result ≡ status → status ≡ lend_status fault → EndsReplay s wire place tells left Unlent o result
 not_lent s wire place tells left Unlent lending.Failed n o result status fewer lent unwritten cause failed ran_out is meant =
     subst (λ (x : Status). EndsReplay s wire place tells left Unlent o x) (sym (is ∙ meant)) (record { how = inl (record { count = n; fewer = fewer; lent = lent; written = unwritten; why = cause refl; back = failed refl }) })
@@ -523,7 +533,7 @@ both_failed n m b0 b1 b2 falls first second = (rose first.0 second.0, λ none. q
 
 -- those that were lent came back unused
 pub leaves_lent : {D : Type 0} (seen : D → Option (List ℕ)) (faults limit : D → ℕ) (s : Script) (sink : Span (Option (List ℕ))) (passed : Option (List ℕ)) (lent : Span (Option (List Lend))) (g0 g1 g2 : Given) (sink_faults : Span ℕ) (b0 b1 b2 : ℕ) (disk_faults : ℕ → Span ℕ) (lends_failed : ℕ) (ls : List (Lent D))
-    → AreLent limit s.capacity 1 ls → AreUnused faults ls → g1 ≡ g0 → HasFailed lends_failed b0 b1 → b1 ≤ b2 → GoBack seen ls g1 g2 b1 b2
+    → AreLent limit s.capacity 0 ls → AreUnused faults ls → g1 ≡ g0 → HasFailed lends_failed b0 b1 → b1 ≤ b2 → GoBack seen ls g1 g2 b1 b2
     → LendingLeaves seen faults limit s (record { sink = sink; passed = passed; lends = lent; given = span g0 g2; sink_faults = sink_faults; bank_faults = span b0 b2; disk_faults = disk_faults }) lends_failed (length ls)
 leaves_lent {D} seen faults limit s sink passed lent g0 g1 g2 sink_faults b0 b1 b2 disk_faults lends_failed ls are unused same failed falls back = record {
   lent = ls;
@@ -541,7 +551,7 @@ pub none_failed : (b0 b1 : ℕ) → b1 ≡ b0 → HasFailed 0 b0 b1
 none_failed b0 b1 quiet = (inl (omega (arith, quiet)), λ none. quiet)
 
 -- what was lent, and the bank's count, after the disks went back
-pub lent_before : (place : Place) (capacity n : ℕ) (l0 l1 l2 : Option (List Lend)) → l1 ≡ option_map (λ ls. ls ++ lends place capacity 1 n) l0 → l2 ≡ l1 → l2 ≡ option_map (λ ls. ls ++ lends place capacity 1 n) l0
+pub lent_before : (place : Place) (capacity n : ℕ) (l0 l1 l2 : Option (List Lend)) → l1 ≡ option_map (λ ls. ls ++ lends place capacity 0 n) l0 → l2 ≡ l1 → l2 ≡ option_map (λ ls. ls ++ lends place capacity 0 n) l0
 lent_before place capacity n l0 l1 l2 some same = same ∙ some
 
 pub rose_before : (b0 b1 b2 : ℕ) → Rose b0 b1 → b0 ≤ b1 → b1 ≤ b2 → RoseBy 1 (span b0 b2)
@@ -570,7 +580,7 @@ played_on s played wire tells tells_too left o status same tell run =
 
 -- the disks that set-up handed back went back to the bank
 pub refused_of : {D : Type 0} (seen : D → Option (List ℕ)) (may_leave : D → List ℕ → Type 0) (faults : D → ℕ) (s : Script) (wire : Bool) (tells : Type 0) (disks : List (Lent D)) (fault : SetupFault) (back : List (Lent D)) (o : Outside) (result status : Status)
-    → AreUnused faults disks → IsRefused faults disks (fault, back) → AreLeft seen may_leave s 1 disks back → AreOfServers 1 back × (length back ≡ s.servers) → IsUnchanged o.sink
+    → AreUnused faults disks → IsRefused faults 0 disks (fault, back) → AreAllLeft seen may_leave s disks back → AreOfNodes 0 back × (length back ≡ s.servers + 1) → IsUnchanged o.sink
     → GoBack seen back o.given.before o.given.after o.bank_faults.before o.bank_faults.after → ((n : ℕ) → (o.disk_faults n).after ≡ with_faults faults back n (o.disk_faults n).before) → o.bank_faults.before ≤ o.bank_faults.after → result ≡ status → status ≡ set_up_status fault
     → EndsRun s wire tells (SetUpLeaves seen may_leave faults s o) o result
 refused_of {D} seen may_leave faults s wire tells disks fault back o result status unused refused left whose unwritten goes counts never_falls is meant =

@@ -8,7 +8,7 @@ use Rattle.afs_history.specs.declared.scripts.Script.{Script}
 use Rattle.afs_num.specs.Places.{at_place}
 use Rattle.afs_num.specs.declared.messages.Message.{Message}
 use Rattle.afs_num.specs.declared.types.Node.{Node}
-use Rattle.afs_num.specs.declared.types.Node.TheVariants.{Admin, Loc}
+use Rattle.afs_num.specs.declared.types.Node.TheVariants.{Admin}
 use Rattle.afs_num.specs.declared.types.Parcel.{Parcel}
 use Rattle.afs_rows.specs.Runs.{given_at, given_to, gives, message_at, moved, nothing, ticks, voided, Cell, Input}
 use Rattle.afs_rows.specs.Hosts.{steady}
@@ -23,7 +23,7 @@ use Rattle.afs_cell.proofs.ClientSteps.{moved_nothing}
 use Rattle.afs_cell.proofs.Counts.{counts_still}
 use Rattle.afs_cell.proofs.Links.{message_found, Voided}
 use Rattle.afs_cell.proofs.Parcels.{places_agree, sent_by-push, told-still, AtPlace}
-use Rattle.afs_cell.proofs.Settled.{clients_more, nothing_changes, nothing_happens, one_longer, servers_more}
+use Rattle.afs_cell.proofs.Settled.{clients_more, loc_ready_longer, nothing_changes, nothing_happens, one_longer, servers_more}
 
 -- the entry of a tick
 abbrev pub tick_entry : ℕ → kept.Entry
@@ -49,7 +49,7 @@ module _ {D : Type 0} (seen : D → Option (List ℕ)) (may_leave : D → List �
 
   -- nothing happens, and nothing is what comes of the input
   pub skip_as : (is : Turn → Input → Type 0) (w new : WorldState D) (result : Result (Unit {0}) WorldFault) → IsSafe limit s w → w.is_lost ≡ false → length w.history < most_entries
-      → (AllTell seen w.servers → (t : Turn) → IsAt seen may_leave limit w t.cell t.left → Voided (is t) t) → NothingSettles w new result → Stepped seen may_leave faults limit s is w new result
+      → (AllTell seen w → (t : Turn) → IsAt seen may_leave limit w t.cell t.left → Voided (is t) t) → NothingSettles w new result → Stepped seen may_leave faults limit s is w new result
   skip_as is w new (Ok done) safe going few void settles =
       subst (λ (v : WorldState D). Stepped seen may_leave faults limit s is w v (Ok done)) (sym settles) (nothing_happens seen may_leave faults limit s is w safe going few void)
   skip_as is w new (Err e) safe going few void settles =
@@ -69,10 +69,10 @@ module _ {D : Type 0} (seen : D → Option (List ℕ)) (may_leave : D → List �
     is_one = refl;
     history = told-still w.wire w.history (tick_entry (suc k)) all refl;
     at = record {
-      cell = record { host_count = at.cell.host_count; hosts = at.cell.hosts; count = at.cell.count; clients = at.cell.clients; sent = at.cell.sent; clock = ap (λ (c : ℕ). c + suc k) at.cell.clock };
+      cell = record { loc = at.cell.loc; host_count = at.cell.host_count; hosts = at.cell.hosts; count = at.cell.count; clients = at.cell.clients; sent = at.cell.sent; handed = at.cell.handed; clock = ap (λ (c : ℕ). c + suc k) at.cell.clock };
       acts = at.acts;
     };
-    counts = counts_still faults (ticks (suc k)) (moved t.cell (ticks (suc k))).entry w.servers refl;
+    counts = counts_still faults (ticks (suc k)) (moved t.cell (ticks (suc k))).entry w refl;
   }
 
   pub tick_steps : (n : ℕ) (w : WorldState D) → 1 ≤ n → IsSafe limit s w → w.is_lost ≡ false → length w.history < most_entries → w.clock + n ≤ most_ticks → Stepped seen may_leave faults limit s (λ (t : Turn). IsInput t (events.Tick n)) w (after_tick w n) (Ok tt)
@@ -87,6 +87,7 @@ module _ {D : Type 0} (seen : D → Option (List ℕ)) (may_leave : D → List �
       cell_script = safe.cell_script;
       server_count = safe.server_count;
       client_count = safe.client_count;
+      database = λ still. loc_ready_longer w.history (tick_entry n) w.database (safe.database still);
       servers = λ still. servers_more w.history (tick_entry n) w.servers (safe.servers still);
       clients = λ still. clients_more s w.history (tick_entry n) w.clients (safe.clients still);
       disks = safe.disks;
@@ -126,12 +127,7 @@ module _ {D : Type 0} (seen : D → Option (List ℕ)) (may_leave : D → List �
       gives_void t place (void_none t.cell place (none_at t.cell.sent place (at_place t.cell.sent place) refl
       (subst (λ (o : Option Parcel). AtPlace o (at_place t.cell.sent place)) e (places_agree w.wire t.cell.sent at.cell.sent place))))
 
-  -- it is to the location database, or to an administrator
-  pub to_loc : (t : Turn) (p : Parcel) → IsAt seen may_leave limit w t.cell t.left → at_place w.wire place ≡ Some p → p.head.to ≡ Loc → Voided (IsInput t (events.Deliver place)) t
-  to_loc t p at e to =
-      let f = message_found seen may_leave faults limit w t.cell place p at.cell e in
-      gives_void t place (void_to t.cell place f.message Loc f.at (sym (ap (λ h. h.to) f.carries.head) ∙ to) refl)
-
+  -- it is to an administrator
   pub to_admin : (t : Turn) (p : Parcel) (k : ℕ) → IsAt seen may_leave limit w t.cell t.left → at_place w.wire place ≡ Some p → p.head.to ≡ Admin k → Voided (IsInput t (events.Deliver place)) t
   to_admin t p k at e to =
       let f = message_found seen may_leave faults limit w t.cell place p at.cell e in

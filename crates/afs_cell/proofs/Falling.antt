@@ -78,7 +78,7 @@ module _ {D : Type 0} (seen : D → Option (List ℕ)) (left_by : D → ℕ → 
   module _ (front : List Line) (IsVoid : ServerHost → Type 0) (Has : ServerHost → (HostStep ServerState → Type 0) → Type 0 → Type 0) (old : List (ServerSeat D)) (was seat : ServerSeat D) (found : at_place old i ≡ Some was) where
     pub server_changed : (new : List (ServerSeat D)) (what : Happened) → new ≡ put_place i seat old → SeatHappens seen may_leave faults limit (Server i) front IsVoid Has was seat what → SeatGoes (Server i) was seat what → SeatKeeps seen faults limit was seat
         → ServersHappened seen may_leave faults limit i front IsVoid Has old new what
-    server_changed new what put happens goes keeps = inr (record { was = was; now = seat; found = found; put = put; happens = happens; goes = goes; keeps = keeps })
+    server_changed new what put happens goes keeps = inr (record { was = was; now = seat; found = found; put = put; takes = record { happens = happens; goes = goes; keeps = keeps } })
 
     pub server_fell : (new : List (ServerSeat D)) (what : Happened) → OneFalls seen left_by may_leave faults limit i (put_place i seat old) new what
         → SeatBecomes seen left_by may_leave faults limit (λ s w. SeatHappens seen may_leave faults limit (Server i) front IsVoid Has was s w) seat None
@@ -93,7 +93,5 @@ module _ {D : Type 0} (seen : D → Option (List ℕ)) (left_by : D → ℕ → 
           now = fell.fallen;
           found = found;
           put = fell.put ∙ put_twice i fell.fallen seat old;
-          happens = happens fell.fallen what falls;
-          goes = goes fell.fallen what falls;
-          keeps = keeps fell.fallen what falls;
+          takes = record { happens = happens fell.fallen what falls; goes = goes fell.fallen what falls; keeps = keeps fell.fallen what falls };
         })

@@ -1,5 +1,5 @@
 -- The servers at set-up, one after the other, and the disks that are handed back.
-use Rattle.std.proofs.Common.{refl, append_assoc, arith, ap, sym, subst, ◌∙◌, ◌≡◌, ◌≤◌, ◌+◌, inl, inr, ℕ, suc, List, [], ◌∷◌, ◌++◌, length, Option}
+use Rattle.std.proofs.Common.{refl, append_assoc, arith, ap, sym, subst, ◌∙◌, ◌≡◌, ◌≤◌, ◌+◌, inl, inr, ℕ, zero, suc, List, [], ◌∷◌, ◌++◌, length, Option}
 use Rattle.afs_num.specs.declared.types.Node.{Node}
 use Rattle.afs_num.specs.declared.types.Node.TheVariants.{Server}
 use Rattle.afs_history.specs.declared.scripts.Script.{Script}
@@ -7,7 +7,7 @@ use Rattle.afs_disk.specs.Disk.{Rose}
 use Rattle.afs_disk.specs.declared.disks.Lent.{Lent}
 use Rattle.afs_host.specs.Seats.{ServerRunning}
 use Rattle.afs_host.specs.declared.seats.Seat.TheVariants.{Down, Up}
-use Rattle.afs_cell.specs.Ends.{AreLeft, IsRefused, IsRefusedBy, NoneFell, NoneRose, RoseAt}
+use Rattle.afs_cell.specs.Ends.{disk_node, AreLeft, IsRefused, IsRefusedBy, NoneFell, NoneRose, RoseAt}
 use Rattle.afs_cell.specs.FirstSeats.{AreBack, AreFirstSeats, IsBack, IsFirstSeat, IsFirstServer, IsRefusedAt}
 use Rattle.afs_cell.specs.Lends.{lent_from, AreLent}
 use Rattle.afs_host.specs.Seated.{seat_disk, ServerSeat}
@@ -18,10 +18,15 @@ use Rattle.afs_cell.proofs.FirstStores.{same_back}
 abbrev handed : {D : Type 0} → Lent D → D → Lent D
 handed {D} l d = record { node = l.node; disk = d }
 
+-- a server's number is that of a node with a disk
+server_number : (i : ℕ) → 1 ≤ i → Server i ≡ disk_node i
+server_number zero some = absurd (omega (arith, some))
+server_number (suc i) some = refl
+
 -- all disks are handed back, and if one of them is why, its count of faults rose
 pub record IsRefusedSetUp {D : Type 0} (seen : D → Option (List ℕ)) (may_leave : D → List ℕ → Type 0) (faults limit : D → ℕ) (s : Script) (disks : List (Lent D)) (e : SetupFault × List (Lent D)) : Type 0 where
   pub back : AreBack seen may_leave faults limit s 1 disks e.1
-  pub cause : IsRefusedBy faults disks e.0 e.1
+  pub cause : IsRefusedBy faults 1 disks e.0 e.1
 
 pub length_lent : {D : Type 0} (i : ℕ) (ss : List (ServerSeat D)) → length (lent_from i ss) ≡ length ss
 length_lent {D} i [] = refl
@@ -109,17 +114,17 @@ module _ {D : Type 0} (seen : D → Option (List ℕ)) (may_leave : D → List �
   none_rose_at i [] (seat ∷ seats) l rest d h quiet = absurd h
   none_rose_at i (k ∷ ls) (seat ∷ seats) l rest d h quiet = (seat_quiet i k.disk seat h.0, none_rose_at (i + 1) ls seats l rest d h.1 quiet)
 
-  rose_at : (i j : ℕ) (ls : List (Lent D)) (seats : List (ServerSeat D)) (l : Lent D) (rest : List (Lent D)) (n : Node) (d : D) → AreFirstSeats seen may_leave faults limit s i ls seats (l ∷ rest) → j ≡ i + length seats → n ≡ Server j → Rose (faults l.disk) (faults d)
+  rose_at : (i j : ℕ) (ls : List (Lent D)) (seats : List (ServerSeat D)) (l : Lent D) (rest : List (Lent D)) (n : Node) (d : D) → AreFirstSeats seen may_leave faults limit s i ls seats (l ∷ rest) → j ≡ i + length seats → n ≡ disk_node j → Rose (faults l.disk) (faults d)
       → RoseAt faults n i ls (lent_from i seats ++ (handed l d ∷ rest))
   rose_at i j ls [] l rest n d e at named rose =
       let here : j ≡ i = omega (arith, at) in
-      subst (λ (xs : List (Lent D)). RoseAt faults n i xs (handed l d ∷ rest)) (sym e) (inl (subst (λ (k : ℕ). n ≡ Server k) here named, (rose, none_rose rest)))
+      subst (λ (xs : List (Lent D)). RoseAt faults n i xs (handed l d ∷ rest)) (sym e) (inl (subst (λ (k : ℕ). n ≡ disk_node k) here named, (rose, none_rose rest)))
   rose_at i j [] (seat ∷ seats) l rest n d h at named rose = absurd h
   rose_at i j (k ∷ ls) (seat ∷ seats) l rest n d h at named rose = inr (seat_quiet i k.disk seat h.0, rose_at (i + 1) j ls seats l rest n d h.1 (omega (arith, at)) named rose)
 
   cause_by : (fault : SetupFault) (j : ℕ) (ls : List (Lent D)) (seats : List (ServerSeat D)) (l : Lent D) (rest : List (Lent D)) (d : D) → AreFirstSeats seen may_leave faults limit s 1 ls seats (l ∷ rest) → j ≡ 1 + length seats → IsRefusedAt seen may_leave faults limit s j l.disk (fault, d)
-      → IsRefusedBy faults ls fault (lent_from 1 seats ++ (handed l d ∷ rest))
-  cause_by (setup.Disk n) j ls seats l rest d h at refused = rose_at 1 j ls seats l rest n d h at refused.cause.0 refused.cause.1
+      → IsRefusedBy faults 1 ls fault (lent_from 1 seats ++ (handed l d ∷ rest))
+  cause_by (setup.Disk n) j ls seats l rest d h at refused = rose_at 1 j ls seats l rest n d h at (refused.cause.0 ∙ server_number j (omega (arith, at))) refused.cause.1
   cause_by setup.OutOfMemory j ls seats l rest d h at refused = none_rose_at 1 ls seats l rest d h refused.cause
 
   pub refused_set_up : (capacity j : ℕ) (ls : List (Lent D)) (seats : List (ServerSeat D)) (l : Lent D) (rest : List (Lent D)) (fault : SetupFault) (d : D) → AreLent limit capacity 1 ls → AreFirstSeats seen may_leave faults limit s 1 ls seats (l ∷ rest) → j ≡ 1 + length seats
@@ -157,7 +162,7 @@ module _ {D : Type 0} (seen : D → Option (List ℕ)) (may_leave : D → List �
   -- a set-up that is refused
   pub record IsGivenBack (capacity : ℕ) (ls : List (Lent D)) (fault : SetupFault) (back : List (Lent D)) : Type 0 where
     pub lent : AreLent limit capacity 1 back × (length back ≡ length ls)
-    pub refused : IsRefused faults ls (fault, back)
+    pub refused : IsRefused faults 1 ls (fault, back)
     pub left : AreLeft seen may_leave s 1 ls back
 
   pub given_back : (capacity : ℕ) (ls : List (Lent D)) (seats : List (ServerSeat D)) (l : Lent D) (rest back : List (Lent D)) (fault : SetupFault) (d : D) → AreLent limit capacity 1 ls → ComesNext capacity ls seats l rest → IsRefusedAt seen may_leave faults limit s l.node l.disk (fault, d)

@@ -33,10 +33,10 @@ no_set_up : (o : Option Durable) (d : Durable) → o ≡ Some d → o ≡ None �
 no_set_up o d some none = absurd (none_some d (sym none ∙ some))
 
 -- a fuse that isn't set trips at no call
-abbrev unset : Setting
+abbrev pub unset : Setting
 unset = record { stop = None; fail = None }
 
-own_rose : (last before now own_before own_now : ℕ) → IsCaused unset last before now own_before own_now store.Failed → Rose own_before own_now
+pub own_rose : (last before now own_before own_now : ℕ) → IsCaused unset last before now own_before own_now store.Failed → Rose own_before own_now
 own_rose last before now own_before own_now (rose, inl (inl trips)) = absurd trips
 own_rose last before now own_before own_now (rose, inl (inr trips)) = absurd trips
 own_rose last before now own_before own_now (rose, inr own) = own
@@ -93,7 +93,7 @@ module _ {D : Type 0} (seen : D → Option (List ℕ)) (may_leave : D → List �
     };
   }
 
-none_whole : whole_records [] ≡ []
+pub none_whole : whole_records [] ≡ []
 unfolding whole_records
 none_whole = refl
 

@@ -12,11 +12,12 @@ use Rattle.afs_rows.specs.Going.{ClientState}
 use Rattle.afs_rows.specs.Runs.{first_client, first_host, start}
 use Rattle.afs_host.specs.declared.seats.Seat.TheVariants.{Down, Up}
 use Rattle.afs_schedule.specs.Schedules.{tasks_of}
-use Rattle.afs_cell.specs.FirstSeats.{AreFirstSeats, IsFirstSeat}
+use Rattle.afs_cell.specs.FirstSeats.{AreFirstHosts, AreFirstSeats, IsFirstSeat}
 use Rattle.afs_clients.specs.Places.{Each}
 use Rattle.afs_clients.specs.Seating.{AreFirstClients, IsFirstClient}
 use Rattle.afs_cell.specs.Steps.{IsFirst}
 use Rattle.afs_cell.specs.Lends.{AreLent, LentTell}
+use Rattle.afs_host.specs.LocSeats.{DatabaseRunning}
 use Rattle.afs_host.specs.Seated.{seat_disk, IsHost, IsReadySeat, ServerSeat}
 use Rattle.afs_cell.specs.Worlds.{none_gone, AllTell, IsCell, IsClient, IsReadyClient, IsSafe, IsWorld, LetGo, WorldState}
 use Rattle.afs_clients.specs.declared.clients.ClientSeat.{ClientSeat}
@@ -102,26 +103,32 @@ module _ {D : Type 0} (seen : D → Option (List ℕ)) (may_leave : D → List �
   told_seat n old (Down r) h = absurd h
 
   -- the world as set-up makes it
-  abbrev first_world : List (ServerSeat D) → List ClientSeat → WorldState D
-  first_world ss cs = record { script = s; servers = ss; clients = cs; wire = []; history = []; gone = none_gone; clock = 0; is_lost = false }
+  abbrev first_world : DatabaseRunning D → List (ServerSeat D) → List ClientSeat → WorldState D
+  first_world database ss cs = record { script = s; database = Up database; servers = ss; clients = cs; wire = []; history = []; gone = none_gone; clock = 0; is_lost = false }
 
-  module _ (h : IsCellScript s) (ls : List (Lent D)) (ss : List (ServerSeat D)) (cs : List ClientSeat) (lent : AreLent limit s.capacity 1 ls) (all : length ls ≡ s.servers) (seats : AreFirstSeats seen may_leave faults limit s 1 ls ss []) (clients : AreFirstClients s 1 cs) (count : length cs ≡ s.clients) where
+  module _ (h : IsCellScript s) (one : Lent D) (ls : List (Lent D)) (database : DatabaseRunning D) (ss : List (ServerSeat D)) (cs : List ClientSeat) (lent : AreLent limit s.capacity 0 (one ∷ ls)) (all : length (one ∷ ls) ≡ s.servers + 1)
+      (hosts : AreFirstHosts seen may_leave faults limit s (one ∷ ls) database ss) (clients : AreFirstClients s 1 cs) (count : length cs ≡ s.clients) where
     seats_are : length ss ≡ s.servers
     seats_are =
-        let counted = count_seats seen may_leave faults limit s 1 ls ss [] seats in
+        let counted = count_seats seen may_leave faults limit s 1 ls ss [] hosts.1 in
         omega (arith, counted, all)
 
-    is_cell : IsCell seen may_leave limit (first_world ss cs) (start s)
+    each_seat : (Q : ℕ → ServerSeat D → Type 0) → ((n : ℕ) (l : Lent D) (seat : ServerSeat D) → limit l.disk ≡ s.capacity → IsFirstSeat seen may_leave faults limit s n l.disk seat → Q n seat) → Each Q ss
+    each_seat Q f = each_from Q ss (seats_from Q s.capacity 1 ls ss [] f lent.1.1 hosts.1)
+
+    is_cell : IsCell seen may_leave limit (first_world database ss cs) (start s)
     is_cell = record {
+      loc = hosts.0.host;
       host_count = sym seats_are;
-      hosts = each_from (λ (i : ℕ) (seat : ServerSeat D). IsHost seen may_leave limit (Server i) seat (first_host s i)) ss (seats_from (λ (i : ℕ) (seat : ServerSeat D). IsHost seen may_leave limit (Server i) seat (first_host s i)) s.capacity 1 ls ss [] (host_seat s.capacity) lent seats);
+      hosts = each_seat (λ (i : ℕ) (seat : ServerSeat D). IsHost seen may_leave limit (Server i) seat (first_host s i)) (host_seat s.capacity);
       count = sym count;
       clients = each_client s (λ (n : ℕ) (c : ClientSeat). IsClient c (first_client s n) false) cs (λ n c first. record { state_is = first.state; away_is = first.up }) clients;
       sent = refl;
       clock = refl;
+      handed = refl;
     }
 
-    pub is_first : IsFirst seen may_leave limit s (first_world ss cs)
+    pub is_first : IsFirst seen may_leave limit s (first_world database ss cs)
     is_first = record {
       history = refl;
       wire = refl;
@@ -132,42 +139,46 @@ module _ {D : Type 0} (seen : D → Option (List ℕ)) (may_leave : D → List �
       cell = λ tell. is_cell;
     }
 
-    is_safe : IsSafe limit s (first_world ss cs)
+    is_safe : IsSafe limit s (first_world database ss cs)
     is_safe = record {
       script = refl;
       cell_script = h;
       server_count = seats_are;
       client_count = count;
-      servers = λ still. each_from (λ (i : ℕ) (seat : ServerSeat D). IsReadySeat (Server i) 0 seat) ss (seats_from (λ (i : ℕ) (seat : ServerSeat D). IsReadySeat (Server i) 0 seat) s.capacity 1 ls ss [] (ready_seat s.capacity) lent seats);
+      database = λ still. hosts.0.ready;
+      servers = λ still. each_seat (λ (i : ℕ) (seat : ServerSeat D). IsReadySeat (Server i) 0 seat) (ready_seat s.capacity);
       clients = λ still. each_client s (λ (n : ℕ) (c : ClientSeat). IsReadyClient s n 0 c) cs (ready_client s) clients;
-      disks = each_from (λ (i : ℕ) (seat : ServerSeat D). limit (seat_disk seat) ≡ s.capacity) ss (seats_from (λ (i : ℕ) (seat : ServerSeat D). limit (seat_disk seat) ≡ s.capacity) s.capacity 1 ls ss [] (held_seat s.capacity) lent seats);
+      disks = (hosts.0.same_limit ∙ lent.1.0, each_seat (λ (i : ℕ) (seat : ServerSeat D). limit (seat_disk seat) ≡ s.capacity) (held_seat s.capacity));
       sent = refl;
       entries = omega arith;
       ticks = omega arith;
     }
 
-    pub is_world_first : IsWorld seen may_leave faults limit s (first_world ss cs)
+    pub is_world_first : IsWorld seen may_leave faults limit s (first_world database ss cs)
     is_world_first = record {
       safe = is_safe;
-      run = λ tell. record { inputs = []; cell = start s; runs = runs_none seen may_leave faults limit s (first_world ss cs) is_first tell };
+      run = λ tell. record { inputs = []; cell = start s; runs = runs_none seen may_leave faults limit s (first_world database ss cs) is_first tell };
     }
 
-    -- as the program makes it
-    module _ (ts : List (ServerSeat D)) (ds : List ClientSeat) (wire : List Parcel) (history : List kept.Entry) (gone : LetGo) (servers_are : ts ≡ ss) (clients_are : ds ≡ cs) (no_wire : wire ≡ []) (no_history : history ≡ []) (not_gone : gone ≡ none_gone) where
-      abbrev made_world : WorldState D
-      made_world = record { script = s; servers = ts; clients = ds; wire = wire; history = history; gone = gone; clock = 0; is_lost = false }
+  -- as the program makes it
+  module _ (h : IsCellScript s) (database : DatabaseRunning D) (ss : List (ServerSeat D)) (cs : List ClientSeat) (clients : AreFirstClients s 1 cs) (count : length cs ≡ s.clients)
+      (ts : List (ServerSeat D)) (ds : List ClientSeat) (wire : List Parcel) (history : List kept.Entry) (gone : LetGo) (servers_are : ts ≡ ss) (clients_are : ds ≡ cs) (no_wire : wire ≡ []) (no_history : history ≡ []) (not_gone : gone ≡ none_gone) where
+    abbrev made_world : WorldState D
+    made_world = record { script = s; database = Up database; servers = ts; clients = ds; wire = wire; history = history; gone = gone; clock = 0; is_lost = false }
 
-      made_is : made_world ≡ first_world ss cs
-      made_is =
-          ap₂ (λ (a : List (ServerSeat D)) (b : List ClientSeat). record (first_world a b) { wire = wire; history = history; gone = gone }) servers_are clients_are
-          ∙ (ap₂ (λ (a : List Parcel) (b : List kept.Entry). record (first_world ss cs) { wire = a; history = b; gone = gone }) no_wire no_history
-          ∙ ap (λ (g : LetGo). record (first_world ss cs) { gone = g }) not_gone)
+    made_is : made_world ≡ first_world database ss cs
+    made_is =
+        ap₂ (λ (a : List (ServerSeat D)) (b : List ClientSeat). record (first_world database a b) { wire = wire; history = history; gone = gone }) servers_are clients_are
+        ∙ (ap₂ (λ (a : List Parcel) (b : List kept.Entry). record (first_world database ss cs) { wire = a; history = b; gone = gone }) no_wire no_history
+        ∙ ap (λ (g : LetGo). record (first_world database ss cs) { gone = g }) not_gone)
 
-      pub world_made : IsWorld seen may_leave faults limit s made_world
-      world_made = subst (λ (w : WorldState D). IsWorld seen may_leave faults limit s w) (sym made_is) is_world_first
+    pub world_made : (ls : List (Lent D)) → AreLent limit s.capacity 0 ls → length ls ≡ s.servers + 1 → AreFirstHosts seen may_leave faults limit s ls database ss → IsWorld seen may_leave faults limit s made_world
+    world_made [] lent all hosts = absurd hosts
+    world_made (one ∷ ls) lent all hosts = subst (λ (w : WorldState D). IsWorld seen may_leave faults limit s w) (sym made_is) (is_world_first h one ls database ss cs lent all hosts clients count)
 
-      pub first_made : IsFirst seen may_leave limit s made_world
-      first_made = subst (λ (w : WorldState D). IsFirst seen may_leave limit s w) (sym made_is) is_first
+    pub first_made : (ls : List (Lent D)) → AreLent limit s.capacity 0 ls → length ls ≡ s.servers + 1 → AreFirstHosts seen may_leave faults limit s ls database ss → IsFirst seen may_leave limit s made_world
+    first_made [] lent all hosts = absurd hosts
+    first_made (one ∷ ls) lent all hosts = subst (λ (w : WorldState D). IsFirst seen may_leave limit s w) (sym made_is) (is_first h one ls database ss cs lent all hosts clients count)
 
   -- ---- which disks tell
 
@@ -198,8 +209,8 @@ module _ {D : Type 0} (seen : D → Option (List ℕ)) (may_leave : D → List �
       let more = pair_by_lent (i + 1) ls ss h.1 (suc n) l e in
       record { lent = more.lent; seat = more.seat; lent_at = more.lent_at; seat_at = more.seat_at; told = more.told }
 
-  pub tell_so : (ls : List (Lent D)) (ss : List (ServerSeat D)) → AreFirstSeats seen may_leave faults limit s 1 ls ss [] → LentTell seen ls ↔ AllTell seen ss
-  tell_so ls ss h = (
+  seats_tell : (ls : List (Lent D)) (ss : List (ServerSeat D)) → AreFirstSeats seen may_leave faults limit s 1 ls ss [] → LentTell seen ls ↔ Each (λ (i : ℕ) (x : ServerSeat D). IsSome (seen (seat_disk x))) ss
+  seats_tell ls ss h = (
     λ tell n seat e.
         let p = pair_by_seat 1 ls ss h n seat e in
         subst (λ (x : ServerSeat D). IsSome (seen (seat_disk x))) (some_is p.seat seat (sym p.seat_at ∙ e)) (p.told.1 (tell n p.lent p.lent_at)),
@@ -207,3 +218,22 @@ module _ {D : Type 0} (seen : D → Option (List ℕ)) (may_leave : D → List �
         let p = pair_by_lent 1 ls ss h n l e in
         subst (λ (x : Lent D). IsSome (seen x.disk)) (some_is p.lent l (sym p.lent_at ∙ e)) (p.told.0 (tell n p.seat p.seat_at)),
   )
+
+  -- what is so of all disks is so of the first, and of those behind it
+  others_tell : (one : Lent D) (ls : List (Lent D)) → LentTell seen (one ∷ ls) → LentTell seen ls
+  others_tell one ls tell zero l e = absurd (no_place ls l e)
+  others_tell one ls tell (suc n) l e = tell (suc (suc n)) l e
+
+  both_tell : (one : Lent D) (ls : List (Lent D)) → IsSome (seen one.disk) → LentTell seen ls → LentTell seen (one ∷ ls)
+  both_tell one ls first tell zero l e = absurd (none_some l e)
+  both_tell one ls first tell (suc zero) l e = subst (λ (x : Lent D). IsSome (seen x.disk)) (some_is one l e) first
+  both_tell one ls first tell (suc (suc n)) l e = tell (suc n) l e
+
+  -- each disk tells after set-up as before it
+  pub tell_so : (ls : List (Lent D)) (database : DatabaseRunning D) (ss : List (ServerSeat D)) (cs : List ClientSeat) → AreFirstHosts seen may_leave faults limit s ls database ss → LentTell seen ls ↔ AllTell seen (first_world database ss cs)
+  tell_so [] database ss cs hosts = absurd hosts
+  tell_so (one ∷ ls) database ss cs hosts =
+      let seats = seats_tell ls ss hosts.1 in (
+        λ tell. (hosts.0.left.told.1 (tell 1 one refl), seats.0 (others_tell one ls tell)),
+        λ tell. both_tell one ls (hosts.0.left.told.0 tell.0) (seats.1 tell.1),
+      )

@@ -9,8 +9,12 @@ use Rattle.afs_history.specs.declared.scripts.Script.{Script}
 use Rattle.afs_disk.specs.declared.disks.Lent.{Lent}
 use Rattle.afs_journal.specs.Records.{whole_records}
 use Rattle.afs_records.specs.Durable.{Durable}
+use Rattle.afs_records.specs.LocDurable.{LocDurable}
 use Rattle.afs_volstore.specs.Stands.{Stands}
 use Rattle.afs_rows.specs.Runs.{Cell}
+use Rattle.afs_rows.specs.LocRow as loc
+use Rattle.afs_rows.specs.LocRow.{loc_decides, LocDecision, LocLasting, LocState}
+use Rattle.afs_rows.specs.LocSteps.{loc_begun_after}
 use Rattle.afs_rows.specs.ServerHosts.{begun_by_disk}
 use Rattle.afs_rows.specs.Hosts.{at_rest, in_boot, in_step, Fall, MayBegin, MayFind}
 use Rattle.afs_rows.specs.ServerRow.{begun_after, decides, drops, refuses, repeats, saves, shows, tells_boot, Decision}
@@ -18,10 +22,14 @@ use Rattle.afs_rows.specs.States.{Lasting, ServerState}
 use Rattle.afs_host.specs.Seats.{IsDown, Resting}
 use Rattle.afs_host.specs.Standing.{LiesAs}
 use Rattle.afs_host.specs.declared.seats.Seat.TheVariants.{Down, Up}
-use Rattle.afs_cell.specs.FirstSeats.{AreKeptSeats, IsKeptSeat}
-use Rattle.afs_cell.specs.Steps.{AreStanding, IsReadAfter, MayBeRead}
-use Rattle.afs_cell.specs.Lends.{lent_from, AreLent}
+use Rattle.afs_cell.specs.FirstSeats.{AreKeptSeats, IsKeptSeat, IsLocKeptSeat}
+use Rattle.afs_cell.specs.Steps.{AreStanding, IsReadAfter, IsReadAfterAtLoc, LocStands, MayBeRead, MayBeReadAtLoc}
+use Rattle.afs_cell.specs.Lends.{disks_of, lent_from, AreLent}
+use Rattle.afs_host.specs.LocSeated.{loc_seat_disk, DatabaseSeat, IsLocHost, IsLocReadySeat}
+use Rattle.afs_host.specs.LocSeats.{IsLocDown}
+use Rattle.afs_host.specs.LocStanding.{loc_begun_by_disk, LocLiesAs}
 use Rattle.afs_host.specs.Seated.{seat_disk, IsHost, IsReadySeat, ServerSeat}
+use Rattle.afs_clients.specs.Places.{Each}
 use Rattle.afs_cell.specs.Worlds.{AllHold, IsCell, IsSafe, WorldState}
 use Rattle.afs_clients.proofs.Numbers.{none_some, some_is}
 
@@ -40,15 +48,31 @@ capacity_after me s at_rest = refl
 capacity_after me s (in_step m clock b) = decided_capacity me s clock (decides me s clock (Whole m))
 capacity_after me s in_boot = refl
 
+loc_decided_capacity : (s : LocState) (d : LocDecision) → (loc_begun_after s d).state.lasting.capacity ≡ s.lasting.capacity
+loc_decided_capacity s loc.drops = refl
+loc_decided_capacity s (loc.tells_boot head) = refl
+loc_decided_capacity s (loc.repeats reply) = refl
+loc_decided_capacity s (loc.refuses head code) = refl
+loc_decided_capacity s (loc.shows head reply) = refl
+loc_decided_capacity s (loc.saves head change) = refl
+
+loc_capacity_after : (s : LocState) (fall : Fall) → (loc_begun_by_disk s true fall).state.lasting.capacity ≡ s.lasting.capacity
+loc_capacity_after s at_rest = refl
+loc_capacity_after s (in_step m clock b) = loc_decided_capacity s (loc_decides s (Whole m))
+loc_capacity_after s in_boot = refl
+
 each_tail : {A : Type 0} (P : A → Type 0) (x : A) (xs : List A) → ((n : ℕ) (y : A) → at_place (x ∷ xs) n ≡ Some y → P y) → (n : ℕ) (y : A) → at_place xs n ≡ Some y → P y
 each_tail P x [] h n y e = absurd (none_some y e)
 each_tail P x (z ∷ zs) h zero y e = absurd (none_some y e)
 each_tail P x (z ∷ zs) h (suc n) y e = h (suc (suc n)) y e
 
 module _ {D : Type 0} (seen : D → Option (List ℕ)) (may_leave : D → List ℕ → Type 0) (limit : D → ℕ) where
-  pub lent_all : (capacity i : ℕ) (ss : List (ServerSeat D)) → AllHold limit capacity ss → AreLent limit capacity i (lent_from i ss)
-  lent_all capacity i [] h = tt
-  lent_all capacity i (s ∷ ss) h = (refl, (h 1 s refl, lent_all capacity (i + 1) ss (each_tail (λ (x : ServerSeat D). limit (seat_disk x) ≡ capacity) s ss h)))
+  servers_lent : (capacity i : ℕ) (ss : List (ServerSeat D)) → Each (λ (j : ℕ) (s : ServerSeat D). limit (seat_disk s) ≡ capacity) ss → AreLent limit capacity i (lent_from i ss)
+  servers_lent capacity i [] h = tt
+  servers_lent capacity i (s ∷ ss) h = (refl, (h 1 s refl, servers_lent capacity (i + 1) ss (each_tail (λ (x : ServerSeat D). limit (seat_disk x) ≡ capacity) s ss h)))
+
+  pub lent_all : (capacity : ℕ) (w : WorldState D) → AllHold limit capacity w → AreLent limit capacity 0 (disks_of w)
+  lent_all capacity w h = (refl, (h.0, servers_lent capacity 1 w.servers h.1))
 
   -- the place of the disk that stands at a number
   pub record HasSeat (ss : List (ServerSeat D)) (n : ℕ) (l : Lent D) : Type 0 where
@@ -94,8 +118,40 @@ module _ {D : Type 0} (seen : D → Option (List ℕ)) (may_leave : D → List �
       let found = down.found bytes e in
       lies_so c i x down bytes found.0 found.1.0 found.1.1
 
-  pub standing : (s : Script) (w : WorldState D) → IsSafe limit s w → w.is_lost ≡ false → AreKeptSeats seen may_leave limit w.servers → (c : Cell) → IsCell seen may_leave limit w c → AreStanding seen limit c (lent_from 1 w.servers)
-  standing s w safe going kept c cell n l found bytes e =
-      let at = seat_of 1 w.servers kept n l found in
-      subst (λ (disk : D). seen disk ≡ Some bytes → StandsFor c n disk bytes) (sym at.is)
-      (seat_stands c n (length w.history) at.seat (cell.hosts n at.seat at.found) (safe.servers going n at.seat at.found) at.kept bytes) e
+  -- ---- what the location database's disk stands for
+
+  abbrev StandsAtLoc : Cell → D → List ℕ → Type 0
+  StandsAtLoc c disk bytes = (d : LocDurable) × (MayBeReadAtLoc c d × (LocStands bytes d × (d.capacity ≡ limit disk)))
+
+  loc_may_begin : (c : Cell) (x : Resting D) (down : IsLocDown seen may_leave limit x c.loc) (after : Bool) → MayFind down.fall after → MayBegin c.loc.down after
+  loc_may_begin c x down after may = subst (λ (o : Option Fall). MayBegin o after) (sym down.down) may
+
+  loc_lies_so : (c : Cell) (x : Resting D) (down : IsLocDown seen may_leave limit x c.loc) (bytes : List ℕ) (after : Bool) → MayFind down.fall after → LocLiesAs c.loc.state down.fall x.mark after (whole_records bytes) → StandsAtLoc c x.disk bytes
+  loc_lies_so c x down bytes false may before =
+      let d = before.before.durable in
+      (d, ((false, (loc_may_begin c x down false may, before.before.read)), (before.before.stands, ap (λ (l : LocLasting). l.capacity) before.before.read ∙ down.capacity)))
+  loc_lies_so c x down bytes true may after =
+      let d = after.after.durable in (
+        d,
+        (
+          (true, (loc_may_begin c x down true may, subst (λ (o : Option Fall). IsReadAfterAtLoc c.loc.state o d) (sym down.down) after.after.read)),
+          (after.after.stands, ap (λ (l : LocLasting). l.capacity) after.after.read ∙ (loc_capacity_after c.loc.state down.fall ∙ down.capacity)),
+        ),
+      )
+
+  loc_seat_stands : (c : Cell) (entries : ℕ) (seat : DatabaseSeat D) → IsLocHost seen may_leave limit seat c.loc → IsLocReadySeat entries seat → IsLocKeptSeat seen may_leave limit seat → (bytes : List ℕ) → seen (loc_seat_disk seat) ≡ Some bytes → StandsAtLoc c (loc_seat_disk seat) bytes
+  loc_seat_stands c entries (Up r) up ready kept bytes e =
+      let stands = kept.0 ready.can_run.up in
+      (r.store.store.durable, ((false, (subst (λ (o : Option Fall). MayBegin o false) (sym up.down) tt, sym (ap (λ (x : LocState). x.lasting) up.state))), (stands.stands bytes e, kept.1)))
+  loc_seat_stands c entries (Down x) down ready kept bytes e =
+      let found = down.found bytes e in
+      loc_lies_so c x down bytes found.0 found.1.0 found.1.1
+
+  pub standing : (s : Script) (w : WorldState D) → IsSafe limit s w → w.is_lost ≡ false → IsLocKeptSeat seen may_leave limit w.database → AreKeptSeats seen may_leave limit w.servers → (c : Cell) → IsCell seen may_leave limit w c → AreStanding seen limit c (disks_of w)
+  standing s w safe going loc_kept kept c cell = (
+    loc_seat_stands c (length w.history) w.database cell.loc (safe.database going) loc_kept,
+    λ n l found bytes e.
+        let at = seat_of 1 w.servers kept n l found in
+        subst (λ (disk : D). seen disk ≡ Some bytes → StandsFor c n disk bytes) (sym at.is)
+        (seat_stands c n (length w.history) at.seat (cell.hosts n at.seat at.found) (safe.servers going n at.seat at.found) at.kept bytes) e,
+  )

@@ -49,7 +49,7 @@ module _ {D : Type 0} (seen : D → Option (List ℕ)) (may_leave : D → List �
     read = are_read new.wire (moved t.cell p.input).cell.sent p.at.cell.sent;
     cell_is = λ going. p.at.cell;
     counts =
-        counts_as faults (λ (i : ℕ). own_falls i inputs (told old.wire old.history) + falls_at i p.input (moved t.cell p.input).entry) (λ (i : ℕ). own_falls i (inputs ++ p.input ∷ []) (told new.wire new.history)) new.servers
+        counts_as faults (λ (i : ℕ). own_falls i inputs (told old.wire old.history) + falls_at i p.input (moved t.cell p.input).entry) (λ (i : ℕ). own_falls i (inputs ++ p.input ∷ []) (told new.wire new.history)) new
         (λ i. ap (own_falls i (inputs ++ p.input ∷ [])) p.history ∙ falls_behind i (start s) inputs (told old.wire old.history) t.cell p.input (moved t.cell p.input).entry runs.leads)
         (p.counts (λ (i : ℕ). own_falls i inputs (told old.wire old.history)) runs.counts);
   }
@@ -63,17 +63,17 @@ module _ {D : Type 0} (seen : D → Option (List ℕ)) (may_leave : D → List �
 
   -- and where memory was wanting
   pub runs_still : (old new : WorldState D) (inputs : List Input) (c : Cell) → Runs seen may_leave faults limit s old inputs c → Stays seen may_leave limit old new faulty.OutOfMemory
-      → ((own : ℕ → ℕ) → Counts faults own old.servers → Counts faults own new.servers) → Runs seen may_leave faults limit s new inputs c
+      → ((own : ℕ → ℕ) → Counts faults own old → Counts faults own new) → Runs seen may_leave faults limit s new inputs c
   runs_still old new inputs c runs stays counts = record {
     leads = subst (λ (h : List Entry). Leads (start s) inputs h c) (sym (same_told old new stays.0)) runs.leads;
     read = subst (λ (ps : List Parcel). AreRead ps) (sym stays.0.wire) runs.read;
     cell_is = stays_cell old new inputs c runs stays.1;
     counts =
-        counts_as faults (λ (i : ℕ). own_falls i inputs (told old.wire old.history)) (λ (i : ℕ). own_falls i inputs (told new.wire new.history)) new.servers (λ i. ap (own_falls i inputs) (same_told old new stays.0))
+        counts_as faults (λ (i : ℕ). own_falls i inputs (told old.wire old.history)) (λ (i : ℕ). own_falls i inputs (told new.wire new.history)) new (λ i. ap (own_falls i inputs) (same_told old new stays.0))
         (counts (λ (i : ℕ). own_falls i inputs (told old.wire old.history)) runs.counts);
   }
 
-  world_by : (is : Turn → Input → Type 0) (old new : WorldState D) (result : Result (Unit {0}) WorldFault) → old.is_lost ≡ false → HasRun seen may_leave faults limit s old → AllTell seen old.servers → Stepped seen may_leave faults limit s is old new result → HasRun seen may_leave faults limit s new
+  world_by : (is : Turn → Input → Type 0) (old new : WorldState D) (result : Result (Unit {0}) WorldFault) → old.is_lost ≡ false → HasRun seen may_leave faults limit s old → AllTell seen old → Stepped seen may_leave faults limit s is old new result → HasRun seen may_leave faults limit s new
   world_by is old new (Ok done) going run tell stepped =
       let t : Turn = record { cell = run.cell; left = plans_of old.clients; named = [] } in
       let p = stepped.steps.plays tell t (stands old run.inputs run.cell run.runs going) in

@@ -13,15 +13,16 @@ use Rattle.afs_disk.specs.declared.bank.LendFault.TheVariants as lending
 use Rattle.afs_disk.specs.declared.disks.Lent.{Lent}
 use Rattle.afs_volstore.specs.Stores.{Store}
 use Rattle.afs_cell.specs.Ends.{NoneFell, NoneRose, RoseAt}
-use Rattle.afs_cell.specs.Lends.{lent_from}
-use Rattle.afs_cell.specs.Worlds.{Counts, IsCounted}
+use Rattle.afs_cell.specs.Lends.{disks_of, lent_from}
+use Rattle.afs_cell.specs.Worlds.{Counts, IsCounted, WorldState}
 use Rattle.afs_host.specs.Seated.{seat_disk, ServerSeat}
 use Rattle.afs_final.specs.Reading.{fault_in, kept_disk, or_memory, AreFound}
 use Rattle.afs_final.specs.declared.reading.Left.{Left}
 use Rattle.afs_final.specs.declared.reading.Left.TheVariants as left
-use Rattle.afs_lending.specs.Lending.{kept_disks, with_faults, AreUnused}
+use Rattle.afs_lending.specs.Lending.{all_kept, kept_disks, with_faults, AreUnused}
 use Rattle.afs_command.specs.Spans.{span, RoseBy, Span}
-use Rattle.afs_cell.specs.Replays.{one_other, AreOfServers}
+use Rattle.afs_cell.specs.Replays.{one_other, AreOfNodes}
+use Rattle.afs_cell.proofs.Counts.{counted_still}
 use Rattle.afs_cell.proofs.RunEnds.{each_is, EachFrom}
 
 -- ---- one count
@@ -59,7 +60,7 @@ goes_up {D} faults (l ∷ ls) n count = reached_by (nat_eq l.node n) (faults l.d
 
 -- ---- disks that counted their faults
 
--- each of these disks, of the servers from this number on, counts so many as are its own here
+-- each of these disks, of the nodes from this number on, counts so many as are its own here
 abbrev pub AreCounted : {D : Type 0} → (D → ℕ) → (ℕ → ℕ) → ℕ → List (Lent D) → Type 0
 AreCounted {D} faults own i [] = Unit {0}
 AreCounted {D} faults own i (l ∷ ls) = ((l.node ≡ i) × IsCounted (own i) (faults l.disk)) × AreCounted faults own (i + 1) ls
@@ -97,19 +98,18 @@ lent_counted : {D : Type 0} (faults : D → ℕ) (own : ℕ → ℕ) (i : ℕ) (
 lent_counted {D} faults own i [] h = tt
 lent_counted {D} faults own i (s ∷ ss) h = ((refl, h.0), lent_counted faults own (i + 1) ss h.1)
 
-pub counts_lent : {D : Type 0} (faults : D → ℕ) (own : ℕ → ℕ) (ss : List (ServerSeat D)) → Counts faults own ss → AreCounted faults own 1 (lent_from 1 ss)
-counts_lent {D} faults own ss counts = lent_counted faults own 1 ss (each_is (λ (i : ℕ) (s : ServerSeat D). IsCounted (own i) (faults (seat_disk s))) ss counts)
+pub counts_lent : {D : Type 0} (faults : D → ℕ) (own : ℕ → ℕ) (w : WorldState D) → Counts faults own w → AreCounted faults own 0 (disks_of w)
+counts_lent {D} faults own w counts = ((refl, counts.0), lent_counted faults own 1 w.servers (each_is (λ (i : ℕ) (s : ServerSeat D). IsCounted (own i) (faults (seat_disk s))) w.servers counts.1))
 
 -- each has counted none at least
-pub none_counted : {D : Type 0} (faults : D → ℕ) (i : ℕ) (ss : List (ServerSeat D)) → AreCounted faults (λ (j : ℕ). 0) i (lent_from i ss)
+none_counted : {D : Type 0} (faults : D → ℕ) (i : ℕ) (ss : List (ServerSeat D)) → AreCounted faults (λ (j : ℕ). 0) i (lent_from i ss)
 none_counted {D} faults i [] = tt
 none_counted {D} faults i (s ∷ ss) = ((refl, inl (omega (arith))), none_counted faults (i + 1) ss)
 
--- ---- disks that were read
+pub none_of : {D : Type 0} (faults : D → ℕ) (w : WorldState D) → AreCounted faults (λ (j : ℕ). 0) 0 (disks_of w)
+none_of {D} faults w = ((refl, inl (omega (arith))), none_counted faults 1 w.servers)
 
-counted_still : (n before after : ℕ) → before ≤ after → IsCounted n before → IsCounted n after
-counted_still n before after le (inl few) = inl (omega (arith, few, le))
-counted_still n before after le (inr full) = inr (omega (arith, full, le))
+-- ---- disks that were read
 
 pub found_counted : {D : Type 0} (seen : D → Option (List ℕ)) (faults limit : D → ℕ) (own : ℕ → ℕ) (i : ℕ) (ls : List (Lent D)) (fs : List (Left (Store D) D)) → AreFound seen faults limit ls fs → AreCounted faults own i ls → AreCounted faults own i (kept_disks i fs)
 found_counted {D} seen faults limit own i [] [] found are = tt
@@ -195,6 +195,16 @@ module _ {D : Type 0} (seen : D → Option (List ℕ)) (faults limit : D → ℕ
       ((refl, once_more own i (faults l.disk) (faults d) found.0.never_falls found.0.is are.0.1), others_behind faults own i (i + 1) (kept_disks (i + 1) fs) (omega (arith)) (found_counted seen faults limit own (i + 1) ls fs found.1 are.1))
   failed_counted own i (l ∷ ls) (left.Unread d ∷ fs) found failed are = goes_on own i (failed_at (i + 1) fs) l ls (left.Unread d) fs found are (failed_among (i + 1) ls fs found.1 (also_failed (fault_in fs) failed)) (failed_counted own (i + 1) ls fs found.1 (also_failed (fault_in fs) failed) are.1)
 
+-- those that go back: the location database's disk wasn't read
+pub all_counted : {D : Type 0} (seen : D → Option (List ℕ)) (faults limit : D → ℕ) (own : ℕ → ℕ) (d : D) (ls : List (Lent D)) (fs : List (Left (Store D) D)) → AreFound seen faults limit ls fs → AreCounted faults own 0 (record { node = 0; disk = d } ∷ ls) → AreCounted faults own 0 (all_kept d fs)
+all_counted {D} seen faults limit own d ls fs found are = (are.0, found_counted seen faults limit own 1 ls fs found are.1)
+
+pub all_but_one : {D : Type 0} (seen : D → Option (List ℕ)) (faults limit : D → ℕ) (own : ℕ → ℕ) (d : D) (ls : List (Lent D)) (fs : List (Left (Store D) D)) → AreFound seen faults limit ls fs → fault_in fs ≡ Some lending.Failed → AreCounted faults own 0 (record { node = 0; disk = d } ∷ ls)
+    → AreCounted faults (λ (j : ℕ). own j + one_other (failed_at 1 fs) j) 0 (all_kept d fs)
+all_but_one {D} seen faults limit own d ls fs found failed are =
+    let among = failed_among seen faults limit 1 ls fs found failed in
+    ((are.0.0, none_more own (failed_at 1 fs) 0 (faults d) (omega (arith, among.0)) are.0.1), failed_counted seen faults limit own 1 ls fs found failed are.1)
+
 -- its own count rose by that
 pub one_rose : (server : ℕ) (count : Span ℕ) → RoseBy (0 + one_other server server) count → RoseBy 1 count
 one_rose server count rose = subst (λ (k : ℕ). RoseBy (0 + k) count) (ap (λ (b : Bool). if b then 1 else 0) (eq-eqb server server refl)) rose
@@ -227,7 +237,7 @@ rose_counted : (before after : ℕ) → before ≤ after → Rose before after �
 rose_counted before after le (inl more) = inl (omega (arith, more))
 rose_counted before after le (inr full) = inr (omega (arith, full, le))
 
-pub one_disk_failed : {D : Type 0} (faults : D → ℕ) (n : Node) (i : ℕ) (ls back : List (Lent D)) (counts : ℕ → ℕ) → AreUnused faults ls → NoneFell faults ls back → RoseAt faults n i ls back → AreOfServers i back → OneFailed faults i back counts
+pub one_disk_failed : {D : Type 0} (faults : D → ℕ) (n : Node) (i : ℕ) (ls back : List (Lent D)) (counts : ℕ → ℕ) → AreUnused faults ls → NoneFell faults ls back → RoseAt faults n i ls back → AreOfNodes i back → OneFailed faults i back counts
 one_disk_failed {D} faults n i [] back counts unused fell rose are = absurd rose
 one_disk_failed {D} faults n i (l ∷ ls) [] counts unused fell rose are = absurd fell
 one_disk_failed {D} faults n i (l ∷ ls) (b ∷ back) counts unused fell (inl (named, (rose, others))) are = record {

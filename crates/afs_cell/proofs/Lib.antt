@@ -4,11 +4,17 @@ mod SeatPicked
 mod Seats
 mod SeatsRead
 mod FirstSeated
+mod FirstHosts
 mod FirstStores
+mod FirstDatabase
 mod SeatsGiven
 mod Parcels
 mod Counts
 mod HostSteps
+mod DatabaseSeats
+mod DatabaseLinks
+mod DatabasePicked
+mod DatabaseTold
 mod Links
 mod Settled
 mod ServersTold

@@ -17,7 +17,7 @@ pub server_put : {D : Type 0} (seen : D → Option (List ℕ)) (may_leave : D �
     (new : List (ServerSeat D)) (was now : ServerSeat D) (what : Happened) → IsLifted i old mid was → new ≡ insert mid.items (i - 1) now → SeatHappens seen may_leave faults limit (Server i) front IsVoid Has was now what → SeatGoes (Server i) was now what
     → SeatKeeps seen faults limit was now → ServersHappened seen may_leave faults limit i front IsVoid Has old.items new what
 server_put {D} seen may_leave faults limit i front IsVoid Has old mid new was now what lifted is happens goes keeps =
-    inr (record { was = was; now = now; found = lifted.found; put = is ∙ lifted.back now; happens = happens; goes = goes; keeps = keeps })
+    inr (record { was = was; now = now; found = lifted.found; put = is ∙ lifted.back now; takes = record { happens = happens; goes = goes; keeps = keeps } })
 
 pub no_server : {D : Type 0} (seen : D → Option (List ℕ)) (may_leave : D → List ℕ → Type 0) (faults limit : D → ℕ) (i : ℕ) (front : List Line) (IsVoid : ServerHost → Type 0) (Has : ServerHost → (HostStep ServerState → Type 0) → Type 0 → Type 0) (old new : Room (ServerSeat D))
     → at_place old.items i ≡ None → new ≡ old → ServersHappened seen may_leave faults limit i front IsVoid Has old.items new.items happened.Nothing

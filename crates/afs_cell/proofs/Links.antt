@@ -25,11 +25,11 @@ use Rattle.afs_clients.specs.declared.happening.ServerInput.TheVariants as serve
 use Rattle.afs_cell.proofs.Counts.{Blames}
 use Rattle.afs_cell.proofs.Parcels.{places_agree, AtPlace, Carries}
 use Rattle.afs_clients.proofs.Numbers.{host_there}
-use Rattle.afs_cell.proofs.HostSteps.{Linked}
+use Rattle.afs_cell.proofs.HostSteps.{ServerLinked}
 
 -- ---- the same words of two crates
 
-luck_is : (luck : Luck) → host.IsLuck luck → IsLuck luck
+pub luck_is : (luck : Luck) → host.IsLuck luck → IsLuck luck
 luck_is steady h = h
 luck_is (gives_out call) h = h
 
@@ -68,14 +68,14 @@ module _ {D : Type 0} (seen : D → Option (List ℕ)) (may_leave : D → List �
   pub message_found : (w : WorldState D) (c : Cell) (place : ℕ) (p : Parcel) → IsCell seen may_leave limit w c → at_place w.wire place ≡ Some p → Found c.sent place p
   message_found w c place p cell e = parcel_found c.sent place p (at_place w.wire place) e (places_agree w.wire c.sent cell.sent place)
 
-  luck_blames : (luck : Luck) (place : ℕ) (was now : ServerSeat D) → (GivesOut luck → Rose (faults (seat_disk was)) (faults (seat_disk now))) → Blames faults (falls (gives place luck)) was now
+  pub luck_blames : (luck : Luck) (place : ℕ) (was now : D) → (GivesOut luck → Rose (faults was) (faults now)) → Blames faults (falls (gives place luck)) was now
   luck_blames steady place was now h = inl refl
   luck_blames (gives_out call) place was now h = inr (refl, h tt)
 
   -- a message
   pub link_message : (t : Turn) (w : WorldState D) (i place : ℕ) (p : Parcel) (was now : ServerSeat D) (outs : Outs) → IsCell seen may_leave limit w t.cell → at_place w.servers i ≡ Some was → at_place w.wire place ≡ Some p → p.head.to ≡ Server i
       → HasHeard (Server i) t.cell.clock place p.bytes (t.cell.hosts i) (IsSeatStep seen may_leave limit (Server i) now (lines.Given place ∷ []) outs) (Rose (faults (seat_disk was)) (faults (seat_disk now)))
-      → Linked seen may_leave faults limit (IsInput t (events.Deliver place)) t i was now (lines.Given place ∷ []) outs
+      → ServerLinked seen may_leave faults limit (IsInput t (events.Deliver place)) t i was now (lines.Given place ∷ []) outs
   link_message t w i place p was now outs cell here at to heard =
       let f = message_found w t.cell place p cell at in
       let s = heard.1 f.message f.carries.bytes in
@@ -86,10 +86,10 @@ module _ {D : Type 0} (seen : D → Option (List ℕ)) (may_leave : D → List �
         moves = moved_served t.cell i place s.luck f.message f.at (sym (ap (λ h. h.to) f.carries.head) ∙ to) (host_there w.servers i was t.cell here cell.host_count) heard.0;
         left = refl;
         good = s.is;
-        blames = luck_blames s.luck place was now s.blame;
+        blames = luck_blames s.luck place (seat_disk was) (seat_disk now) s.blame;
       }
 
-  outcome_blames : (i : ℕ) (after : Bool) (outcome : Outcome) (was now : ServerSeat D) → (Fails outcome → Rose (faults (seat_disk was)) (faults (seat_disk now))) → Blames faults (falls (starts_again i after outcome)) was now
+  pub outcome_blames : (i : ℕ) (after : Bool) (outcome : Outcome) (was now : D) → (Fails outcome → Rose (faults was) (faults now)) → Blames faults (falls (starts_again i after outcome)) was now
   outcome_blames i after comes_up was now h = inl refl
   outcome_blames i after fails_early was now h = inr (refl, h tt)
   outcome_blames i after fails_midway was now h = inr (refl, h tt)
@@ -98,7 +98,7 @@ module _ {D : Type 0} (seen : D → Option (List ℕ)) (may_leave : D → List �
   -- what it is given else
   pub link_input : (t : Turn) (w : WorldState D) (i : ℕ) (input : ServerInput) (was now : ServerSeat D) (outs : Outs) → IsCell seen may_leave limit w t.cell → at_place w.servers i ≡ Some was
       → HasStep (Server i) t.cell.clock t.cell.count input (t.cell.hosts i) (IsSeatStep seen may_leave limit (Server i) now [] outs) (Rose (faults (seat_disk was)) (faults (seat_disk now)))
-      → Linked seen may_leave faults limit (IsGiven i input t) t i was now [] outs
+      → ServerLinked seen may_leave faults limit (IsGiven i input t) t i was now [] outs
   link_input t w i (server.TimeOut callee) was now outs cell here h = record {
     input = server_waits i callee;
     is_one = refl;
@@ -139,7 +139,7 @@ module _ {D : Type 0} (seen : D → Option (List ℕ)) (may_leave : D → List �
     moves = moved_restarted t.cell i h.1.1.after h.1.1.outcome h.0 (host_there w.servers i was t.cell here cell.host_count) h.1.0;
     left = refl;
     good = h.1.1.is;
-    blames = outcome_blames i h.1.1.after h.1.1.outcome was now h.1.1.blame;
+    blames = outcome_blames i h.1.1.after h.1.1.outcome (seat_disk was) (seat_disk now) h.1.1.blame;
   }
   link_input t w i (server.Stop calls pick) was now outs cell here h = record {
     input = sets_stop i calls pick;
@@ -216,7 +216,7 @@ void_input c zero (server.Fail call) none = refl
 void_input c (suc i) (server.Fail call) none = void_set c (suc i) (set_to_fail (server_kind (Server (suc i))) (c.hosts (suc i)) call) none
 
 -- a restart may always begin in some way
-some_begin : (d : Option Fall) → (after : Bool) × MayBegin d after
+pub some_begin : (d : Option Fall) → (after : Bool) × MayBegin d after
 some_begin None = (false, tt)
 some_begin (Some at_rest) = (false, tt)
 some_begin (Some (in_step m clock b)) = (leaves_after b, λ set. refl)

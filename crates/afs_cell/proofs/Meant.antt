@@ -5,7 +5,7 @@ use Rattle.afs_history.specs.declared.scripts.Event.TheVariants as events
 use Rattle.afs_grammar.specs.CellScripts.{counts_of, FitsEvent}
 use Rattle.afs_grammar.specs.Lines.{ticks_of}
 use Rattle.afs_schedule.specs.Schedules.{IsInput, Turn}
-use Rattle.afs_clients.specs.Happening.{IsAsked, IsGiven}
+use Rattle.afs_clients.specs.Happening.{IsAsked, IsGiven, IsGivenToLoc}
 use Rattle.afs_cell.specs.Happening.{NothingSettles}
 use Rattle.afs_clients.specs.Meaning.{IsMeant}
 use Rattle.afs_cell.specs.Steps.{Stays, Stepped}
@@ -14,6 +14,7 @@ use Rattle.afs_clients.specs.declared.events.Given.TheVariants as given
 use Rattle.afs_cell.specs.declared.faults.WorldFault.{WorldFault}
 use Rattle.afs_cell.specs.declared.faults.WorldFault.TheVariants as faulty
 use Rattle.afs_clients.specs.declared.happening.ClientInput.{ClientInput}
+use Rattle.afs_clients.specs.declared.happening.DatabaseInput.{DatabaseInput}
 use Rattle.afs_clients.specs.declared.happening.ServerInput.{ServerInput}
 use Rattle.afs_cell.proofs.Eventful.{skip_steps, stepped_as}
 
@@ -29,6 +30,9 @@ module _ {D : Type 0} (seen : D → Option (List ℕ)) (may_leave : D → List �
 
   pub as_server : (i : ℕ) (what : ServerInput) → IsMeant event (given.Server i what) → Stepped seen may_leave faults limit w.script (λ (t : Turn). IsGiven i what t) w new result → Played
   as_server i what meant stepped = stepped_as seen may_leave faults limit w.script (λ (t : Turn). IsGiven i what t) (λ (t : Turn). IsInput t event) w new result meant.input stepped
+
+  pub as_database : (what : DatabaseInput) → IsMeant event (given.Database what) → Stepped seen may_leave faults limit w.script (λ (t : Turn). IsGivenToLoc what t) w new result → Played
+  as_database what meant stepped = stepped_as seen may_leave faults limit w.script (λ (t : Turn). IsGivenToLoc what t) (λ (t : Turn). IsInput t event) w new result meant.input stepped
 
   pub as_message : (place : ℕ) → IsMeant event (given.Message place) → Stepped seen may_leave faults limit w.script (λ (t : Turn). IsInput t (events.Deliver place)) w new result → Played
   as_message place meant stepped = subst (λ (e : Event). Stepped seen may_leave faults limit w.script (λ (t : Turn). IsInput t e) w new result) (sym meant) stepped

@@ -87,7 +87,7 @@ module _ {D : Type 0} (seen : D → Option (List ℕ)) (may_leave : D → List �
 
   -- it was played
   pub goes_since : (new : WorldState D) (o : Option Event) (event : Event) → o ≡ Some event → Takes sent old left o → GoesOnSince seen may_leave faults limit w new → StepsSince seen may_leave faults limit (λ (t : Turn). IsInput t event) w new (Ok tt)
-      → (AllTell seen new.servers → AllTell seen w.servers) → new.clock ≤ w.clock + ticks_of event → GoesSoSince seen may_leave faults limit w new old left played.Event
+      → (AllTell seen new → AllTell seen w) → new.clock ≤ w.clock + ticks_of event → GoesSoSince seen may_leave faults limit w new old left played.Event
   goes_since new o event is takes world steps tells clock b before way =
       let one = steps b before way.world in (
         goes_on seen may_leave faults limit w.script (whole b w) (whole b new) old left event way (taken_some b before o event is takes) (world b before way.world) one tells clock,
@@ -102,8 +102,8 @@ module _ {D : Type 0} (seen : D → Option (List ℕ)) (may_leave : D → List �
       (stays_full seen may_leave limit (whole b w) (whole b new) fault limited (steps b before way.world))
 
   -- memory was wanting
-  pub wants_since : (new : WorldState D) (is : Turn → Input → Type 0) (fault : WorldFault) → fault ≡ faulty.OutOfMemory → GoesOnSince seen may_leave faults limit w new → StepsSince seen may_leave faults limit is w new (Err fault) → (AllTell seen new.servers → AllTell seen w.servers)
-      → ((own : ℕ → ℕ) → Counts faults own w.servers → Counts faults own new.servers) → GoesSoSince seen may_leave faults limit w new old left played.OutOfMemory
+  pub wants_since : (new : WorldState D) (is : Turn → Input → Type 0) (fault : WorldFault) → fault ≡ faulty.OutOfMemory → GoesOnSince seen may_leave faults limit w new → StepsSince seen may_leave faults limit is w new (Err fault) → (AllTell seen new → AllTell seen w)
+      → ((own : ℕ → ℕ) → Counts faults own w → Counts faults own new) → GoesSoSince seen may_leave faults limit w new old left played.OutOfMemory
   wants_since new is fault wanting world steps tells counts b before way =
       ends_some seen may_leave faults limit w.script (whole b w) (whole b new) old left way (world b before way.world) (stays_wanting seen may_leave limit (whole b w) (whole b new) fault wanting (steps b before way.world)) tells counts
 

@@ -7,22 +7,26 @@ use Rattle.afs_history.specs.declared.lines.Line.TheVariants as lines
 use Rattle.afs_history.specs.declared.scripts.Event.TheVariants as events
 use Rattle.afs_grammar.specs.CellScripts.{IsCellScript}
 use Rattle.afs_schedule.specs.Schedules.{IsInput, Turn}
-use Rattle.afs_clients.specs.Happening.{ClientHears, ClientsHappened, ClientTakes, IsAsked, IsGiven, IsVoidClient}
+use Rattle.afs_clients.specs.Happening.{ClientHears, ClientsHappened, ClientTakes, IsAsked, IsGiven, IsGivenToLoc, IsVoidClient}
 use Rattle.afs_cell.specs.Happening.{NothingSettles, Settles}
 use Rattle.afs_cell.specs.SeatSteps.{HasHeard, HasStep, IsFallen, IsVoidServer, ServersHappened}
 use Rattle.afs_clients.specs.Ready.{AllReady}
-use Rattle.afs_cell.specs.Ready.{AllCanStep}
+use Rattle.afs_cell.specs.DatabaseSteps.{HasLocHeard, HasLocStep, IsLocFallen, IsVoidAtLoc, LocTakes}
+use Rattle.afs_cell.specs.Ready.{AllCanStep, CanTakeAtLoc}
 use Rattle.afs_cell.specs.Steps.{Stepped}
+use Rattle.afs_host.specs.LocSeated.{DatabaseSeat}
 use Rattle.afs_host.specs.Seated.{ServerSeat}
 use Rattle.afs_cell.specs.Worlds.{most_entries, IsSafe, WorldState}
 use Rattle.afs_clients.specs.declared.clients.ClientSeat.{ClientSeat}
 use Rattle.afs_cell.specs.declared.faults.WorldFault.{WorldFault}
 use Rattle.afs_clients.specs.declared.happening.ClientInput.{ClientInput}
+use Rattle.afs_clients.specs.declared.happening.DatabaseInput.{DatabaseInput}
 use Rattle.afs_clients.specs.declared.happening.Happened.{Happened}
 use Rattle.afs_clients.specs.declared.happening.ServerInput.{ServerInput}
-use Rattle.afs_cell.proofs.Able.{all_can, all_ready}
+use Rattle.afs_cell.proofs.Able.{all_can, all_ready, loc_can}
 use Rattle.afs_cell.proofs.ClientsTold.{asked_settles, heard_settles}
-use Rattle.afs_cell.proofs.Eventful.{no_message, skip_as, to_admin, to_loc}
+use Rattle.afs_cell.proofs.DatabaseTold.{loc_input_settles, loc_message_settles}
+use Rattle.afs_cell.proofs.Eventful.{no_message, skip_as, to_admin}
 use Rattle.afs_cell.proofs.ServersTold.{input_settles, message_settles}
 
 none_inside : {A : Type 0} (xs : List A) (n : ℕ) → at_place xs n ≡ None → 1 ≤ n → n ≤ length xs → ⊥
@@ -54,6 +58,9 @@ module _ {D : Type 0} (limit : D → ℕ) (parts w : WorldState D) (same : parts
   pub can_all : w.is_lost ≡ false → length w.history < most_entries → AllCanStep limit parts.servers
   can_all going few = subst (λ (v : WorldState D). AllCanStep limit v.servers) (sym same) (all_can limit w.script w safe going few)
 
+  pub can_manage : w.is_lost ≡ false → length w.history < most_entries → CanTakeAtLoc limit parts.database
+  can_manage going few = subst (λ (v : WorldState D). CanTakeAtLoc limit v.database) (sym same) (loc_can limit w.script w safe going few)
+
   pub ready_all : w.is_lost ≡ false → length w.history < most_entries → AllReady parts.script parts.clients
   ready_all going few = subst (λ (v : WorldState D). AllReady v.script v.clients) (sym same) (all_ready limit w.script w safe going few)
 
@@ -68,9 +75,18 @@ module _ {D : Type 0} (seen : D → Option (List ℕ)) (may_leave : D → List �
       (λ safe going few. input_settles seen may_leave faults limit parts.script parts i input servers what new result safe going few happened settled)
       safe going few
 
+  -- the location database
+  pub managed : (input : DatabaseInput) (database : DatabaseSeat D) (what : Happened)
+      → ((clock count : ℕ) → LocTakes seen may_leave faults limit [] (IsVoidAtLoc input) (HasLocStep clock count input) parts.database database what) → Settles Loc None what (record parts { database = database }) new result
+      → Stepped seen may_leave faults limit w.script (λ (t : Turn). IsGivenToLoc input t) w new result
+  managed input database what takes settled =
+      subst (λ (v : WorldState D). IsSafe limit v.script v → v.is_lost ≡ false → length v.history < most_entries → Stepped seen may_leave faults limit v.script (λ (t : Turn). IsGivenToLoc input t) v new result) same
+      (λ safe going few. loc_input_settles seen may_leave faults limit parts.script parts input database what new result safe going few takes settled)
+      safe going few
+
   -- a client
   pub asked : (n : ℕ) (input : ClientInput) (clients : List ClientSeat) (what : Happened) → (at_place parts.clients n ≡ None → ⊥)
-      → ClientsHappened parts.script n (IsVoidClient input) (ClientTakes n parts.clock input) parts.clients clients what → Settles (Client n) None what (record parts { clients = clients }) new result
+      → ClientsHappened parts.script n (IsVoidClient input) (ClientTakes parts.script n parts.clock input) parts.clients clients what → Settles (Client n) None what (record parts { clients = clients }) new result
       → Stepped seen may_leave faults limit w.script (IsAsked input n) w new result
   asked n input clients what inside happened settled =
       subst (λ (v : WorldState D). IsSafe limit v.script v → v.is_lost ≡ false → length v.history < most_entries → Stepped seen may_leave faults limit v.script (IsAsked input n) v new result) same
@@ -88,6 +104,17 @@ module _ {D : Type 0} (seen : D → Option (List ℕ)) (may_leave : D → List �
       (subst (λ (b : List ℕ). ServersHappened seen may_leave faults limit i (lines.Given place ∷ []) IsFallen (HasHeard (Server i) parts.clock place b) parts.servers servers what) spelled happened) settled)
       safe going few
 
+  -- the location database
+  pub message_managed : (place : ℕ) (p : Parcel) (bytes : List ℕ) (database : DatabaseSeat D) (what : Happened) → at_place parts.wire place ≡ Some p → p.head.to ≡ Loc → bytes ≡ p.bytes
+      → ((clock : ℕ) → LocTakes seen may_leave faults limit (lines.Given place ∷ []) IsLocFallen (HasLocHeard clock place bytes) parts.database database what)
+      → Settles Loc (Some (lines.Given place)) what (record parts { database = database }) new result
+      → Stepped seen may_leave faults limit w.script (λ (t : Turn). IsInput t (events.Deliver place)) w new result
+  message_managed place p bytes database what found to spelled takes settled =
+      subst (λ (v : WorldState D). IsSafe limit v.script v → v.is_lost ≡ false → length v.history < most_entries → Stepped seen may_leave faults limit v.script (λ (t : Turn). IsInput t (events.Deliver place)) v new result) same
+      (λ safe going few. loc_message_settles seen may_leave faults limit parts.script parts place p database what new result safe going few found to
+      (λ clock. subst (λ (b : List ℕ). LocTakes seen may_leave faults limit (lines.Given place ∷ []) IsLocFallen (HasLocHeard clock place b) parts.database database what) spelled (takes clock)) settled)
+      safe going few
+
   -- a client
   pub message_heard : (place : ℕ) (p : Parcel) (n : ℕ) (bytes : List ℕ) (clients : List ClientSeat) (what : Happened) → at_place parts.wire place ≡ Some p → p.head.to ≡ Client n → bytes ≡ p.bytes
       → ClientsHappened parts.script n (λ (seat : ClientSeat). seat.is_away ≡ true) (ClientHears n parts.clock place bytes) parts.clients clients what
@@ -99,14 +126,10 @@ module _ {D : Type 0} (seen : D → Option (List ℕ)) (may_leave : D → List �
       (subst (λ (b : List ℕ). ClientsHappened parts.script n (λ (seat : ClientSeat). seat.is_away ≡ true) (ClientHears n parts.clock place b) parts.clients clients what) spelled happened) settled)
       safe going few
 
-  -- no node was: nothing was sent there, or it is to the location database or to an administrator
+  -- no node was: nothing was sent there, or it is to an administrator
   pub nobody_heard : (place : ℕ) → at_place parts.wire place ≡ None → NothingSettles w new result → Stepped seen may_leave faults limit w.script (λ (t : Turn). IsInput t (events.Deliver place)) w new result
   nobody_heard place none settled =
       skip_as seen may_leave faults limit w.script (λ (t : Turn). IsInput t (events.Deliver place)) w new result safe going few (λ tell t at. no_message seen may_leave faults limit w place t at (subst (λ (v : WorldState D). at_place v.wire place ≡ None) same none)) settled
-
-  pub loc_heard : (place : ℕ) (p : Parcel) → at_place parts.wire place ≡ Some p → p.head.to ≡ Loc → NothingSettles w new result → Stepped seen may_leave faults limit w.script (λ (t : Turn). IsInput t (events.Deliver place)) w new result
-  loc_heard place p found to settled =
-      skip_as seen may_leave faults limit w.script (λ (t : Turn). IsInput t (events.Deliver place)) w new result safe going few (λ tell t at. to_loc seen may_leave faults limit w place t p at (subst (λ (v : WorldState D). at_place v.wire place ≡ Some p) same found) to) settled
 
   pub admin_heard : (place : ℕ) (p : Parcel) (k : ℕ) → at_place parts.wire place ≡ Some p → p.head.to ≡ Admin k → NothingSettles w new result → Stepped seen may_leave faults limit w.script (λ (t : Turn). IsInput t (events.Deliver place)) w new result
   admin_heard place p k found to settled =

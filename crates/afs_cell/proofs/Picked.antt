@@ -29,7 +29,7 @@ module _ {D : Type 0} (seen : D → Option (List ℕ)) (left_by : D → ℕ → 
     up_not_void i pick r old new clock count at (inr one) =
         let h : ServerHost = record { state = server_seen r.memory r.store; armed = r.armed; down = None } in
         let same : one.was ≡ Up r = some_is one.was (Up r) (sym one.found ∙ at) in
-        let void = one.happens.1 h (subst (λ (s : ServerSeat D). IsHost seen may_leave limit (Server i) s h) (sym same) (record { state = refl; down = refl; armed = refl })) in
+        let void = one.takes.happens.1 h (subst (λ (s : ServerSeat D). IsHost seen may_leave limit (Server i) s h) (sym same) (record { state = refl; down = refl; armed = refl })) in
         none_some void.0 void.1
 
     picked_by : (i pick : ℕ) (parts new : WorldState D) (servers : List (ServerSeat D)) (what : Happened) (result : Result (Unit {0}) WorldFault)

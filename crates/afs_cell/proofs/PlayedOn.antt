@@ -41,17 +41,17 @@ module _ {D : Type 0} (seen : D → Option (List ℕ)) (may_leave : D → List �
   full_first is = omega (arith, (ends_as ended.Limit is).1.0, told.is.entries, length-append told.gone.history t.world.history)
 
   module _ (script : Script) (same : s ≡ script) (tells_too left : Type 0) (tell : tells_too → tells) (o : Outside) (status : Status) where
-    pub all_ends : t.ended ≡ ended.All → EndsRun t.world.script wire (AllTell seen t.world.servers × HasPlayedAll seen may_leave faults limit t.world.script (whole told.gone t.world)) ⊥ o status → EndsRun script wire tells_too left o status
+    pub all_ends : t.ended ≡ ended.All → EndsRun t.world.script wire (AllTell seen t.world × HasPlayedAll seen may_leave faults limit t.world.script (whole told.gone t.world)) ⊥ o status → EndsRun script wire tells_too left o status
     all_ends is run =
-        played_on script t.world.script wire (AllTell seen t.world.servers × HasPlayedAll seen may_leave faults limit t.world.script (whole told.gone t.world)) tells_too left o status (script_of ∙ same)
-        (λ x. subst (λ (y : Script). AllTell seen t.world.servers × HasPlayedAll seen may_leave faults limit y (whole told.gone t.world)) (sym script_of) ((ends_as ended.All is).1 (tell x))) run
+        played_on script t.world.script wire (AllTell seen t.world × HasPlayedAll seen may_leave faults limit t.world.script (whole told.gone t.world)) tells_too left o status (script_of ∙ same)
+        (λ x. subst (λ (y : Script). AllTell seen t.world × HasPlayedAll seen may_leave faults limit y (whole told.gone t.world)) (sym script_of) ((ends_as ended.All is).1 (tell x))) run
 
-    pub first_ends : t.ended ≡ ended.Limit → EndsRun t.world.script wire (AllTell seen t.world.servers × HasPlayedFirst seen may_leave faults limit t.world.script (whole told.gone t.world)) ⊥ o status → EndsRun script wire tells_too left o status
+    pub first_ends : t.ended ≡ ended.Limit → EndsRun t.world.script wire (AllTell seen t.world × HasPlayedFirst seen may_leave faults limit t.world.script (whole told.gone t.world)) ⊥ o status → EndsRun script wire tells_too left o status
     first_ends is run =
-        played_on script t.world.script wire (AllTell seen t.world.servers × HasPlayedFirst seen may_leave faults limit t.world.script (whole told.gone t.world)) tells_too left o status (script_of ∙ same)
-        (λ x. subst (λ (y : Script). AllTell seen t.world.servers × HasPlayedFirst seen may_leave faults limit y (whole told.gone t.world)) (sym script_of) ((ends_as ended.Limit is).1.1 (tell x))) run
+        played_on script t.world.script wire (AllTell seen t.world × HasPlayedFirst seen may_leave faults limit t.world.script (whole told.gone t.world)) tells_too left o status (script_of ∙ same)
+        (λ x. subst (λ (y : Script). AllTell seen t.world × HasPlayedFirst seen may_leave faults limit y (whole told.gone t.world)) (sym script_of) ((ends_as ended.Limit is).1.1 (tell x))) run
 
-    pub some_ends : t.ended ≡ ended.OutOfMemory → EndsRun t.world.script wire (AllTell seen t.world.servers × HasPlayedSome seen may_leave faults limit t.world.script (whole told.gone t.world)) ⊥ o status → EndsRun script wire tells_too left o status
+    pub some_ends : t.ended ≡ ended.OutOfMemory → EndsRun t.world.script wire (AllTell seen t.world × HasPlayedSome seen may_leave faults limit t.world.script (whole told.gone t.world)) ⊥ o status → EndsRun script wire tells_too left o status
     some_ends is run =
-        played_on script t.world.script wire (AllTell seen t.world.servers × HasPlayedSome seen may_leave faults limit t.world.script (whole told.gone t.world)) tells_too left o status (script_of ∙ same)
-        (λ x. subst (λ (y : Script). AllTell seen t.world.servers × HasPlayedSome seen may_leave faults limit y (whole told.gone t.world)) (sym script_of) (ends_as ended.OutOfMemory is (tell x))) run
+        played_on script t.world.script wire (AllTell seen t.world × HasPlayedSome seen may_leave faults limit t.world.script (whole told.gone t.world)) tells_too left o status (script_of ∙ same)
+        (λ x. subst (λ (y : Script). AllTell seen t.world × HasPlayedSome seen may_leave faults limit y (whole told.gone t.world)) (sym script_of) (ends_as ended.OutOfMemory is (tell x))) run

@@ -12,6 +12,7 @@ use Rattle.afs_disk.specs.declared.bank.LendFault.{LendFault}
 use Rattle.afs_disk.specs.declared.disks.Lent.{Lent}
 use Rattle.afs_journal.specs.Records.{whole_records}
 use Rattle.afs_records.specs.Durable.{fold_all, Durable}
+use Rattle.afs_records.specs.LocDurable.{LocDurable}
 use Rattle.afs_volstore.specs.Stands.{Stands}
 use Rattle.afs_records.proofs.Forms.{some_is}
 use Rattle.afs_rows.specs.Runs.{Cell, Input}
@@ -20,16 +21,17 @@ use Rattle.afs_law.specs.Laws.{RunsAreLegal, RunsEndWell}
 use Rattle.afs_text.specs.Telling.{told}
 use Rattle.afs_volstore.specs.Stores.{Store}
 use Rattle.afs_clients.specs.Places.{Each}
-use Rattle.afs_cell.specs.Steps.{AreStanding, HasPlayed, MayBeRead}
-use Rattle.afs_cell.specs.Lends.{lent_from}
+use Rattle.afs_cell.specs.Steps.{AreStanding, HasPlayed, IsStanding, IsStandingAtLoc, LocStands, MayBeRead, MayBeReadAtLoc}
+use Rattle.afs_cell.specs.Lends.{disks_of, lent_from}
+use Rattle.afs_host.specs.LocSeated.{loc_seat_disk}
 use Rattle.afs_host.specs.Seated.{seat_disk, ServerSeat}
 use Rattle.afs_cell.specs.Worlds.{most_entries, own_falls, AllTell, IsCell, WorldState}
 use Rattle.afs_final.specs.Reading.{fault_in, kept_disk, part, AreFound, IsRead}
 use Rattle.afs_final.specs.declared.reading.Left.{Left}
 use Rattle.afs_final.specs.declared.reading.Left.TheVariants as left
-use Rattle.afs_lending.specs.Lending.{kept_disks, GivesBackBut}
+use Rattle.afs_lending.specs.Lending.{all_kept, kept_disks, GivesBackBut}
 use Rattle.afs_command.specs.Spans.{RoseBy, Span}
-use Rattle.afs_cell.specs.Replays.{no_other, AreKept, AreOf, GivesBack, GivesBackThose, IsLegalRun, IsServerOf, MayKeep}
+use Rattle.afs_cell.specs.Replays.{no_other, AreAllKept, AreKept, AreOf, GivesBack, GivesBackThose, HasDisk, IsLegalRun, MayKeep}
 
 some_of : {A : Type 0} (o : Option A) → IsSome o → (x : A) × (o ≡ Some x)
 some_of {A} None some = absurd cc
@@ -53,7 +55,7 @@ each_is {A} P xs h = each_from 1 P xs (λ n x e. subst (λ (k : ℕ). P k x) (om
 
 -- the disk of a server may stand for something in the cell
 abbrev Stand : {D : Type 0} → (D → Option (List ℕ)) → (D → ℕ) → Cell → ℕ → Lent D → Type 0
-Stand {D} seen limit c i l = (bytes : List ℕ) → seen l.disk ≡ Some bytes → (d : Durable) × (MayBeRead c i d × (Stands bytes d × (d.capacity ≡ limit l.disk)))
+Stand {D} seen limit c i l = IsStanding seen limit c i l.disk
 
 abbrev Tells : {D : Type 0} → (D → Option (List ℕ)) → ℕ → Lent D → Type 0
 Tells {D} seen i l = IsSome (seen l.disk)
@@ -132,20 +134,53 @@ given_each {D} seen missing i (l ∷ ls) (d ∷ ds) given new stand (inr (others
 abbrev pub Missing : {D : Type 0} → (ℕ → Type 0) → (D → Option (List ℕ)) → List (Lent D) → Option Given → Option Given → Type 0
 Missing {D} MayBeMissing seen ls old new = (missing : ℕ) × (GivesBackBut seen missing ls old new × MayBeMissing missing)
 
-given_by : {D : Type 0} (MayBeMissing : ℕ → Type 0) (seen : D → Option (List ℕ)) (ls : List (Lent D)) (ds : List Durable) (old new : Option Given) → StandFor seen 1 ls ds → Missing MayBeMissing seen ls old new → GivesBack MayBeMissing ds old new
-given_by {D} MayBeMissing seen ls ds None new stand back = tt
-given_by {D} MayBeMissing seen ls ds (Some given) new stand back =
-    let all = given_each seen back.0 1 ls ds given new stand back.1.0 in
+-- the location database's disk is the first of these
+abbrev LocStand : {D : Type 0} → (D → Option (List ℕ)) → LocDurable → Lent D → Type 0
+LocStand {D} seen loc l = (l.node ≡ 0) × (IsSome (seen l.disk) × ((bytes : List ℕ) → seen l.disk ≡ Some bytes → LocStands bytes loc))
+
+abbrev pub AllStand : {D : Type 0} → (D → Option (List ℕ)) → LocDurable → List Durable → List (Lent D) → Type 0
+AllStand {D} seen loc ds [] = ⊥
+AllStand {D} seen loc ds (l ∷ ls) = LocStand seen loc l × StandFor seen 1 ls ds
+
+given_all : {D : Type 0} (seen : D → Option (List ℕ)) (missing : ℕ) (ls : List (Lent D)) (loc : LocDurable) (ds : List Durable) (given : Given) (new : Option Given) → AllStand seen loc ds ls → GivesBackBut seen missing ls (Some given) new → Returned (AreAllKept loc ds) missing (length ds + 1) given new
+given_all {D} seen missing [] loc ds given new stand back = absurd stand
+given_all {D} seen missing (l ∷ ls) loc ds given new stand (inl (after, (goes, back))) =
+    let bytes = some_of (seen l.disk) stand.0.1.0 in
+    let next = given_next (seen l.disk) l.node given after bytes.0 bytes.1 goes in
+    let more = given_each seen missing 1 ls ds (given ++ (l.node, bytes.0) ∷ []) new stand.1 (subst (λ (o : Option Given). GivesBackBut seen missing ls o new) next back) in
+    ((l.node, bytes.0) ∷ more.0, (more.1.0 ∙ ap (λ (x : Given). Some x) (append_assoc given ((l.node, bytes.0) ∷ []) more.0), (inl ((stand.0.0, stand.0.1.1 bytes.0 bytes.1), more.1.1.0), omega (arith, more.1.1.1))))
+given_all {D} seen missing (l ∷ ls) loc ds given new stand (inr (others, (one, back))) =
+    let more = given_each seen others 1 ls ds given new stand.1 back in
+    (more.0, (more.1.0, (inr more.1.1.0, omega (arith, one, more.1.1.1))))
+
+given_by : {D : Type 0} (MayBeMissing : ℕ → Type 0) (seen : D → Option (List ℕ)) (ls : List (Lent D)) (loc : LocDurable) (ds : List Durable) (old new : Option Given) → AllStand seen loc ds ls → Missing MayBeMissing seen ls old new → GivesBack MayBeMissing loc ds old new
+given_by {D} MayBeMissing seen ls loc ds None new stand back = tt
+given_by {D} MayBeMissing seen ls loc ds (Some given) new stand back =
+    let all = given_all seen back.0 ls loc ds given new stand back.1.0 in
     (all.0, (all.1.0, (all.1.1.0, (back.0, (all.1.1.1, back.1.1)))))
 
 -- ---- what is kept at the end of a run, and the disks that stand for it
 
 pub record EndsSo {D : Type 0} (seen : D → Option (List ℕ)) (end : Cell) (kept : List Durable) (disks : List (Lent D)) : Type 0 where
   pub keep : MayKeep end 1 kept
-  pub stand : StandFor seen 1 disks kept
+  pub loc : LocDurable
+  pub keep_loc : MayBeReadAtLoc end loc
+  pub stand : AllStand seen loc kept disks
 
-pub given_so : {D : Type 0} (MayBeMissing : ℕ → Type 0) (seen : D → Option (List ℕ)) (c : Cell) (kept : List Durable) (disks : List (Lent D)) (old new : Option Given) → EndsSo seen c kept disks → Missing MayBeMissing seen disks old new → GivesBack MayBeMissing kept old new
-given_so {D} MayBeMissing seen c kept disks old new so back = given_by MayBeMissing seen disks kept old new so.stand back
+pub given_so : {D : Type 0} (MayBeMissing : ℕ → Type 0) (seen : D → Option (List ℕ)) (c : Cell) (kept : List Durable) (disks : List (Lent D)) (old new : Option Given) → (so : EndsSo seen c kept disks) → Missing MayBeMissing seen disks old new → GivesBack MayBeMissing so.loc kept old new
+given_so {D} MayBeMissing seen c kept disks old new so back = given_by MayBeMissing seen disks so.loc kept old new so.stand back
+
+-- what the location database's disk stands for
+pub record LocEndsSo {D : Type 0} (seen : D → Option (List ℕ)) (end : Cell) (disk : D) : Type 0 where
+  pub loc : LocDurable
+  pub keep : MayBeReadAtLoc end loc
+  pub stand : LocStand seen loc (record { node = 0; disk = disk })
+
+loc_so : {D : Type 0} (seen : D → Option (List ℕ)) (limit : D → ℕ) (c : Cell) (disk : D) → IsSome (seen disk) → IsStandingAtLoc seen limit c disk → LocEndsSo seen c disk
+loc_so {D} seen limit c disk tells stand =
+    let bytes = some_of (seen disk) tells in
+    let d = stand bytes.0 bytes.1 in
+    record { loc = d.0; keep = d.1.0; stand = (refl, (tells, λ bs e. subst (λ (xs : List ℕ). LocStands xs d.0) (some_is bytes.0 bs (sym bytes.1 ∙ e)) d.1.1.0)) }
 
 one_stands : {D : Type 0} (seen : D → Option (List ℕ)) (faults limit : D → ℕ) (c : Cell) (i : ℕ) (l : Lent D) (f : Left (Store D) D) (fs : List (Left (Store D) D)) → Stand seen limit c i l → Tells seen i l → IsRead seen faults limit l.disk f → fault_in (f ∷ fs) ≡ None →
     IsSome (seen (kept_disk f)) × ((bytes : List ℕ) → seen (kept_disk f) ≡ Some bytes → Stands bytes (part f))
@@ -166,15 +201,17 @@ all_stand {D} seen faults limit c i (l ∷ ls) (f ∷ fs) stand tells found none
     ((refl, one_stands seen faults limit c i l f fs stand.0 tells.0 found.0 none), all_stand seen faults limit c (i + 1) ls fs stand.1 tells.1 found.1 rest)
 
 -- where the disks were read for the final part
-pub read_so : {D : Type 0} (seen : D → Option (List ℕ)) (may_leave : D → List ℕ → Type 0) (faults limit : D → ℕ) (w : WorldState D) (c : Cell) (fs : List (Left (Store D) D)) → IsCell seen may_leave limit w c → AllTell seen w.servers → AreStanding seen limit c (lent_from 1 w.servers) →
-    AreFound seen faults limit (lent_from 1 w.servers) fs → fault_in fs ≡ None → EndsSo seen c (map part fs) (kept_disks 1 fs)
+pub read_so : {D : Type 0} (seen : D → Option (List ℕ)) (may_leave : D → List ℕ → Type 0) (faults limit : D → ℕ) (w : WorldState D) (c : Cell) (fs : List (Left (Store D) D)) → IsCell seen may_leave limit w c → AllTell seen w → AreStanding seen limit c (disks_of w) →
+    AreFound seen faults limit (lent_from 1 w.servers) fs → fault_in fs ≡ None → EndsSo seen c (map part fs) (all_kept (loc_seat_disk w.database) fs)
 read_so {D} seen may_leave faults limit w c fs is tells stand found none =
-    let ls = lent_from 1 w.servers in
-    let each = each_is (Stand seen limit c) (lent_from 1 w.servers) stand in
-    let all = tells_from seen 1 w.servers (each_is (λ (i : ℕ) (s : ServerSeat D). IsSome (seen (seat_disk s))) w.servers tells) in
+    let each = each_is (Stand seen limit c) (lent_from 1 w.servers) stand.1 in
+    let all = tells_from seen 1 w.servers (each_is (λ (i : ℕ) (s : ServerSeat D). IsSome (seen (seat_disk s))) w.servers tells.1) in
+    let loc = loc_so seen limit c (loc_seat_disk w.database) tells.0 stand.0 in
     record {
       keep = all_left seen faults limit c 1 (lent_from 1 w.servers) fs each all found none (omega (arith, lent_length 1 w.servers, is.host_count));
-      stand = all_stand seen faults limit c 1 (lent_from 1 w.servers) fs each all found none;
+      loc = loc.loc;
+      keep_loc = loc.keep;
+      stand = (loc.stand, all_stand seen faults limit c 1 (lent_from 1 w.servers) fs each all found none);
     }
 
 -- where they go back as they are
@@ -196,17 +233,18 @@ numbered_from : {D : Type 0} (i : ℕ) (ss : List (ServerSeat D)) → EachFrom i
 numbered_from {D} i [] = tt
 numbered_from {D} i (s ∷ ss) = (refl, numbered_from (i + 1) ss)
 
-pub left_so : {D : Type 0} (seen : D → Option (List ℕ)) (may_leave : D → List ℕ → Type 0) (limit : D → ℕ) (w : WorldState D) (c : Cell) → IsCell seen may_leave limit w c → AllTell seen w.servers → AreStanding seen limit c (lent_from 1 w.servers) →
-    (kept : List Durable) × EndsSo seen c kept (lent_from 1 w.servers)
+pub left_so : {D : Type 0} (seen : D → Option (List ℕ)) (may_leave : D → List ℕ → Type 0) (limit : D → ℕ) (w : WorldState D) (c : Cell) → IsCell seen may_leave limit w c → AllTell seen w → AreStanding seen limit c (disks_of w) →
+    (kept : List Durable) × EndsSo seen c kept (disks_of w)
 left_so {D} seen may_leave limit w c is tells stand =
-    let each = each_is (Stand seen limit c) (lent_from 1 w.servers) stand in
-    let all = tells_from seen 1 w.servers (each_is (λ (i : ℕ) (s : ServerSeat D). IsSome (seen (seat_disk s))) w.servers tells) in
+    let each = each_is (Stand seen limit c) (lent_from 1 w.servers) stand.1 in
+    let all = tells_from seen 1 w.servers (each_is (λ (i : ℕ) (s : ServerSeat D). IsSome (seen (seat_disk s))) w.servers tells.1) in
     let left = parts_stand seen limit c 1 (lent_from 1 w.servers) each all (numbered_from 1 w.servers) (omega (arith, lent_length 1 w.servers, is.host_count)) in
-    (left.0, record { keep = left.1.0; stand = left.1.1 })
+    let loc = loc_so seen limit c (loc_seat_disk w.database) tells.0 stand.0 in
+    (left.0, record { keep = left.1.0; loc = loc.loc; keep_loc = loc.keep; stand = (loc.stand, left.1.1) })
 
 -- ---- disks go back, whatever they hold
 
--- each of these disks is that of its server, by number from this one on, and tells
+-- each of these disks is that of its node, by number from this one on, and tells
 abbrev TellFrom : {D : Type 0} → (D → Option (List ℕ)) → ℕ → List (Lent D) → Type 0
 TellFrom {D} seen i [] = Unit {0}
 TellFrom {D} seen i (l ∷ ls) = ((l.node ≡ i) × IsSome (seen l.disk)) × TellFrom seen (i + 1) ls
@@ -222,20 +260,21 @@ come_each {D} seen missing i (l ∷ ls) given new tell (inr (others, (one, back)
     let more = come_each seen others (i + 1) ls given new tell.1 back in
     (more.0, (more.1.0, (inr more.1.1.0, omega (arith, one, more.1.1.1))))
 
-come_back : {D : Type 0} (MayBeMissing : ℕ → Type 0) (seen : D → Option (List ℕ)) (count : ℕ) (ls : List (Lent D)) (old new : Option Given) → length ls ≡ count → TellFrom seen 1 ls → Missing MayBeMissing seen ls old new → GivesBackThose MayBeMissing count old new
+come_back : {D : Type 0} (MayBeMissing : ℕ → Type 0) (seen : D → Option (List ℕ)) (count : ℕ) (ls : List (Lent D)) (old new : Option Given) → length ls ≡ count → TellFrom seen 0 ls → Missing MayBeMissing seen ls old new → GivesBackThose MayBeMissing count old new
 come_back {D} MayBeMissing seen count ls None new are tell back = tt
 come_back {D} MayBeMissing seen count ls (Some given) new are tell back =
-    let disks = come_each seen back.0 1 ls given new tell back.1.0 in
-    (disks.0, (disks.1.0, (subst (λ (n : ℕ). AreOf 1 n disks.0) are disks.1.1.0, (back.0, (disks.1.1.1 ∙ are, back.1.1)))))
+    let disks = come_each seen back.0 0 ls given new tell back.1.0 in
+    (disks.0, (disks.1.0, (subst (λ (n : ℕ). AreOf 0 n disks.0) are disks.1.1.0, (back.0, (disks.1.1.1 ∙ are, back.1.1)))))
 
 tell_lent : {D : Type 0} (seen : D → Option (List ℕ)) (i : ℕ) (ss : List (ServerSeat D)) → EachFrom i (λ (i : ℕ) (s : ServerSeat D). IsSome (seen (seat_disk s))) ss → TellFrom seen i (lent_from i ss)
 tell_lent {D} seen i [] tell = tt
 tell_lent {D} seen i (s ∷ ss) tell = ((refl, tell.0), tell_lent seen (i + 1) ss tell.1)
 
 -- those of a world, as they are
-pub lent_come : {D : Type 0} (MayBeMissing : ℕ → Type 0) (seen : D → Option (List ℕ)) (count : ℕ) (ss : List (ServerSeat D)) (old new : Option Given) → length ss ≡ count → AllTell seen ss → Missing MayBeMissing seen (lent_from 1 ss) old new → GivesBackThose MayBeMissing count old new
-lent_come {D} MayBeMissing seen count ss old new are tell back =
-    come_back MayBeMissing seen count (lent_from 1 ss) old new (lent_length 1 ss ∙ are) (tell_lent seen 1 ss (each_is (λ (i : ℕ) (s : ServerSeat D). IsSome (seen (seat_disk s))) ss tell)) back
+pub lent_come : {D : Type 0} (MayBeMissing : ℕ → Type 0) (seen : D → Option (List ℕ)) (count : ℕ) (w : WorldState D) (old new : Option Given) → length w.servers ≡ count → AllTell seen w → Missing MayBeMissing seen (disks_of w) old new → GivesBackThose MayBeMissing (count + 1) old new
+lent_come {D} MayBeMissing seen count w old new are tell back =
+    come_back MayBeMissing seen (count + 1) (disks_of w) old new (omega (arith, lent_length 1 w.servers, are))
+    ((refl, tell.0), tell_lent seen 1 w.servers (each_is (λ (i : ℕ) (s : ServerSeat D). IsSome (seen (seat_disk s))) w.servers tell.1)) back
 
 tell_found : {D : Type 0} (seen : D → Option (List ℕ)) (faults limit : D → ℕ) (i : ℕ) (ls : List (Lent D)) (fs : List (Left (Store D) D)) → AreFound seen faults limit ls fs → EachFrom i (Tells seen) ls → TellFrom seen i (kept_disks i fs)
 tell_found {D} seen faults limit i [] [] found tells = tt
@@ -250,11 +289,12 @@ found_count {D} seen faults limit i (l ∷ ls) [] found = absurd found
 found_count {D} seen faults limit i (l ∷ ls) (f ∷ fs) found = ap suc (found_count seen faults limit (i + 1) ls fs found.1)
 
 -- those of a world, after they were read
-pub found_come : {D : Type 0} (MayBeMissing : ℕ → Type 0) (seen : D → Option (List ℕ)) (faults limit : D → ℕ) (count : ℕ) (ss : List (ServerSeat D)) (fs : List (Left (Store D) D)) (old new : Option Given) → length ss ≡ count → AllTell seen ss → AreFound seen faults limit (lent_from 1 ss) fs
-    → Missing MayBeMissing seen (kept_disks 1 fs) old new → GivesBackThose MayBeMissing count old new
-found_come {D} MayBeMissing seen faults limit count ss fs old new are tell found back =
-    let all = tells_from seen 1 ss (each_is (λ (i : ℕ) (s : ServerSeat D). IsSome (seen (seat_disk s))) ss tell) in
-    come_back MayBeMissing seen count (kept_disks 1 fs) old new (found_count seen faults limit 1 (lent_from 1 ss) fs found ∙ (lent_length 1 ss ∙ are)) (tell_found seen faults limit 1 (lent_from 1 ss) fs found all) back
+pub found_come : {D : Type 0} (MayBeMissing : ℕ → Type 0) (seen : D → Option (List ℕ)) (faults limit : D → ℕ) (count : ℕ) (w : WorldState D) (fs : List (Left (Store D) D)) (old new : Option Given) → length w.servers ≡ count → AllTell seen w → AreFound seen faults limit (lent_from 1 w.servers) fs
+    → Missing MayBeMissing seen (all_kept (loc_seat_disk w.database) fs) old new → GivesBackThose MayBeMissing (count + 1) old new
+found_come {D} MayBeMissing seen faults limit count w fs old new are tell found back =
+    let all = tells_from seen 1 w.servers (each_is (λ (i : ℕ) (s : ServerSeat D). IsSome (seen (seat_disk s))) w.servers tell.1) in
+    come_back MayBeMissing seen (count + 1) (all_kept (loc_seat_disk w.database) fs) old new (omega (arith, found_count seen faults limit 1 (lent_from 1 w.servers) fs found, lent_length 1 w.servers, are))
+    ((refl, tell.0), tell_found seen faults limit 1 (lent_from 1 w.servers) fs found all) back
 
 -- ---- the history
 
@@ -263,7 +303,7 @@ length_told ps [] = refl
 length_told ps (e ∷ es) = ap suc (length_told (drop e.sent ps) es)
 
 -- what a world tells is a legal run of its script, as far as it was played
-pub legal_run : {D : Type 0} (seen : D → Option (List ℕ)) (may_leave : D → List ℕ → Type 0) (faults limit : D → ℕ) (law : RunsAreLegal × RunsEndWell) (IsSoFar : List Input → Type 0) (others : ℕ → ℕ) (s : Script) (w : WorldState D) (counts : ℕ → Span ℕ) → IsOfCell s → length w.history ≤ most_entries → (p : HasPlayed seen may_leave faults limit IsSoFar s w) → ((i : ℕ) → IsServerOf s i → RoseBy (own_falls i p.inputs (told w.wire w.history) + others i) (counts i))
+pub legal_run : {D : Type 0} (seen : D → Option (List ℕ)) (may_leave : D → List ℕ → Type 0) (faults limit : D → ℕ) (law : RunsAreLegal × RunsEndWell) (IsSoFar : List Input → Type 0) (others : ℕ → ℕ) (s : Script) (w : WorldState D) (counts : ℕ → Span ℕ) → IsOfCell s → length w.history ≤ most_entries → (p : HasPlayed seen may_leave faults limit IsSoFar s w) → ((i : ℕ) → HasDisk s i → RoseBy (own_falls i p.inputs (told w.wire w.history) + others i) (counts i))
     → IsLegalRun s IsSoFar others counts (told w.wire w.history) p.cell
 legal_run {D} seen may_leave faults limit law IsSoFar others s w counts in_cell few p failures = record {
   inputs = p.inputs;
@@ -276,5 +316,5 @@ legal_run {D} seen may_leave faults limit law IsSoFar others s w counts in_cell 
 }
 
 -- its failures are all
-pub no_others : (s : Script) (own : ℕ → ℕ) (counts : ℕ → Span ℕ) → ((i : ℕ) → IsServerOf s i → RoseBy (own i) (counts i)) → (i : ℕ) → IsServerOf s i → RoseBy (own i + no_other i) (counts i)
+pub no_others : (s : Script) (own : ℕ → ℕ) (counts : ℕ → Span ℕ) → ((i : ℕ) → HasDisk s i → RoseBy (own i) (counts i)) → (i : ℕ) → HasDisk s i → RoseBy (own i + no_other i) (counts i)
 no_others s own counts rose i has = subst (λ (k : ℕ). RoseBy k (counts i)) (omega (arith)) (rose i has)

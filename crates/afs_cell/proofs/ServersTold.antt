@@ -1,5 +1,5 @@
 -- What the world does with what happened at a server.
-use Rattle.std.proofs.Common.{ap, sym, subst, ◌∙◌, ◌≡◌, ◌<◌, ◌⊎◌, inl, inr, ℕ, List, [], ◌∷◌, ◌++◌, length, true, false, Option, Some, None, Result, Ok, Err}
+use Rattle.std.proofs.Common.{refl, ap, sym, subst, ◌∙◌, ◌≡◌, ◌<◌, ◌+◌, ◌⊎◌, inl, inr, ℕ, List, [], ◌∷◌, length, false, Option, Some, None, Result}
 use Rattle.afs_num.specs.Places.{at_place}
 use Rattle.afs_num.specs.declared.types.Node.TheVariants.{Server}
 use Rattle.afs_num.specs.declared.types.Parcel.{Parcel}
@@ -14,21 +14,21 @@ use Rattle.afs_rows.specs.ServerHosts.{ServerHost}
 use Rattle.afs_schedule.specs.Schedules.{IsInput, Turn}
 use Rattle.afs_rows.specs.Hosts.{HostStep}
 use Rattle.afs_rows.specs.States.{ServerState}
-use Rattle.afs_clients.specs.Happening.{entry_of, front_lines, void_entry, IsGiven}
+use Rattle.afs_clients.specs.Happening.{front_lines, IsGiven}
 use Rattle.afs_cell.specs.Happening.{Settles}
 use Rattle.afs_cell.specs.SeatSteps.{HasHeard, HasStep, IsFallen, IsSeatStep, IsVoidServer, OneHappened, ServersHappened}
 use Rattle.afs_cell.specs.Steps.{IsAt, Stepped}
-use Rattle.afs_host.specs.Seated.{seat_disk, ServerSeat}
+use Rattle.afs_clients.specs.Places.{put_place}
+use Rattle.afs_host.specs.Seated.{seat_disk, IsHost, ServerSeat}
 use Rattle.afs_cell.specs.Worlds.{most_entries, AllTell, IsSafe, WorldState}
 use Rattle.afs_cell.specs.declared.faults.WorldFault.{WorldFault}
-use Rattle.afs_cell.specs.declared.faults.WorldFault.TheVariants as faulty
 use Rattle.afs_clients.specs.declared.happening.Happened.{Happened}
 use Rattle.afs_clients.specs.declared.happening.Happened.TheVariants as happened
 use Rattle.afs_clients.specs.declared.happening.ServerInput.{ServerInput}
 use Rattle.afs_cell.proofs.Links.{link_input, link_message, link_void, link_void_message, message_found, Voided}
-use Rattle.afs_clients.proofs.Numbers.{no_host, put_same}
-use Rattle.afs_cell.proofs.HostSteps.{Linked}
-use Rattle.afs_cell.proofs.Settled.{nothing_changes, nothing_happens, step_loses, step_told, step_wants}
+use Rattle.afs_clients.proofs.Numbers.{each_put, length_put, no_host, put_same}
+use Rattle.afs_cell.proofs.HostSteps.{server_plays, ServerLinked}
+use Rattle.afs_cell.proofs.Settled.{loc_ready_more, node_settles, ready_more, server_keeps, servers_ready, Leaves}
 
 -- the world with these servers
 abbrev with_servers : {D : Type 0} → WorldState D → List (ServerSeat D) → WorldState D
@@ -37,55 +37,75 @@ with_servers {D} w servers = record w { servers = servers }
 module _ {D : Type 0} (seen : D → Option (List ℕ)) (may_leave : D → List ℕ → Type 0) (faults limit : D → ℕ) (s : Script) (is : Turn → Input → Type 0) (w : WorldState D) (i : ℕ) (front : Option Line)
     (IsVoid : ServerHost → Type 0) (Has : ServerHost → (HostStep ServerState → Type 0) → Type 0 → Type 0) where
   abbrev Voids : Type 0
-  Voids = AllTell seen w.servers → (t : Turn) → IsAt seen may_leave limit w t.cell t.left → (has_host t.cell i ≡ false) ⊎ IsVoid (t.cell.hosts i) → Voided (is t) t
+  Voids = AllTell seen w → (t : Turn) → IsAt seen may_leave limit w t.cell t.left → (has_host t.cell i ≡ false) ⊎ IsVoid (t.cell.hosts i) → Voided (is t) t
 
   abbrev Links : Type 0
-  Links = AllTell seen w.servers → (t : Turn) → IsAt seen may_leave limit w t.cell t.left → (was now : ServerSeat D) (outs : Outs) → at_place w.servers i ≡ Some was
-      → Has (t.cell.hosts i) (IsSeatStep seen may_leave limit (Server i) now (front_lines front) outs) (Rose (faults (seat_disk was)) (faults (seat_disk now))) → Linked seen may_leave faults limit (is t) t i was now (front_lines front) outs
+  Links = AllTell seen w → (t : Turn) → IsAt seen may_leave limit w t.cell t.left → (was now : ServerSeat D) (outs : Outs) → at_place w.servers i ≡ Some was
+      → Has (t.cell.hosts i) (IsSeatStep seen may_leave limit (Server i) now (front_lines front) outs) (Rose (faults (seat_disk was)) (faults (seat_disk now))) → ServerLinked seen may_leave faults limit (is t) t i was now (front_lines front) outs
 
-  abbrev Result1 : WorldState D → Result (Unit {0}) WorldFault → Type 0
-  Result1 new result = Stepped seen may_leave faults limit s is w new result
+  abbrev One : List (ServerSeat D) → Happened → Type 0
+  One servers what = OneHappened seen may_leave faults limit i (front_lines front) IsVoid Has w.servers servers what
 
-  nothing_settles : (servers : List (ServerSeat D)) (new : WorldState D) (result : Result (Unit {0}) WorldFault) → IsSafe limit s w → w.is_lost ≡ false → length w.history < most_entries → servers ≡ w.servers
-      → (AllTell seen w.servers → (t : Turn) → IsAt seen may_leave limit w t.cell t.left → Voided (is t) t) → Settles (Server i) front happened.Nothing (with_servers w servers) new result → Result1 new result
-  nothing_settles servers new (Ok done) safe going place same void settles =
-      subst (λ (v : WorldState D). Stepped seen may_leave faults limit s is w v (Ok done)) (sym (settles ∙ ap (λ (ss : List (ServerSeat D)). record w { servers = ss; history = w.history ++ void_entry ∷ [] }) same))
-      (nothing_happens seen may_leave faults limit s is w safe going place void)
-  nothing_settles servers new (Err e) safe going place same void settles =
-      subst (λ (f : WorldFault). Stepped seen may_leave faults limit s is w new (Err f)) (sym settles.0)
-      (subst (λ (v : WorldState D). Stepped seen may_leave faults limit s is w v (Err faulty.OutOfMemory)) (sym (settles.1 ∙ ap (with_servers w) same)) (nothing_changes seen may_leave faults limit s is w safe))
+  abbrev After : ServerSeat D → Happened → Type 0
+  After now what = Leaves seen may_leave faults limit s is w w.database (put_place i now w.servers) (Server i) (front_lines front) what
 
-  one_settles : (servers : List (ServerSeat D)) (what : Happened) (new : WorldState D) (result : Result (Unit {0}) WorldFault) → IsSafe limit s w → w.is_lost ≡ false → length w.history < most_entries
-      → OneHappened seen may_leave faults limit i (front_lines front) IsVoid Has w.servers servers what → Voids → Links → Settles (Server i) front what (with_servers w servers) new result → Result1 new result
-  one_settles servers happened.Nothing new result safe going place one voids links settles =
-      nothing_settles servers new result safe going place (one.put ∙ put_same i one.now one.was w.servers one.found one.happens.0)
-      (λ tell t at. voids tell t at (inr (one.happens.1 (t.cell.hosts i) (at.cell.hosts i one.was one.found)))) settles
-  one_settles servers (happened.Step outs) new (Ok done) safe going place one voids links settles =
-      subst (λ (v : WorldState D). Stepped seen may_leave faults limit s is w v (Ok done))
-      (sym (settles ∙ ap (λ (ss : List (ServerSeat D)). record w { servers = ss; wire = w.wire ++ outs.parcels; history = w.history ++ entry_of (Server i) (front_lines front ++ outs.lines) (length outs.parcels) ∷ [] }) one.put))
-      (step_told seen may_leave faults limit s is w i one.was one.now (front_lines front) outs safe going place one.found one.goes one.keeps
-      (λ tell t at. links tell t at one.was one.now outs one.found (one.happens (tell i one.was one.found) (t.cell.hosts i) (at.cell.hosts i one.was one.found))))
-  one_settles servers (happened.Step outs) new (Err e) safe going place one voids links settles =
-      subst (λ (f : WorldFault). Stepped seen may_leave faults limit s is w new (Err f)) (sym settles.0)
-      (subst (λ (v : WorldState D). Stepped seen may_leave faults limit s is w v (Err faulty.OutOfMemory)) (sym (settles.1 ∙ ap (λ (ss : List (ServerSeat D)). record w { servers = ss; is_lost = true }) one.put))
-      (step_loses seen may_leave faults limit s is w i one.was one.now safe one.found one.keeps))
-  one_settles servers happened.Unchanged new (Ok done) safe going place one voids links settles = absurd settles
-  one_settles servers happened.Unchanged new (Err e) safe going place one voids links settles =
-      subst (λ (f : WorldFault). Stepped seen may_leave faults limit s is w new (Err f)) (sym settles.0)
-      (subst (λ (v : WorldState D). Stepped seen may_leave faults limit s is w v (Err faulty.OutOfMemory)) (sym (settles.1 ∙ ap (with_servers w) one.put))
-      (step_wants seen may_leave faults limit s is w i one.was one.now safe one.found one.goes one.keeps one.happens))
-  one_settles servers happened.Lost new (Ok done) safe going place one voids links settles = absurd settles
-  one_settles servers happened.Lost new (Err e) safe going place one voids links settles =
-      subst (λ (f : WorldFault). Stepped seen may_leave faults limit s is w new (Err f)) (sym settles.0)
-      (subst (λ (v : WorldState D). Stepped seen may_leave faults limit s is w v (Err faulty.OutOfMemory)) (sym (settles.1 ∙ ap (λ (ss : List (ServerSeat D)). record w { servers = ss; is_lost = true }) one.put))
-      (step_loses seen may_leave faults limit s is w i one.was one.now safe one.found one.keeps))
+  -- what one server took leaves the world so
+  one_leaves : (servers : List (ServerSeat D)) (what : Happened) → IsSafe limit s w → w.is_lost ≡ false → (one : One servers what) → Voids → Links → After one.now what
+  one_leaves servers happened.Nothing safe going one voids links = (
+    ap (λ (ss : List (ServerSeat D)). record w { servers = ss }) (put_same i one.now one.was w.servers one.found one.takes.happens.0),
+    λ tell t at. voids tell t at (inr (one.takes.happens.1 (t.cell.hosts i) (at.cell.hosts i one.was one.found))),
+  )
+  one_leaves servers (happened.Step outs) safe going one voids links = (
+    server_keeps seen may_leave faults limit s w i one.was one.now one.found one.takes.keeps,
+    (
+      record {
+        database = loc_ready_more (length w.history) w.database (safe.database going);
+        servers =
+            servers_ready seen may_leave faults limit (length w.history) (length w.history + 1) w i one.was one.now one.found (λ j z. ready_more j (length w.history) z) (safe.servers going)
+            (one.takes.goes (length w.history) (safe.servers going i one.was one.found));
+      },
+      λ tell t at. server_plays seen may_leave faults limit (is t) t w i one.was one.now (front_lines front) outs safe.sent one.found one.takes.keeps.no_fewer at
+          (links tell t at one.was one.now outs one.found (one.takes.happens (tell.1 i one.was one.found) (t.cell.hosts i) (at.cell.hosts i one.was one.found))),
+    ),
+  )
+  one_leaves servers happened.Unchanged safe going one voids links = (
+    server_keeps seen may_leave faults limit s w i one.was one.now one.found one.takes.keeps,
+    (
+      record {
+        database = safe.database going;
+        servers =
+            servers_ready seen may_leave faults limit (length w.history) (length w.history) w i one.was one.now one.found (λ j z h. h) (safe.servers going)
+            (one.takes.goes (length w.history) (safe.servers going i one.was one.found));
+      },
+      λ c cell. record {
+        loc = cell.loc;
+        host_count = cell.host_count ∙ sym (length_put i one.now w.servers);
+        hosts =
+            each_put (λ (j : ℕ) (z : ServerSeat D). IsHost seen may_leave limit (Server j) z (c.hosts j)) (λ (j : ℕ) (z : ServerSeat D). IsHost seen may_leave limit (Server j) z (c.hosts j)) i one.now one.was w.servers one.found cell.hosts (λ j z apart h. h)
+            (one.takes.happens (c.hosts i) (cell.hosts i one.was one.found));
+        count = cell.count;
+        clients = cell.clients;
+        sent = cell.sent;
+        clock = cell.clock;
+        handed = cell.handed;
+      },
+    ),
+  )
+  one_leaves servers happened.Lost safe going one voids links = server_keeps seen may_leave faults limit s w i one.was one.now one.found one.takes.keeps
+
+  -- there is none of this number
+  none_leaves : Voids → (at_place w.servers i ≡ None) → Leaves seen may_leave faults limit s is w w.database w.servers (Server i) (front_lines front) happened.Nothing
+  none_leaves voids none = (refl, λ tell t at. voids tell t at (inl (no_host w.servers i t.cell none at.cell.host_count)))
 
   server_settles : (servers : List (ServerSeat D)) (what : Happened) (new : WorldState D) (result : Result (Unit {0}) WorldFault) → IsSafe limit s w → w.is_lost ≡ false → length w.history < most_entries
-      → ServersHappened seen may_leave faults limit i (front_lines front) IsVoid Has w.servers servers what → Voids → Links → Settles (Server i) front what (with_servers w servers) new result → Result1 new result
+      → ServersHappened seen may_leave faults limit i (front_lines front) IsVoid Has w.servers servers what → Voids → Links → Settles (Server i) front what (with_servers w servers) new result → Stepped seen may_leave faults limit s is w new result
   server_settles servers what new result safe going place (inl none) voids links settles =
-      nothing_settles servers new result safe going place none.same (λ tell t at. voids tell t at (inl (no_host w.servers i t.cell none.none at.cell.host_count)))
-      (subst (λ (h : Happened). Settles (Server i) front h (with_servers w servers) new result) none.nothing settles)
-  server_settles servers what new result safe going place (inr one) voids links settles = one_settles servers what new result safe going place one voids links settles
+      node_settles seen may_leave faults limit s is w safe going place new w.database w.servers (Server i) front happened.Nothing result (none_leaves voids none.none)
+      (subst (λ (ss : List (ServerSeat D)). Settles (Server i) front happened.Nothing (with_servers w ss) new result) none.same
+      (subst (λ (h : Happened). Settles (Server i) front h (with_servers w servers) new result) none.nothing settles))
+  server_settles servers what new result safe going place (inr one) voids links settles =
+      node_settles seen may_leave faults limit s is w safe going place new w.database (put_place i one.now w.servers) (Server i) front what result (one_leaves servers what safe going one voids links)
+      (subst (λ (ss : List (ServerSeat D)). Settles (Server i) front what (with_servers w ss) new result) one.put settles)
 
 module _ {D : Type 0} (seen : D → Option (List ℕ)) (may_leave : D → List ℕ → Type 0) (faults limit : D → ℕ) (s : Script) (w : WorldState D) (i : ℕ) where
   -- a server was given something

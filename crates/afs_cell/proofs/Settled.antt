@@ -1,5 +1,5 @@
--- What happened at a server, told by the world: the step of the whole.
-use Rattle.std.proofs.Common.{refl, arith, ap, sym, subst, ◌∙◌, ◌≡◌, ◌<◌, ◌+◌, ◌↔◌, inl, inr, ℕ, List, [], ◌∷◌, ◌++◌, length, true, false, Option, Some, Ok, Err}
+-- What happened at a node with a disk, told by the world: the step of the whole.
+use Rattle.std.proofs.Common.{refl, arith, ap, sym, subst, ◌∙◌, ◌≡◌, ◌<◌, ◌+◌, ◌↔◌, inl, inr, ℕ, List, [], ◌∷◌, ◌++◌, length, true, false, Option, Some, Result, Ok, Err}
 use Rattle.std.specs.Prelude.{IsSome}
 use Rattle.std.proofs.lemmas.List.{length-append}
 use Rattle.afs_num.specs.Places.{at_place}
@@ -11,28 +11,31 @@ use Rattle.afs_history.specs.declared.lines.Line.{Line}
 use Rattle.afs_history.specs.declared.lines.Outs.{Outs}
 use Rattle.afs_history.specs.declared.scripts.Script.{Script}
 use Rattle.afs_rows.specs.Runs.{moved, voided, Cell, Entry, Input, Moved}
-use Rattle.afs_rows.specs.ServerHosts.{ServerHost}
 use Rattle.afs_schedule.specs.Schedules.{Turn}
 use Rattle.afs_text.specs.Telling.{told, sent_by}
 use Rattle.afs_host.specs.declared.seats.Seat.TheVariants.{Up, Down}
-use Rattle.afs_clients.specs.Happening.{entry_of, void_entry}
-use Rattle.afs_cell.specs.SeatSteps.{SeatGoes, SeatKeeps}
+use Rattle.afs_clients.specs.Happening.{entry_of, front_lines, void_entry}
+use Rattle.afs_cell.specs.Happening.{Settles}
+use Rattle.afs_cell.specs.SeatSteps.{DiskKeeps}
 use Rattle.afs_clients.specs.Places.{put_place, Each}
 use Rattle.afs_cell.specs.Steps.{IsAt, Plays, Stepped}
-use Rattle.afs_cell.specs.Worlds.{most_entries, AllHold, AllTell, IsReadyClient, IsSafe, WorldState}
-use Rattle.afs_host.specs.Seated.{seat_disk, IsHost, IsReadySeat, ServerSeat}
+use Rattle.afs_cell.specs.Worlds.{most_entries, AllHold, AllTell, Counts, IsCell, IsReadyClient, IsSafe, WorldState}
+use Rattle.afs_host.specs.LocSeated.{loc_seat_disk, DatabaseSeat, IsLocReadySeat}
+use Rattle.afs_host.specs.Seated.{seat_disk, IsReadySeat, ServerSeat}
 use Rattle.afs_clients.specs.declared.clients.ClientSeat.{ClientSeat}
+use Rattle.afs_cell.specs.declared.faults.WorldFault.{WorldFault}
 use Rattle.afs_cell.specs.declared.faults.WorldFault.TheVariants as faulty
+use Rattle.afs_clients.specs.declared.happening.Happened.{Happened}
 use Rattle.afs_clients.specs.declared.happening.Happened.TheVariants as happened
-use Rattle.afs_cell.proofs.Counts.{counts_kept, counts_still}
+use Rattle.afs_cell.proofs.Counts.{counts_kept, counts_still, loc_counts_kept}
 use Rattle.afs_cell.proofs.Links.{Voided}
 use Rattle.afs_cell.proofs.Parcels.{sent_by-push, told-still}
 use Rattle.afs_clients.proofs.Numbers.{each_back, each_map, each_put, length_put}
-use Rattle.afs_cell.proofs.HostSteps.{after_step, server_plays, Linked}
+use Rattle.afs_cell.proofs.HostSteps.{after_step, with_hosts}
 
 -- ---- what one entry more leaves
 
-ready_more : {D : Type 0} (j n : ℕ) (z : ServerSeat D) → IsReadySeat (Server j) n z → IsReadySeat (Server j) (n + 1) z
+pub ready_more : {D : Type 0} (j n : ℕ) (z : ServerSeat D) → IsReadySeat (Server j) n z → IsReadySeat (Server j) (n + 1) z
 ready_more {D} j n (Up r) h = record {
   node = h.node;
   can_run = h.can_run;
@@ -42,11 +45,19 @@ ready_more {D} j n (Up r) h = record {
 }
 ready_more {D} j n (Down s) h = tt
 
+-- and the location database
+pub loc_ready_more : {D : Type 0} (n : ℕ) (z : DatabaseSeat D) → IsLocReadySeat n z → IsLocReadySeat (n + 1) z
+loc_ready_more {D} n (Up r) h = record { can_run = h.can_run; device_calls = omega (arith, h.device_calls) }
+loc_ready_more {D} n (Down s) h = tt
+
 pub client_more : (s : Script) (j n : ℕ) (z : ClientSeat) → IsReadyClient s j n z → IsReadyClient s j (n + 1) z
 client_more s j n z h = record { handed = h.handed; epoch = omega (arith, h.epoch); last = omega (arith, h.last) }
 
 pub one_longer : (es : List kept.Entry) (e : kept.Entry) → length (es ++ e ∷ []) ≡ length es + 1
 one_longer es e = length-append es (e ∷ [])
+
+pub loc_ready_longer : {D : Type 0} (es : List kept.Entry) (e : kept.Entry) (z : DatabaseSeat D) → IsLocReadySeat (length es) z → IsLocReadySeat (length (es ++ e ∷ [])) z
+loc_ready_longer {D} es e z h = subst (λ (n : ℕ). IsLocReadySeat n z) (sym (one_longer es e)) (loc_ready_more (length es) z h)
 
 abbrev pub ReadyServers : {D : Type 0} → ℕ → List (ServerSeat D) → Type 0
 ReadyServers {D} n ss = Each (λ (j : ℕ) (z : ServerSeat D). IsReadySeat (Server j) n z) ss
@@ -76,6 +87,7 @@ module _ {D : Type 0} (seen : D → Option (List ℕ)) (may_leave : D → List �
     cell_script = safe.cell_script;
     server_count = safe.server_count;
     client_count = safe.client_count;
+    database = λ going. loc_ready_longer w.history void_entry w.database (safe.database going);
     servers = λ going. servers_more w.history void_entry w.servers (safe.servers going);
     clients = λ going. clients_more s w.history void_entry w.clients (safe.clients going);
     disks = safe.disks;
@@ -102,14 +114,14 @@ module _ {D : Type 0} (seen : D → Option (List ℕ)) (may_leave : D → List �
         subst (λ (left : Node → List Task). IsAt seen may_leave limit (after_nothing w) (moved t.cell v.input).cell left) (sym v.left)
         (subst (λ (m : Moved). IsAt seen may_leave limit (after_nothing w) m.cell t.left) (sym v.moves)
         (record {
-          cell = record { host_count = at.cell.host_count; hosts = at.cell.hosts; count = at.cell.count; clients = at.cell.clients; sent = at.cell.sent; clock = at.cell.clock };
+          cell = record { loc = at.cell.loc; host_count = at.cell.host_count; hosts = at.cell.hosts; count = at.cell.count; clients = at.cell.clients; sent = at.cell.sent; clock = at.cell.clock; handed = at.cell.handed };
           acts = at.acts;
         }));
-    counts = counts_still faults v.input (moved t.cell v.input).entry w.servers v.harmless;
+    counts = counts_still faults v.input (moved t.cell v.input).entry w v.harmless;
   }
 
   pub nothing_happens : (s : Script) (is : Turn → Input → Type 0) (w : WorldState D) → IsSafe limit s w → w.is_lost ≡ false → length w.history < most_entries
-      → (AllTell seen w.servers → (t : Turn) → IsAt seen may_leave limit w t.cell t.left → Voided (is t) t) → Stepped seen may_leave faults limit s is w (after_nothing w) (Ok tt)
+      → (AllTell seen w → (t : Turn) → IsAt seen may_leave limit w t.cell t.left → Voided (is t) t) → Stepped seen may_leave faults limit s is w (after_nothing w) (Ok tt)
   nothing_happens s is w safe going place void = record {
     steps = record {
       count = one_longer w.history void_entry;
@@ -130,124 +142,158 @@ module _ {D : Type 0} (seen : D → Option (List ℕ)) (may_leave : D → List �
     counts = λ n h. h;
   }
 
-  -- ---- a server's step
+  -- ---- other nodes with disks
 
-  tells_put : (i : ℕ) (was now : ServerSeat D) (ss : List (ServerSeat D)) → at_place ss i ≡ Some was → SeatKeeps seen faults limit was now → AllTell seen ss ↔ AllTell seen (put_place i now ss)
-  tells_put i was now ss found keeps = (
-    λ h. each_put (λ (j : ℕ) (z : ServerSeat D). IsSome (seen (seat_disk z))) (λ (j : ℕ) (z : ServerSeat D). IsSome (seen (seat_disk z))) i now was ss found h (λ j z apart good. good) (keeps.told.1 (h i was found)),
-    λ h. each_back (λ (j : ℕ) (z : ServerSeat D). IsSome (seen (seat_disk z))) i now was ss found h keeps.told.0,
-  )
+  -- As many servers; each disk tells as before, has room for as many bytes, and its count of faults doesn't fall.
+  pub record HostsKeep (s : Script) (w : WorldState D) (d : DatabaseSeat D) (ss : List (ServerSeat D)) : Type 0 where
+    pub count : length ss ≡ length w.servers
+    pub tells : AllTell seen w ↔ AllTell seen (with_hosts w d ss)
+    pub disks : AllHold limit s.capacity w → AllHold limit s.capacity (with_hosts w d ss)
+    pub counts : (own : ℕ → ℕ) → Counts faults own w → Counts faults own (with_hosts w d ss)
 
-  disks_put : (i capacity : ℕ) (was now : ServerSeat D) (ss : List (ServerSeat D)) → at_place ss i ≡ Some was → SeatKeeps seen faults limit was now → AllHold limit capacity ss → AllHold limit capacity (put_place i now ss)
-  disks_put i capacity was now ss found keeps h =
-      each_put (λ (j : ℕ) (z : ServerSeat D). limit (seat_disk z) ≡ capacity) (λ (j : ℕ) (z : ServerSeat D). limit (seat_disk z) ≡ capacity) i now was ss found h (λ j z apart good. good) (keeps.same_limit ∙ h i was found)
+  -- each of them can be given what comes next, in a history of so many entries
+  pub record HostsReady (entries : ℕ) (d : DatabaseSeat D) (ss : List (ServerSeat D)) : Type 0 where
+    pub database : IsLocReadySeat entries d
+    pub servers : ReadyServers entries ss
 
-  pub safe_step : (s : Script) (w : WorldState D) (i : ℕ) (was now : ServerSeat D) (front : List Line) (outs : Outs) → IsSafe limit s w → w.is_lost ≡ false → length w.history < most_entries → at_place w.servers i ≡ Some was
-      → SeatGoes (Server i) was now (happened.Step outs) → SeatKeeps seen faults limit was now → IsSafe limit s (after_step w i now front outs)
-  safe_step s w i was now front outs safe going place found goes keeps = record {
+  -- another server
+  pub server_keeps : (s : Script) (w : WorldState D) (i : ℕ) (was now : ServerSeat D) → at_place w.servers i ≡ Some was → DiskKeeps seen faults limit (seat_disk was) (seat_disk now) → HostsKeep s w w.database (put_place i now w.servers)
+  server_keeps s w i was now found keeps = record {
+    count = length_put i now w.servers;
+    tells = (
+      λ h. (h.0, each_put (λ (j : ℕ) (z : ServerSeat D). IsSome (seen (seat_disk z))) (λ (j : ℕ) (z : ServerSeat D). IsSome (seen (seat_disk z))) i now was w.servers found h.1 (λ j z apart good. good) (keeps.told.1 (h.1 i was found))),
+      λ h. (h.0, each_back (λ (j : ℕ) (z : ServerSeat D). IsSome (seen (seat_disk z))) i now was w.servers found h.1 keeps.told.0),
+    );
+    disks = λ h. (
+      h.0,
+      each_put (λ (j : ℕ) (z : ServerSeat D). limit (seat_disk z) ≡ s.capacity) (λ (j : ℕ) (z : ServerSeat D). limit (seat_disk z) ≡ s.capacity) i now was w.servers found h.1 (λ j z apart good. good) (keeps.same_limit ∙ h.1 i was found),
+    );
+    counts = counts_kept faults i was now w found keeps.no_fewer;
+  }
+
+  pub servers_ready : (n m : ℕ) (w : WorldState D) (i : ℕ) (was now : ServerSeat D) → at_place w.servers i ≡ Some was → ((j : ℕ) (z : ServerSeat D) → IsReadySeat (Server j) n z → IsReadySeat (Server j) m z) → ReadyServers n w.servers → IsReadySeat (Server i) m now → ReadyServers m (put_place i now w.servers)
+  servers_ready n m w i was now found more ready here =
+      each_put (λ (j : ℕ) (z : ServerSeat D). IsReadySeat (Server j) n z) (λ (j : ℕ) (z : ServerSeat D). IsReadySeat (Server j) m z) i now was w.servers found ready (λ j z apart. more j z) here
+
+  -- another location database
+  pub database_keeps : (s : Script) (w : WorldState D) (now : DatabaseSeat D) → DiskKeeps seen faults limit (loc_seat_disk w.database) (loc_seat_disk now) → HostsKeep s w now w.servers
+  database_keeps s w now keeps = record {
+    count = refl;
+    tells = (λ h. (keeps.told.1 h.0, h.1), λ h. (keeps.told.0 h.0, h.1));
+    disks = λ h. (keeps.same_limit ∙ h.0, h.1);
+    counts = loc_counts_kept faults now w keeps.no_fewer;
+  }
+
+  -- ---- what is told of it
+
+  safe_step : (s : Script) (w : WorldState D) (d : DatabaseSeat D) (ss : List (ServerSeat D)) (node : Node) (front : List Line) (outs : Outs) → IsSafe limit s w → w.is_lost ≡ false → length w.history < most_entries → HostsKeep s w d ss → HostsReady (length w.history + 1) d ss
+      → IsSafe limit s (after_step w d ss node front outs)
+  safe_step s w d ss node front outs safe going place keep ready = record {
     script = safe.script;
     cell_script = safe.cell_script;
-    server_count = length_put i now w.servers ∙ safe.server_count;
+    server_count = keep.count ∙ safe.server_count;
     client_count = safe.client_count;
-    servers = λ still.
-        subst (λ (n : ℕ). ReadyServers n (put_place i now w.servers)) (sym (one_longer w.history (entry_of (Server i) (front ++ outs.lines) (length outs.parcels))))
-        (each_put (λ (j : ℕ) (z : ServerSeat D). IsReadySeat (Server j) (length w.history) z) (λ (j : ℕ) (z : ServerSeat D). IsReadySeat (Server j) (length w.history + 1) z) i now was w.servers found (safe.servers going)
-        (λ j z apart. ready_more j (length w.history) z) (goes (length w.history) (safe.servers going i was found)));
-    clients = λ still. clients_more s w.history (entry_of (Server i) (front ++ outs.lines) (length outs.parcels)) w.clients (safe.clients going);
-    disks = disks_put i s.capacity was now w.servers found keeps safe.disks;
+    database = λ still. subst (λ (n : ℕ). IsLocReadySeat n d) (sym (one_longer w.history (entry_of node (front ++ outs.lines) (length outs.parcels)))) ready.database;
+    servers = λ still. subst (λ (n : ℕ). ReadyServers n ss) (sym (one_longer w.history (entry_of node (front ++ outs.lines) (length outs.parcels)))) ready.servers;
+    clients = λ still. clients_more s w.history (entry_of node (front ++ outs.lines) (length outs.parcels)) w.clients (safe.clients going);
+    disks = keep.disks safe.disks;
     sent =
-        let more = sent_by-push w.history (entry_of (Server i) (front ++ outs.lines) (length outs.parcels)) in
+        let more = sent_by-push w.history (entry_of node (front ++ outs.lines) (length outs.parcels)) in
         let long = length-append w.wire outs.parcels in
         omega (arith, more, long, safe.sent);
     entries =
-        let more = one_longer w.history (entry_of (Server i) (front ++ outs.lines) (length outs.parcels)) in
+        let more = one_longer w.history (entry_of node (front ++ outs.lines) (length outs.parcels)) in
         omega (arith, more, place);
     ticks = safe.ticks;
   }
 
-  pub step_told : (s : Script) (is : Turn → Input → Type 0) (w : WorldState D) (i : ℕ) (was now : ServerSeat D) (front : List Line) (outs : Outs) → IsSafe limit s w → w.is_lost ≡ false → length w.history < most_entries
-      → at_place w.servers i ≡ Some was → SeatGoes (Server i) was now (happened.Step outs) → SeatKeeps seen faults limit was now
-      → (AllTell seen w.servers → (t : Turn) → IsAt seen may_leave limit w t.cell t.left → Linked seen may_leave faults limit (is t) t i was now front outs) → Stepped seen may_leave faults limit s is w (after_step w i now front outs) (Ok tt)
-  step_told s is w i was now front outs safe going place found goes keeps link = record {
-    steps = record {
-      count = one_longer w.history (entry_of (Server i) (front ++ outs.lines) (length outs.parcels));
-      going = going;
-      plays = λ tell t at. server_plays seen may_leave faults limit (is t) t w i was now front outs safe.sent found keeps.no_fewer at (link tell t at);
-    };
-    safe = safe_step s w i was now front outs safe going place found goes keeps;
-    tells = tells_put i was now w.servers found keeps;
-    counts = counts_kept faults i was now w.servers found keeps.no_fewer;
+  step_told : (s : Script) (is : Turn → Input → Type 0) (w : WorldState D) (d : DatabaseSeat D) (ss : List (ServerSeat D)) (node : Node) (front : List Line) (outs : Outs) → IsSafe limit s w → w.is_lost ≡ false → length w.history < most_entries → HostsKeep s w d ss → HostsReady (length w.history + 1) d ss
+      → (AllTell seen w → (t : Turn) → IsAt seen may_leave limit w t.cell t.left → Plays seen may_leave faults limit (is t) t w (after_step w d ss node front outs)) → Stepped seen may_leave faults limit s is w (after_step w d ss node front outs) (Ok tt)
+  step_told s is w d ss node front outs safe going place keep ready plays = record {
+    steps = record { count = one_longer w.history (entry_of node (front ++ outs.lines) (length outs.parcels)); going = going; plays = plays };
+    safe = safe_step s w d ss node front outs safe going place keep ready;
+    tells = keep.tells;
+    counts = keep.counts;
   }
 
-  -- ---- memory was wanting
-
-  abbrev put_server : WorldState D → ℕ → ServerSeat D → WorldState D
-  put_server w i now = record w { servers = put_place i now w.servers }
-
-  pub step_wants : (s : Script) (is : Turn → Input → Type 0) (w : WorldState D) (i : ℕ) (was now : ServerSeat D) → IsSafe limit s w → at_place w.servers i ≡ Some was
-      → ((entries : ℕ) → IsReadySeat (Server i) entries was → IsReadySeat (Server i) entries now) → SeatKeeps seen faults limit was now
-      → ((h : ServerHost) → IsHost seen may_leave limit (Server i) was h → IsHost seen may_leave limit (Server i) now h) → Stepped seen may_leave faults limit s is w (put_server w i now) (Err faulty.OutOfMemory)
-  step_wants s is w i was now safe found goes keeps same = record {
+  -- memory was wanting
+  step_wants : (s : Script) (is : Turn → Input → Type 0) (w : WorldState D) (d : DatabaseSeat D) (ss : List (ServerSeat D)) → IsSafe limit s w → w.is_lost ≡ false → HostsKeep s w d ss → HostsReady (length w.history) d ss
+      → ((c : Cell) → IsCell seen may_leave limit w c → IsCell seen may_leave limit (with_hosts w d ss) c) → Stepped seen may_leave faults limit s is w (with_hosts w d ss) (Err faulty.OutOfMemory)
+  step_wants s is w d ss safe going keep ready same = record {
     steps = (
       record { script = refl; history = refl; wire = refl; clock = refl },
-      inr (record {
-        lost_as = refl;
-        clients = refl;
-        at = λ c left at. record {
-          cell = record {
-            host_count = at.cell.host_count ∙ sym (length_put i now w.servers);
-            hosts =
-                each_put (λ (j : ℕ) (z : ServerSeat D). IsHost seen may_leave limit (Server j) z (c.hosts j)) (λ (j : ℕ) (z : ServerSeat D). IsHost seen may_leave limit (Server j) z (c.hosts j)) i now was w.servers found at.cell.hosts (λ j z apart h. h)
-                (same (c.hosts i) (at.cell.hosts i was found));
-            count = at.cell.count;
-            clients = at.cell.clients;
-            sent = at.cell.sent;
-            clock = at.cell.clock;
-          };
-          acts = at.acts;
-        };
-      }),
+      inr (record { lost_as = refl; clients = refl; at = λ c left at. record { cell = same c at.cell; acts = at.acts } }),
     );
     safe = record {
       script = safe.script;
       cell_script = safe.cell_script;
-      server_count = length_put i now w.servers ∙ safe.server_count;
+      server_count = keep.count ∙ safe.server_count;
       client_count = safe.client_count;
-      servers = λ going.
-          each_put (λ (j : ℕ) (z : ServerSeat D). IsReadySeat (Server j) (length w.history) z) (λ (j : ℕ) (z : ServerSeat D). IsReadySeat (Server j) (length w.history) z) i now was w.servers found (safe.servers going) (λ j z apart h. h)
-          (goes (length w.history) (safe.servers going i was found));
+      database = λ still. ready.database;
+      servers = λ still. ready.servers;
       clients = safe.clients;
-      disks = disks_put i s.capacity was now w.servers found keeps safe.disks;
+      disks = keep.disks safe.disks;
       sent = safe.sent;
       entries = safe.entries;
       ticks = safe.ticks;
     };
-    tells = tells_put i was now w.servers found keeps;
-    counts = counts_kept faults i was now w.servers found keeps.no_fewer;
+    tells = keep.tells;
+    counts = keep.counts;
   }
 
-  abbrev put_lost : WorldState D → ℕ → ServerSeat D → WorldState D
-  put_lost w i now = record w { servers = put_place i now w.servers; is_lost = true }
+  abbrev lost_with : WorldState D → DatabaseSeat D → List (ServerSeat D) → WorldState D
+  lost_with w d ss = record w { database = d; servers = ss; is_lost = true }
 
   true_false : true ≡ false → ⊥
   true_false e = absurd cc
 
-  pub step_loses : (s : Script) (is : Turn → Input → Type 0) (w : WorldState D) (i : ℕ) (was now : ServerSeat D) → IsSafe limit s w → at_place w.servers i ≡ Some was → SeatKeeps seen faults limit was now
-      → Stepped seen may_leave faults limit s is w (put_lost w i now) (Err faulty.OutOfMemory)
-  step_loses s is w i was now safe found keeps = record {
+  step_loses : (s : Script) (is : Turn → Input → Type 0) (w : WorldState D) (d : DatabaseSeat D) (ss : List (ServerSeat D)) → IsSafe limit s w → HostsKeep s w d ss → Stepped seen may_leave faults limit s is w (lost_with w d ss) (Err faulty.OutOfMemory)
+  step_loses s is w d ss safe keep = record {
     steps = (record { script = refl; history = refl; wire = refl; clock = refl }, inl refl);
     safe = record {
       script = safe.script;
       cell_script = safe.cell_script;
-      server_count = length_put i now w.servers ∙ safe.server_count;
+      server_count = keep.count ∙ safe.server_count;
       client_count = safe.client_count;
+      database = λ going. absurd (true_false going);
       servers = λ going. absurd (true_false going);
       clients = λ going. absurd (true_false going);
-      disks = disks_put i s.capacity was now w.servers found keeps safe.disks;
+      disks = keep.disks safe.disks;
       sent = safe.sent;
       entries = safe.entries;
       ticks = safe.ticks;
     };
-    tells = tells_put i was now w.servers found keeps;
-    counts = counts_kept faults i was now w.servers found keeps.no_fewer;
+    tells = keep.tells;
+    counts = keep.counts;
   }
+
+  -- ---- what happened at a node
+
+  -- Nothing came of the input, and the nodes are what they were; or a step was told; or memory was wanting, and they stand for what
+  -- they stood for, or the cell is lost.
+  abbrev pub Leaves : Script → (Turn → Input → Type 0) → WorldState D → DatabaseSeat D → List (ServerSeat D) → Node → List Line → Happened → Type 0
+  Leaves s is w d ss node front happened.Nothing = (with_hosts w d ss ≡ w) × (AllTell seen w → (t : Turn) → IsAt seen may_leave limit w t.cell t.left → Voided (is t) t)
+  Leaves s is w d ss node front (happened.Step outs) =
+      HostsKeep s w d ss × (HostsReady (length w.history + 1) d ss × (AllTell seen w → (t : Turn) → IsAt seen may_leave limit w t.cell t.left → Plays seen may_leave faults limit (is t) t w (after_step w d ss node front outs)))
+  Leaves s is w d ss node front happened.Unchanged = HostsKeep s w d ss × (HostsReady (length w.history) d ss × ((c : Cell) → IsCell seen may_leave limit w c → IsCell seen may_leave limit (with_hosts w d ss) c))
+  Leaves s is w d ss node front happened.Lost = HostsKeep s w d ss
+
+  module _ (s : Script) (is : Turn → Input → Type 0) (w : WorldState D) (safe : IsSafe limit s w) (going : w.is_lost ≡ false) (place : length w.history < most_entries) (new : WorldState D) where
+    -- this is the world, where memory was wanting
+    wants_as : (e : WorldFault) (v : WorldState D) → e ≡ faulty.OutOfMemory → new ≡ v → Stepped seen may_leave faults limit s is w v (Err faulty.OutOfMemory) → Stepped seen may_leave faults limit s is w new (Err e)
+    wants_as e v fault same stepped =
+        subst (λ (f : WorldFault). Stepped seen may_leave faults limit s is w new (Err f)) (sym fault) (subst (λ (u : WorldState D). Stepped seen may_leave faults limit s is w u (Err faulty.OutOfMemory)) (sym same) stepped)
+
+    pub node_settles : (d : DatabaseSeat D) (ss : List (ServerSeat D)) (node : Node) (front : Option Line) (what : Happened) (result : Result (Unit {0}) WorldFault) → Leaves s is w d ss node (front_lines front) what → Settles node front what (with_hosts w d ss) new result
+        → Stepped seen may_leave faults limit s is w new result
+    node_settles d ss node front happened.Nothing (Ok done) leaves settles =
+        subst (λ (v : WorldState D). Stepped seen may_leave faults limit s is w v (Ok done)) (sym (settles ∙ ap (λ (v : WorldState D). record v { history = v.history ++ void_entry ∷ [] }) leaves.0))
+        (nothing_happens s is w safe going place leaves.1)
+    node_settles d ss node front happened.Nothing (Err e) leaves settles = wants_as e w settles.0 (settles.1 ∙ leaves.0) (nothing_changes s is w safe)
+    node_settles d ss node front (happened.Step outs) (Ok done) leaves settles =
+        subst (λ (v : WorldState D). Stepped seen may_leave faults limit s is w v (Ok done)) (sym settles) (step_told s is w d ss node (front_lines front) outs safe going place leaves.0 leaves.1.0 leaves.1.1)
+    node_settles d ss node front (happened.Step outs) (Err e) leaves settles = wants_as e (lost_with w d ss) settles.0 settles.1 (step_loses s is w d ss safe leaves.0)
+    node_settles d ss node front happened.Unchanged (Ok done) leaves settles = absurd settles
+    node_settles d ss node front happened.Unchanged (Err e) leaves settles = wants_as e (with_hosts w d ss) settles.0 settles.1 (step_wants s is w d ss safe going leaves.0 leaves.1.0 leaves.1.1)
+    node_settles d ss node front happened.Lost (Ok done) leaves settles = absurd settles
+    node_settles d ss node front happened.Lost (Err e) leaves settles = wants_as e (lost_with w d ss) settles.0 settles.1 (step_loses s is w d ss safe leaves)

@@ -15,24 +15,27 @@ use Rattle.afs_history.specs.declared.scripts.Event.TheVariants as events
 use Rattle.afs_wire.specs.Sent as wire
 use Rattle.afs_wire.specs.Sent.{Sent}
 use Rattle.afs_schedule.specs.Schedules.{IsInput, Turn}
-use Rattle.afs_clients.specs.Happening.{ClientHears, ClientsHappened, ClientTakes, IsAsked, IsGiven, IsVoidClient}
+use Rattle.afs_clients.specs.Happening.{ClientHears, ClientsHappened, ClientTakes, IsAsked, IsGiven, IsGivenToLoc, IsVoidClient}
 use Rattle.afs_cell.specs.Happening.{NothingSettles, Settles}
 use Rattle.afs_cell.specs.SeatSteps.{HasHeard, HasStep, IsFallen, IsVoidServer, ServersHappened}
 use Rattle.afs_cell.specs.Noting.{Notes}
 use Rattle.afs_clients.specs.Ready.{AllReady}
-use Rattle.afs_cell.specs.Ready.{AllCanStep}
+use Rattle.afs_cell.specs.DatabaseSteps.{HasLocHeard, HasLocStep, IsLocFallen, IsVoidAtLoc, LocTakes}
+use Rattle.afs_cell.specs.Ready.{AllCanStep, CanTakeAtLoc}
 use Rattle.afs_clients.specs.Meaning.{IsMeant}
 use Rattle.afs_cell.specs.Since.{whole, DeliversKept, IsBefore, IsSafeSince, Keeps, LetsGo, SteppedSince}
+use Rattle.afs_host.specs.LocSeated.{DatabaseSeat}
 use Rattle.afs_host.specs.Seated.{ServerSeat}
 use Rattle.afs_cell.specs.Worlds.{most_entries, most_ticks, HistoryTold, LetGo, WorldState}
 use Rattle.afs_clients.specs.declared.clients.ClientSeat.{ClientSeat}
 use Rattle.afs_clients.specs.declared.events.Given.TheVariants as given
 use Rattle.afs_cell.specs.declared.faults.WorldFault.{WorldFault}
 use Rattle.afs_clients.specs.declared.happening.ClientInput.{ClientInput}
+use Rattle.afs_clients.specs.declared.happening.DatabaseInput.{DatabaseInput}
 use Rattle.afs_clients.specs.declared.happening.Happened.{Happened}
 use Rattle.afs_clients.specs.declared.happening.Happened.TheVariants as happened
 use Rattle.afs_clients.specs.declared.happening.ServerInput.{ServerInput}
-use Rattle.afs_cell.proofs.Parts.{admin_heard, asked, can_all, inside_clients, loc_heard, message_heard, message_served, nobody_heard, ready_all, served}
+use Rattle.afs_cell.proofs.Parts.{admin_heard, asked, can_all, can_manage, inside_clients, managed, message_heard, message_managed, message_served, nobody_heard, ready_all, served}
 use Rattle.afs_cell.proofs.Meant.{as_nothing}
 use Rattle.afs_cell.proofs.Ticked.{not_ticked, ticked}
 use Rattle.afs_cell.proofs.Whole.{at_behind, few_whole, nothing_whole, notes_whole, settles_whole}
@@ -84,6 +87,9 @@ keeps_parts {D} node front what w now script gone wire new result settled =
 pub keeps_served : {D : Type 0} (parts w new : WorldState D) (servers : List (ServerSeat D)) (node : Node) (front : Option Line) (what : Happened) (result : Result (Unit {0}) WorldFault) → parts ≡ w → Settles node front what (record parts { servers = servers }) new result → Keeps w new
 keeps_served {D} parts w new servers node front what result same settled = keeps_as parts w new same (keeps_parts node front what parts (record parts { servers = servers }) refl refl refl new result settled)
 
+pub keeps_managed : {D : Type 0} (parts w new : WorldState D) (database : DatabaseSeat D) (node : Node) (front : Option Line) (what : Happened) (result : Result (Unit {0}) WorldFault) → parts ≡ w → Settles node front what (record parts { database = database }) new result → Keeps w new
+keeps_managed {D} parts w new database node front what result same settled = keeps_as parts w new same (keeps_parts node front what parts (record parts { database = database }) refl refl refl new result settled)
+
 pub keeps_heard : {D : Type 0} (parts w new : WorldState D) (clients : List ClientSeat) (node : Node) (front : Option Line) (what : Happened) (result : Result (Unit {0}) WorldFault) → parts ≡ w → Settles node front what (record parts { clients = clients }) new result → Keeps w new
 keeps_heard {D} parts w new clients node front what result same settled = keeps_as parts w new same (keeps_parts node front what parts (record parts { clients = clients }) refl refl refl new result settled)
 
@@ -95,6 +101,9 @@ module _ {D : Type 0} (limit : D → ℕ) (parts w : WorldState D) (same : parts
 
   pub can_since : w.is_lost ≡ false → w.gone.entries + length w.history < most_entries → AllCanStep limit parts.servers
   can_since going few = can_all limit (whole safe.before parts) (whole safe.before w) (ap (whole safe.before) same) safe.safe going (few_whole safe.before w safe.is few)
+
+  pub can_manage_since : w.is_lost ≡ false → w.gone.entries + length w.history < most_entries → CanTakeAtLoc limit parts.database
+  can_manage_since going few = can_manage limit (whole safe.before parts) (whole safe.before w) (ap (whole safe.before) same) safe.safe going (few_whole safe.before w safe.is few)
 
   pub ready_since : w.is_lost ≡ false → w.gone.entries + length w.history < most_entries → AllReady parts.script parts.clients
   ready_since going few = ready_all limit (whole safe.before parts) (whole safe.before w) (ap (whole safe.before) same) safe.safe going (few_whole safe.before w safe.is few)
@@ -115,8 +124,15 @@ module _ {D : Type 0} (seen : D → Option (List ℕ)) (may_leave : D → List �
       served seen may_leave faults limit (whole b parts) (whole b w) (ap (whole b) same) safe going (few_whole b w before few) (whole b new) result i input servers what happened
       (settles_whole b (Server i) None what (record parts { servers = servers }) new result settled)
 
+  pub managed_since : (input : DatabaseInput) (database : DatabaseSeat D) (what : Happened)
+      → ((clock count : ℕ) → LocTakes seen may_leave faults limit [] (IsVoidAtLoc input) (HasLocStep clock count input) parts.database database what) → Settles Loc None what (record parts { database = database }) new result
+      → SteppedSince seen may_leave faults limit (λ (t : Turn). IsGivenToLoc input t) w new result
+  managed_since input database what takes settled b before safe =
+      managed seen may_leave faults limit (whole b parts) (whole b w) (ap (whole b) same) safe going (few_whole b w before few) (whole b new) result input database what takes
+      (settles_whole b Loc None what (record parts { database = database }) new result settled)
+
   pub asked_since : (n : ℕ) (input : ClientInput) (clients : List ClientSeat) (what : Happened) → (at_place parts.clients n ≡ None → ⊥)
-      → ClientsHappened parts.script n (IsVoidClient input) (ClientTakes n parts.clock input) parts.clients clients what → Settles (Client n) None what (record parts { clients = clients }) new result
+      → ClientsHappened parts.script n (IsVoidClient input) (ClientTakes parts.script n parts.clock input) parts.clients clients what → Settles (Client n) None what (record parts { clients = clients }) new result
       → SteppedSince seen may_leave faults limit (IsAsked input n) w new result
   asked_since n input clients what inside happened settled b before safe =
       asked seen may_leave faults limit (whole b parts) (whole b w) (ap (whole b) same) safe going (few_whole b w before few) (whole b new) result n input clients what inside happened
@@ -130,6 +146,14 @@ module _ {D : Type 0} (seen : D → Option (List ℕ)) (may_leave : D → List �
       message_served seen may_leave faults limit (whole b parts) (whole b w) (ap (whole b) same) safe going (few_whole b w before few) (whole b new) result place p i bytes servers what
       (found_whole b parts w same place (Some p) before kept found) to spelled happened (settles_whole b (Server i) (Some (lines.Given place)) what (record parts { servers = servers }) new result settled)
 
+  pub message_managed_since : (place : ℕ) (p : Parcel) (bytes : List ℕ) (database : DatabaseSeat D) (what : Happened) → w.gone.messages < place → Some p ≡ at_place parts.wire (place - parts.gone.messages) → p.head.to ≡ Loc → bytes ≡ p.bytes
+      → ((clock : ℕ) → LocTakes seen may_leave faults limit (lines.Given place ∷ []) IsLocFallen (HasLocHeard clock place bytes) parts.database database what)
+      → Settles Loc (Some (lines.Given place)) what (record parts { database = database }) new result
+      → SteppedSince seen may_leave faults limit (λ (t : Turn). IsInput t (events.Deliver place)) w new result
+  message_managed_since place p bytes database what kept found to spelled takes settled b before safe =
+      message_managed seen may_leave faults limit (whole b parts) (whole b w) (ap (whole b) same) safe going (few_whole b w before few) (whole b new) result place p bytes database what
+      (found_whole b parts w same place (Some p) before kept found) to spelled takes (settles_whole b Loc (Some (lines.Given place)) what (record parts { database = database }) new result settled)
+
   pub message_heard_since : (place : ℕ) (p : Parcel) (n : ℕ) (bytes : List ℕ) (clients : List ClientSeat) (what : Happened) → w.gone.messages < place → Some p ≡ at_place parts.wire (place - parts.gone.messages) → p.head.to ≡ Client n → bytes ≡ p.bytes
       → ClientsHappened parts.script n (λ (seat : ClientSeat). seat.is_away ≡ true) (ClientHears n parts.clock place bytes) parts.clients clients what
       → Settles (Client n) (Some (lines.Given place)) what (record parts { clients = clients }) new result
@@ -141,10 +165,6 @@ module _ {D : Type 0} (seen : D → Option (List ℕ)) (may_leave : D → List �
   pub nobody_since : (place : ℕ) → w.gone.messages < place → None ≡ at_place parts.wire (place - parts.gone.messages) → NothingSettles w new result → SteppedSince seen may_leave faults limit (λ (t : Turn). IsInput t (events.Deliver place)) w new result
   nobody_since place kept none settled b before safe =
       nobody_heard seen may_leave faults limit (whole b parts) (whole b w) (ap (whole b) same) safe going (few_whole b w before few) (whole b new) result place (found_whole b parts w same place None before kept none) (nothing_whole b w new result settled)
-
-  pub loc_since : (place : ℕ) (p : Parcel) → w.gone.messages < place → Some p ≡ at_place parts.wire (place - parts.gone.messages) → p.head.to ≡ Loc → NothingSettles w new result → SteppedSince seen may_leave faults limit (λ (t : Turn). IsInput t (events.Deliver place)) w new result
-  loc_since place p kept found to settled b before safe =
-      loc_heard seen may_leave faults limit (whole b parts) (whole b w) (ap (whole b) same) safe going (few_whole b w before few) (whole b new) result place p (found_whole b parts w same place (Some p) before kept found) to (nothing_whole b w new result settled)
 
   pub admin_since : (place : ℕ) (p : Parcel) (k : ℕ) → w.gone.messages < place → Some p ≡ at_place parts.wire (place - parts.gone.messages) → p.head.to ≡ Admin k → NothingSettles w new result → SteppedSince seen may_leave faults limit (λ (t : Turn). IsInput t (events.Deliver place)) w new result
   admin_since place p k kept found to settled b before safe =

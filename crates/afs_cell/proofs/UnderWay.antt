@@ -43,12 +43,12 @@ stays_full {D} seen may_leave limit old new fault is stays = subst (λ (f : Worl
 module _ {D : Type 0} (seen : D → Option (List ℕ)) (may_leave : D → List ℕ → Type 0) (faults limit : D → ℕ) (s : Script) where
   -- ---- the beginning
 
-  pub runs_none : (w : WorldState D) → IsFirst seen may_leave limit s w → AllTell seen w.servers → Runs seen may_leave faults limit s w [] (start s)
+  pub runs_none : (w : WorldState D) → IsFirst seen may_leave limit s w → AllTell seen w → Runs seen may_leave faults limit s w [] (start s)
   runs_none w first tell = record {
     leads = subst (λ (ps : List Parcel). Leads (start s) [] (told ps w.history) (start s)) (sym first.wire) (subst (λ (es : List kept.Entry). Leads (start s) [] (told [] es) (start s)) (sym first.history) refl);
     read = subst (λ (ps : List Parcel). AreRead ps) (sym first.wire) refl;
     cell_is = λ going. first.cell tell;
-    counts = λ n seat found. inl (omega arith);
+    counts = (inl (omega arith), λ n seat found. inl (omega arith));
   }
 
   pub begins : (w : WorldState D) (schedule : Schedule) → IsWorld seen may_leave faults limit s w → IsFirst seen may_leave limit s w → IsLeft schedule (events_of s) [] → IsUnderWay seen may_leave faults limit s w schedule
@@ -104,7 +104,7 @@ module _ {D : Type 0} (seen : D → Option (List ℕ)) (may_leave : D → List �
   is_no_drain w old new event way takes = (next_of w old new event way (takes_one w old new event way takes)).one
 
   -- one more was played
-  comes : (w new : WorldState D) (event : Event) (es behind : List Event) (named : List ℕ) → next_event (lowest (length w.wire) 1 named) es ≡ Some (event, behind) → AllTell seen w.servers
+  comes : (w new : WorldState D) (event : Event) (es behind : List Event) (named : List ℕ) → next_event (lowest (length w.wire) 1 named) es ≡ Some (event, behind) → AllTell seen w
       → PlaysOne seen may_leave faults limit (λ (t : Turn). IsInput t event) w new → HasCome seen may_leave faults limit s w es named → HasCome seen may_leave faults limit s new behind (named_by event named)
   comes w new event es behind named next tell one come =
       let p = one.plays tell come.turn come.at in
@@ -118,7 +118,7 @@ module _ {D : Type 0} (seen : D → Option (List ℕ)) (may_leave : D → List �
       }
 
   pub goes_on : (w new : WorldState D) (old left : Schedule) (event : Event) → IsUnderWay seen may_leave faults limit s w old → Takes (length w.wire) old left (Some event) → IsWorld seen may_leave faults limit s new
-      → PlaysOne seen may_leave faults limit (λ (t : Turn). IsInput t event) w new → (AllTell seen new.servers → AllTell seen w.servers) → new.clock ≤ w.clock + ticks_of event → IsUnderWay seen may_leave faults limit s new left
+      → PlaysOne seen may_leave faults limit (λ (t : Turn). IsInput t event) w new → (AllTell seen new → AllTell seen w) → new.clock ≤ w.clock + ticks_of event → IsUnderWay seen may_leave faults limit s new left
   goes_on w new old left event way takes world one tells clock =
       let taken = takes_one w old left event way takes in
       let next = next_of w old left event way taken in
@@ -185,7 +185,7 @@ module _ {D : Type 0} (seen : D → Option (List ℕ)) (may_leave : D → List �
   some_played xs t es (Some x) e far = inr (first_played s xs t es far (none_or (next_event (waiting t) es) x e))
 
   pub ends_some : (w new : WorldState D) (old left : Schedule) → IsUnderWay seen may_leave faults limit s w old → IsWorld seen may_leave faults limit s new → Stays seen may_leave limit w new faulty.OutOfMemory
-      → (AllTell seen new.servers → AllTell seen w.servers) → ((own : ℕ → ℕ) → Counts faults own w.servers → Counts faults own new.servers) → GoesSo seen may_leave faults limit s w new left played.OutOfMemory
+      → (AllTell seen new → AllTell seen w) → ((own : ℕ → ℕ) → Counts faults own w → Counts faults own new) → GoesSo seen may_leave faults limit s w new left played.OutOfMemory
   ends_some w new old left way world stays tells counts = (
     (world, stays.0),
     λ tell.

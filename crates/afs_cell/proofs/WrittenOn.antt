@@ -85,7 +85,7 @@ none_written wire ps es a f none = subst (λ (xs : List kept.Entry). Puts {T = U
 
 module _ {D : Type 0} (seen : D → Option (List ℕ)) (may_leave : D → List ℕ → Type 0) (faults limit : D → ℕ) (wire : Bool) where
   pub begins_on : (w : WorldState D) (schedule : Schedule) (a : Option (List ℕ)) (f : ℕ) → IsWorld seen may_leave faults limit w.script w → IsFirst seen may_leave limit w.script w → IsLeft schedule (events_of w.script) []
-      → PlaysOn seen may_leave faults limit w.script wire (AllTell seen w.servers) a a f f w schedule (Ok tt)
+      → PlaysOn seen may_leave faults limit w.script wire (AllTell seen w) a a f f w schedule (Ok tt)
   begins_on w schedule a f world first left =
       let same = whole_none w first.gone in
       record {
@@ -105,7 +105,7 @@ module _ {D : Type 0} (seen : D → Option (List ℕ)) (may_leave : D → List �
     pub way_since : IsUnderWaySince seen may_leave faults limit w schedule
     way_since = record { before = p.gone; is = p.is; way = p.way }
 
-    module _ (new : WorldState D) (after : Schedule) (k : Keeps w new) (tell : AllTell seen w.servers → AllTell seen new.servers) where
+    module _ (new : WorldState D) (after : Schedule) (k : Keeps w new) (tell : AllTell seen w → AllTell seen new) where
       is_new : IsBefore p.gone new
       is_new = before_kept p.gone w new p.is k
 
@@ -139,7 +139,7 @@ module _ {D : Type 0} (seen : D → Option (List ℕ)) (may_leave : D → List �
                   (subst (λ (v : WorldState D). IsUnderWay seen may_leave faults limit w.script v after) (sym same) went.0);
               none = ap (λ (v : WorldState D). v.history) go.is;
               kept = kept_now go.none_behind;
-              tell = λ t. subst (λ (v : WorldState D). AllTell seen v.servers) (sym go.is) (tell (p.tell t));
+              tell = λ t. subst (λ (v : WorldState D). AllTell seen v) (sym go.is) (tell (p.tell t));
               text =
                   subst (λ (v : WorldState D). Puts (world_text wire v) a c f h later) (sym same)
                   (subst (λ (x : List ℕ). Puts x a c f h later) (text_goes_on wire p.gone w new p.is p.way.world.safe.sent p.none k) (puts (world_text wire (whole p.gone w)) a f p.text));

@@ -1,4 +1,4 @@
--- The servers of a cell at set-up, and the disks that a refused set-up hands back.
+-- The location database and the servers of a cell at set-up, and the disks that a refused set-up hands back.
 use Rattle.std.specs.Prelude.{◌≡◌, ◌≤◌, ◌+◌, ℕ, List, [], ◌∷◌, false, None, Option}
 use Rattle.afs_num.specs.declared.types.Node.TheVariants.{Server}
 use Rattle.afs_history.specs.declared.scripts.Script.{Script}
@@ -8,9 +8,14 @@ use Rattle.afs_disk.specs.declared.disks.Lent.{Lent}
 use Rattle.afs_rows.specs.Runs.{first_host, first_lasting, first_stored, volumes_at}
 use Rattle.afs_rows.specs.States.{durable_of}
 use Rattle.afs_volstore.specs.Stores.{IsKept, Store}
+use Rattle.afs_locstore.specs.LocFold.{loc_fold}
+use Rattle.afs_store.specs.Stores as kept
+use Rattle.afs_host.specs.LocSeated.{DatabaseSeat}
+use Rattle.afs_host.specs.LocSeats.{loc_disk_of, DatabaseRunning}
 use Rattle.afs_host.specs.Seats.{disk_of, IsUp, ServerRunning}
 use Rattle.afs_host.specs.declared.seats.Seat.TheVariants.{Down, Up}
 use Rattle.afs_cell.specs.Ends.{IsLeftAt}
+use Rattle.afs_cell.specs.Founding.{IsFirstDatabase}
 use Rattle.afs_host.specs.Seated.{IsReady, ServerSeat}
 use Rattle.afs_cell.specs.declared.faults.SetupFault.{SetupFault}
 use Rattle.afs_cell.specs.declared.faults.SetupFault.TheVariants as setup
@@ -62,7 +67,12 @@ AreFirstSeats {D} seen may_leave faults limit s i ls [] rest = ls ≡ rest
 AreFirstSeats {D} seen may_leave faults limit s i [] (seat ∷ seats) rest = ⊥
 AreFirstSeats {D} seen may_leave faults limit s i (l ∷ ls) (seat ∷ seats) rest = IsFirstSeat seen may_leave faults limit s i l.disk seat × AreFirstSeats seen may_leave faults limit s (i + 1) ls seats rest
 
--- each disk is handed back, in order of number from this one on
+-- these are the database and the seats of the servers over these disks, of which the first is the database's
+abbrev pub AreFirstHosts : {D : Type 0} → (D → Option (List ℕ)) → (D → List ℕ → Type 0) → (D → ℕ) → (D → ℕ) → Script → List (Lent D) → DatabaseRunning D → List (ServerSeat D) → Type 0
+AreFirstHosts {D} seen may_leave faults limit s [] database seats = ⊥
+AreFirstHosts {D} seen may_leave faults limit s (l ∷ ls) database seats = IsFirstDatabase seen may_leave faults limit s l.disk database × AreFirstSeats seen may_leave faults limit s 1 ls seats []
+
+-- each server's disk is handed back, in order of number from this one on
 abbrev pub AreBack : {D : Type 0} → (D → Option (List ℕ)) → (D → List ℕ → Type 0) → (D → ℕ) → (D → ℕ) → Script → ℕ → List (Lent D) → List (Lent D) → Type 0
 AreBack {D} seen may_leave faults limit s i [] [] = Unit {0}
 AreBack {D} seen may_leave faults limit s i (a ∷ olds) (b ∷ news) = (b.node ≡ a.node) × (IsBack seen may_leave faults limit s i a.disk b.disk × AreBack seen may_leave faults limit s (i + 1) olds news)
@@ -78,3 +88,8 @@ IsKeptSeat {D} seen may_leave limit (Down r) = Unit {0}
 abbrev pub AreKeptSeats : {D : Type 0} → (D → Option (List ℕ)) → (D → List ℕ → Type 0) → (D → ℕ) → List (ServerSeat D) → Type 0
 AreKeptSeats {D} seen may_leave limit [] = Unit {0}
 AreKeptSeats {D} seen may_leave limit (s ∷ ss) = IsKeptSeat seen may_leave limit s × AreKeptSeats seen may_leave limit ss
+
+-- so it is of the location database
+abbrev pub IsLocKeptSeat : {D : Type 0} → (D → Option (List ℕ)) → (D → List ℕ → Type 0) → (D → ℕ) → DatabaseSeat D → Type 0
+IsLocKeptSeat {D} seen may_leave limit (Up r) = (r.store.store.closed ≡ false → kept.IsKept loc_fold r.store.store.durable (seen (loc_disk_of r)) (may_leave (loc_disk_of r))) × (r.store.store.durable.capacity ≡ limit (loc_disk_of r))
+IsLocKeptSeat {D} seen may_leave limit (Down s) = Unit {0}

@@ -1,10 +1,12 @@
--- The disks of a cell's servers, as they are lent and go back.
+-- The disks of a cell's nodes, as they are lent and go back.
 use Rattle.std.specs.Prelude.{◌≡◌, ◌+◌, ℕ, List, [], ◌∷◌, Option, IsSome}
 use Rattle.afs_disk.specs.declared.disks.Lent.{Lent}
 use Rattle.afs_clients.specs.Places.{Each}
+use Rattle.afs_host.specs.LocSeated.{loc_seat_disk}
 use Rattle.afs_host.specs.Seated.{seat_disk, ServerSeat}
+use Rattle.afs_cell.specs.Worlds.{WorldState}
 
--- the disks of these servers, in order of number from this one on, each for so many bytes
+-- the disks of these nodes, in order of number from this one on, each for so many bytes; number 0 is the location database
 abbrev pub AreLent : {D : Type 0} → (D → ℕ) → ℕ → ℕ → List (Lent D) → Type 0
 AreLent {D} limit capacity i [] = Unit {0}
 AreLent {D} limit capacity i (l ∷ ls) = (l.node ≡ i) × ((limit l.disk ≡ capacity) × AreLent limit capacity (i + 1) ls)
@@ -16,3 +18,7 @@ LentTell {D} seen lent = Each (λ (i : ℕ) (l : Lent D). IsSome (seen l.disk)) 
 abbrev pub lent_from : {D : Type 0} → ℕ → List (ServerSeat D) → List (Lent D)
 lent_from {D} i [] = []
 lent_from {D} i (s ∷ ss) = record { node = i; disk = seat_disk s } ∷ lent_from (i + 1) ss
+
+-- those of a world: the location database's, and then the servers'
+abbrev pub disks_of : {D : Type 0} → WorldState D → List (Lent D)
+disks_of {D} w = record { node = 0; disk = loc_seat_disk w.database } ∷ lent_from 1 w.servers

@@ -2,8 +2,11 @@ pub mod SeatSteps
 pub mod Hearing
 pub mod SeatPicks
 pub mod Ready
+pub mod DatabaseHearing
+pub mod DatabaseSteps
 pub mod Ends
 pub mod FirstSeats
+pub mod Founding
 pub mod Lends
 pub mod Readable
 pub mod Refusing

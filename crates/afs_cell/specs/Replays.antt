@@ -12,6 +12,7 @@ use Rattle.afs_law.specs.Laws.{EndsWell}
 use Rattle.afs_law.specs.Legal.{Legal}
 use Rattle.afs_outside.specs.Outside.{AppendsFront}
 use Rattle.afs_records.specs.Durable.{Durable}
+use Rattle.afs_records.specs.LocDurable.{LocDurable}
 use Rattle.afs_volstore.specs.Stands.{Stands}
 use Rattle.afs_rows.specs.Runs.{start, Cell, Entry, Input, Leads}
 use Rattle.afs_text.specs.FinalText.{final_text}
@@ -19,8 +20,8 @@ use Rattle.afs_text.specs.HistoryText.{history_text, text}
 use Rattle.afs_text.specs.KeptText.{kept_history_text}
 use Rattle.afs_text.specs.Telling.{sent_by}
 use Rattle.afs_schedule.specs.Schedules.{events_of, first_turn, AreFirst, AreInputs}
-use Rattle.afs_cell.specs.Ends.{AreLeft, OneRoseAtMost}
-use Rattle.afs_cell.specs.Steps.{MayBeRead}
+use Rattle.afs_cell.specs.Ends.{AreAllLeft, OneRoseAtMost}
+use Rattle.afs_cell.specs.Steps.{LocStands, MayBeRead, MayBeReadAtLoc}
 use Rattle.afs_cell.specs.Worlds.{most_entries, own_falls}
 use Rattle.afs_lending.specs.Lending.{lends, AreLent, AreUnused, GivesBackBut}
 use Rattle.afs_command.specs.Spans.{IsUnchanged, RoseBy, Span}
@@ -47,6 +48,15 @@ abbrev pub AreKept : ℕ → List Durable → List (ℕ × List ℕ) → Type 0
 AreKept i [] disks = disks ≡ []
 AreKept i (d ∷ ds) disks = FirstIsKept i d disks (λ rest. AreKept (i + 1) ds rest) ⊎ AreKept (i + 1) ds disks
 
+-- the first of these disks is that of the location database and stands for this, and of the others this is so
+abbrev pub LocIsKept : LocDurable → List (ℕ × List ℕ) → (List (ℕ × List ℕ) → Type 0) → Type 0
+LocIsKept d [] rest = ⊥
+LocIsKept d (disk ∷ disks) rest = ((disk.0 ≡ 0) × LocStands disk.1 d) × rest disks
+
+-- So it is of all disks: the location database's comes first. It may be missing, too.
+abbrev pub AreAllKept : LocDurable → List Durable → List (ℕ × List ℕ) → Type 0
+AreAllKept loc ds disks = LocIsKept loc disks (λ rest. AreKept 1 ds rest) ⊎ AreKept 1 ds disks
+
 -- of so many disks these are there, and as many are missing as may be
 abbrev pub AreAllBut : (ℕ → Type 0) → ℕ → List (ℕ × List ℕ) → Type 0
 AreAllBut MayBeMissing count disks = (missing : ℕ) × ((length disks + missing ≡ count) × MayBeMissing missing)
@@ -59,28 +69,28 @@ abbrev pub MissedByTheBank : Outside → ℕ → Type 0
 MissedByTheBank o missing = SoManyFailed missing o.bank_faults
 
 -- those are the disks that the bank was given back, where it tells them
-abbrev pub GivesBack : (ℕ → Type 0) → List Durable → Option (List (ℕ × List ℕ)) → Option (List (ℕ × List ℕ)) → Type 0
-GivesBack MayBeMissing kept None after = Unit {0}
-GivesBack MayBeMissing kept (Some before) after = (disks : List (ℕ × List ℕ)) × ((after ≡ Some (before ++ disks)) × (AreKept 1 kept disks × AreAllBut MayBeMissing (length kept) disks))
+abbrev pub GivesBack : (ℕ → Type 0) → LocDurable → List Durable → Option (List (ℕ × List ℕ)) → Option (List (ℕ × List ℕ)) → Type 0
+GivesBack MayBeMissing loc kept None after = Unit {0}
+GivesBack MayBeMissing loc kept (Some before) after = (disks : List (ℕ × List ℕ)) × ((after ≡ Some (before ++ disks)) × (AreAllKept loc kept disks × AreAllBut MayBeMissing (length kept + 1) disks))
 
--- the first of these disks is that of this server, whatever it holds, and of the others this is so
+-- the first of these disks is that of this node, whatever it holds, and of the others this is so
 abbrev pub FirstIsOf : ℕ → List (ℕ × List ℕ) → (List (ℕ × List ℕ) → Type 0) → Type 0
 FirstIsOf i [] rest = ⊥
 FirstIsOf i (disk ∷ disks) rest = (disk.0 ≡ i) × rest disks
 
--- These are disks of so many servers, in order of number from this one on, whatever they hold. Some may be missing.
+-- These are disks of so many nodes, in order of number from this one on, whatever they hold. Some may be missing.
 abbrev pub AreOf : ℕ → ℕ → List (ℕ × List ℕ) → Type 0
 AreOf i zero disks = disks ≡ []
 AreOf i (suc more) disks = FirstIsOf i disks (λ rest. AreOf (i + 1) more rest) ⊎ AreOf (i + 1) more disks
 
--- those are the disks that the bank was given back, where it tells them
+-- those of so many nodes, from the location database on, are the disks that the bank was given back, where it tells them
 abbrev pub GivesBackThose : (ℕ → Type 0) → ℕ → Option (List (ℕ × List ℕ)) → Option (List (ℕ × List ℕ)) → Type 0
 GivesBackThose MayBeMissing count None after = Unit {0}
-GivesBackThose MayBeMissing count (Some before) after = (disks : List (ℕ × List ℕ)) × ((after ≡ Some (before ++ disks)) × (AreOf 1 count disks × AreAllBut MayBeMissing count disks))
+GivesBackThose MayBeMissing count (Some before) after = (disks : List (ℕ × List ℕ)) × ((after ≡ Some (before ++ disks)) × (AreOf 0 count disks × AreAllBut MayBeMissing count disks))
 
--- one disk for each server of the script, in order of number, with the script's capacity
+-- one disk for each node of the script that has one, in order of number, with the script's capacity: first the location database's
 abbrev pub lends_of : Script → Place → List Lend
-lends_of s place = lends place s.capacity 1 s.servers
+lends_of s place = lends place s.capacity 0 (s.servers + 1)
 
 -- all of them were lent, and nothing else
 abbrev pub LendsAll : Script → Place → Outside → Type 0
@@ -96,6 +106,10 @@ GivesBackLent {D} seen lends_failed lent o = (missing : ℕ) × (GivesBackBut se
 abbrev pub IsServerOf : Script → ℕ → Type 0
 IsServerOf s i = (1 ≤ i) × (i ≤ s.servers)
 
+-- it has a node with a disk of this number: 0 is the location database
+abbrev pub HasDisk : Script → ℕ → Type 0
+HasDisk s i = i ≤ s.servers
+
 -- the failures that are none of the history's: there is none, or one of the disk of this server
 abbrev pub no_other : ℕ → ℕ
 no_other i = 0
@@ -105,7 +119,7 @@ one_other server i = if nat_eq server i then 1 else 0
 
 -- A legal run of the script: inputs lead from its set-up through this history to this cell, and the schedule was played so far by them.
 -- The history has no more entries than one may have, and it is legal. At its end the servers hold the ideal volumes, with all that was
--- acknowledged. The count of each server's disk rose by each failure of that disk in it, and by its others.
+-- acknowledged. The count of each disk rose by each failure of that disk in it, and by its others.
 pub record IsLegalRun (s : Script) (IsSoFar : List Input → Type 0) (others : ℕ → ℕ) (disk_faults : ℕ → Span ℕ) (history : List Entry) (end : Cell) : Type 0 where
   pub inputs : List Input
   pub leads : Leads (start s) inputs history end
@@ -113,7 +127,7 @@ pub record IsLegalRun (s : Script) (IsSoFar : List Input → Type 0) (others : �
   pub few : length history ≤ most_entries
   pub legal : Legal history s
   pub well : EndsWell s history end
-  pub failures : (i : ℕ) → IsServerOf s i → RoseBy (own_falls i inputs history + others i) (disk_faults i)
+  pub failures : (i : ℕ) → HasDisk s i → RoseBy (own_falls i inputs history + others i) (disk_faults i)
 
 -- The inputs are the events of the script's schedule, one for one, with each drain as its deliveries.
 abbrev pub ToItsEnd : Script → List Input → Type 0
@@ -126,16 +140,18 @@ NotToItsEnd s = AreFirst (first_turn s) (events_of s)
 abbrev pub SomeOfIt : Script → List Input → Type 0
 SomeOfIt s = λ (inputs : List Input). AreInputs (first_turn s) (events_of s) inputs ⊎ AreFirst (first_turn s) (events_of s) inputs
 
--- The script was played to its end. What was written is the text of its history with what the disks keep, all of it or a beginning;
--- and the disks that were given back stand for just that.
+-- The script was played to its end. What was written is the text of its history with what the servers' disks keep, all of it or a
+-- beginning; and the disks that were given back stand for just that, and for what the location database keeps.
 pub record Replays (s : Script) (wire : Bool) (Writes : List ℕ → Type 0) (MayBeMissing : ℕ → Type 0) (o : Outside) : Type 0 where
   pub history : List Entry
   pub end : Cell
   pub run : IsLegalRun s (ToItsEnd s) no_other o.disk_faults history end
   pub kept : List Durable
   pub keep : MayKeep end 1 kept
+  pub loc : LocDurable
+  pub keep_loc : MayBeReadAtLoc end loc
   pub written : Writes (text wire history kept)
-  pub given : GivesBack MayBeMissing kept o.given.before o.given.after
+  pub given : GivesBack MayBeMissing loc kept o.given.before o.given.after
 
 -- The first events were played, as many as a history may have. The text of their history was written, in which nothing of the final part
 -- stands, or where the sink failed, a beginning of it; and the disks that were given back stand for what it leaves.
@@ -146,8 +162,10 @@ pub record ReplaysFirst (s : Script) (wire : Bool) (o : Outside) : Type 0 where
   pub full : length history ≡ most_entries
   pub kept : List Durable
   pub keep : MayKeep end 1 kept
+  pub loc : LocDurable
+  pub keep_loc : MayBeReadAtLoc end loc
   pub written : Writes o (history_text wire history)
-  pub given : GivesBack (MissedByTheBank o) kept o.given.before o.given.after
+  pub given : GivesBack (MissedByTheBank o) loc kept o.given.before o.given.after
 
 -- The first events were played, however many, and the text of their history was written, or where the sink failed, a beginning of it.
 -- Nothing of the final part stands there. The disks were given back, whatever they hold.
@@ -156,7 +174,7 @@ pub record ReplaysSome (s : Script) (wire : Bool) (o : Outside) : Type 0 where
   pub end : Cell
   pub run : IsLegalRun s (SomeOfIt s) no_other o.disk_faults history end
   pub written : Writes o (history_text wire history)
-  pub given : GivesBackThose (MissedByTheBank o) s.servers o.given.before o.given.after
+  pub given : GivesBackThose (MissedByTheBank o) (s.servers + 1) o.given.before o.given.after
 
 -- The script was played to its end, and then the disk of this server failed: that failure is none of the history's. The text of the
 -- history was written, without the final part, or where the sink failed, a beginning of it. The disks were given back, whatever they hold.
@@ -165,7 +183,7 @@ pub record ReplaysUnread (s : Script) (wire : Bool) (server : ℕ) (o : Outside)
   pub end : Cell
   pub run : IsLegalRun s (ToItsEnd s) (one_other server) o.disk_faults history end
   pub written : Writes o (history_text wire history)
-  pub given : GivesBackThose (MissedByTheBank o) s.servers o.given.before o.given.after
+  pub given : GivesBackThose (MissedByTheBank o) (s.servers + 1) o.given.before o.given.after
 
 -- ---- texts, whatever the disks tell
 
@@ -198,30 +216,30 @@ pub record WritesRun (s : Script) (wire : Bool) (Writes : List ℕ → Type 0) :
 
 -- ---- disks that come back unplayed
 
--- these disks are those of the servers from this number on, in order
-abbrev pub AreOfServers : {D : Type 0} → ℕ → List (Lent D) → Type 0
-AreOfServers {D} i [] = Unit {0}
-AreOfServers {D} i (l ∷ ls) = (l.node ≡ i) × AreOfServers (i + 1) ls
+-- these disks are those of the nodes from this number on, in order
+abbrev pub AreOfNodes : {D : Type 0} → ℕ → List (Lent D) → Type 0
+AreOfNodes {D} i [] = Unit {0}
+AreOfNodes {D} i (l ∷ ls) = (l.node ≡ i) × AreOfNodes (i + 1) ls
 
--- What comes back of disks that were lent and set up, but not played: one for each server, in order of number. No disk had failed when it
+-- What comes back of disks that were lent and set up, but not played: one for each node with a disk, in order of number. No disk had failed when it
 -- was lent, and since then one at most has. Where a disk told its bytes, and there were none, it comes back with the record of the script's
 -- set-up, or with none. A bank need not lend empty disks.
 pub record SetUpLeaves {D : Type 0} (seen : D → Option (List ℕ)) (may_leave : D → List ℕ → Type 0) (faults : D → ℕ) (s : Script) (o : Outside) : Type 0 where
   pub lent : List (Lent D)
   pub unused : AreUnused faults lent
   pub back : List (Lent D)
-  pub counted : length back ≡ s.servers
-  pub are : AreOfServers 1 back
+  pub counted : length back ≡ s.servers + 1
+  pub are : AreOfNodes 0 back
   pub failed : OneRoseAtMost faults lent back
-  pub left : AreLeft seen may_leave s 1 lent back
+  pub left : AreAllLeft seen may_leave s lent back
   pub given : GivesBackLent seen 0 back o
 
--- What comes back where no further disk was lent, after so many lends had failed: so many disks, those of the first servers in order of
+-- What comes back where no further disk was lent, after so many lends had failed: so many disks, those of the first nodes in order of
 -- number, each of the script's capacity, and none of which had failed, but for those at which the bank failed.
 pub record LendingLeaves {D : Type 0} (seen : D → Option (List ℕ)) (faults limit : D → ℕ) (s : Script) (o : Outside) (lends_failed count : ℕ) : Type 0 where
   pub lent : List (Lent D)
   pub counted : length lent ≡ count
-  pub are : AreLent limit s.capacity 1 lent
+  pub are : AreLent limit s.capacity 0 lent
   pub unused : AreUnused faults lent
   pub given : GivesBackLent seen lends_failed lent o
 
@@ -245,16 +263,16 @@ pub record AtLimit (s : Script) (wire : Bool) (tells : Type 0) (o : Outside) : T
   pub written : WritesEntries IsFull wire o
   pub told : tells → ReplaysFirst s wire o
 
--- the disk of a server failed while it was set up, and no other did: what that leaves comes back
+-- the disk of this node failed while it was set up, and no other did: what that leaves comes back
 pub record SettingUpFails (s : Script) (left : Type 0) (o : Outside) : Type 0 where
-  pub server : ℕ
-  pub has : IsServerOf s server
-  pub rose : RoseBy 1 (o.disk_faults server)
-  pub alone : (i : ℕ) → nat_eq server i ≡ false → DidNotRise (o.disk_faults i)
+  pub node : ℕ
+  pub has : HasDisk s node
+  pub rose : RoseBy 1 (o.disk_faults node)
+  pub alone : (i : ℕ) → nat_eq node i ≡ false → DidNotRise (o.disk_faults i)
   pub written : IsUnchanged o.sink
   pub only_set_up : left
 
--- the disk of a server failed while it was read for the final part
+-- the disk of a server failed while it was read for the final part, which has nothing of the location database
 pub record ReadingFails (s : Script) (wire : Bool) (tells : Type 0) (o : Outside) : Type 0 where
   pub server : ℕ
   pub has : IsServerOf s server
@@ -308,11 +326,11 @@ abbrev pub lend_failures : Status → ℕ
 lend_failures statuses.BankFault = 1
 lend_failures status = 0
 
--- So many disks were lent, the first of them, fewer than the script has servers, and no further one. `Unlent` says what comes back of so many.
+-- So many disks were lent, the first of them, fewer than the script has nodes with a disk, and no further one. `Unlent` says what comes back of so many.
 pub record LendingFails (s : Script) (place : Place) (Unlent : ℕ → ℕ → Type 0) (o : Outside) (status : Status) : Type 0 where
   pub count : ℕ
-  pub fewer : count < s.servers
-  pub lent : o.lends.after ≡ option_map (λ ls. ls ++ lends place s.capacity 1 count) o.lends.before
+  pub fewer : count < s.servers + 1
+  pub lent : o.lends.after ≡ option_map (λ ls. ls ++ lends place s.capacity 0 count) o.lends.before
   pub written : IsUnchanged o.sink
   pub why : LendsNoMore o status
   pub back : Unlent (lend_failures status) count

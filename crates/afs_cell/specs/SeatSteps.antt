@@ -1,4 +1,4 @@
--- What comes of an input at a server.
+-- What comes of an input at a node with a disk; and at a server.
 use Rattle.std.specs.Prelude.{◌≡◌, ◌≤◌, ◌<◌, ◌+◌, ◌^◌, ◌⊎◌, ◌↔◌, ℕ, List, ◌++◌, Option, Some, None, IsSome}
 use Rattle.afs_num.specs.Places.{at_place}
 use Rattle.afs_num.specs.declared.messages.Message.{Message}
@@ -9,7 +9,7 @@ use Rattle.afs_history.specs.declared.lines.Line.{Line}
 use Rattle.afs_history.specs.declared.lines.Outs.{Outs}
 use Rattle.afs_disk.specs.Disk.{Rose}
 use Rattle.afs_model.specs.Messages.{messages_spelled, parcels_read, received}
-use Rattle.afs_rows.specs.Hosts.{Fall, crashed, set_to_fail, set_to_stop, HostStep}
+use Rattle.afs_rows.specs.Hosts.{Fall, Host, crashed, set_to_fail, set_to_stop, HostStep}
 use Rattle.afs_rows.specs.ServerHosts.{ServerHost, timed_out, woken, server_kind}
 use Rattle.afs_rows.specs.States.{BackCall, ServerState}
 use Rattle.afs_server.specs.Seen.{CanDraw}
@@ -24,6 +24,54 @@ use Rattle.afs_clients.specs.declared.happening.Happened.TheVariants as happened
 use Rattle.afs_clients.specs.declared.happening.ServerInput.{ServerInput}
 use Rattle.afs_clients.specs.declared.happening.ServerInput.TheVariants as server
 use Rattle.afs_clients.specs.Happening.{NoneHappened}
+
+-- ---- a node of any kind
+
+-- How the seats of one kind of node are seen: the disk of one; the host that it is; and whether it can be given what comes next, in a
+-- history of so many entries.
+pub record SeatKind (D U S : Type 0) : Type 1 where
+  pub disk : U → D
+  pub is : U → Host S → Type 0
+  pub ready : ℕ → U → Type 0
+
+-- the node is what the host is after this step, and gave this out; these lines come before its own
+pub record IsStepOf {D U S : Type 0} (kind : SeatKind D U S) (new : U) (front : List Line) (outs : Outs) (s : HostStep S) : Type 0 where
+  pub host : kind.is new s.host
+  pub lines : front ++ outs.lines ≡ s.lines
+  pub sent : parcels_read outs.parcels ≡ messages_spelled s.sent
+
+-- Nothing came of it, and it wasn't for such a node; or the node made a step; or memory was wanting, and it stands for what it stood
+-- for, or can't be told of.
+abbrev pub Happens : {D U S : Type 0} → SeatKind D U S → (D → Option (List ℕ)) → (D → ℕ) → List Line → (Host S → Type 0) → (Host S → (HostStep S → Type 0) → Type 0 → Type 0) → U → U → Happened → Type 0
+Happens {D} {U} {S} kind seen faults front IsVoid Has old new happened.Nothing = (new ≡ old) × ((h : Host S) → kind.is old h → IsVoid h)
+Happens {D} {U} {S} kind seen faults front IsVoid Has old new (happened.Step outs) =
+    IsSome (seen (kind.disk old)) → (h : Host S) → kind.is old h → Has h (IsStepOf kind new front outs) (Rose (faults (kind.disk old)) (faults (kind.disk new)))
+Happens {D} {U} {S} kind seen faults front IsVoid Has old new happened.Unchanged = (h : Host S) → kind.is old h → kind.is new h
+Happens {D} {U} {S} kind seen faults front IsVoid Has old new happened.Lost = Unit {0}
+
+-- it can be given what comes next
+abbrev pub Goes : {U : Type 0} → (ℕ → U → Type 0) → U → U → Happened → Type 0
+Goes {U} ready old new (happened.Step outs) = (entries : ℕ) → ready entries old → ready (entries + 1) new
+Goes {U} ready old new happened.Lost = Unit {0}
+Goes {U} ready old new other = (entries : ℕ) → ready entries old → ready entries new
+
+-- The disk tells as before, and has the same room; its count of faults doesn't fall.
+pub record DiskKeeps {D : Type 0} (seen : D → Option (List ℕ)) (faults limit : D → ℕ) (old new : D) : Type 0 where
+  pub told : IsSome (seen new) ↔ IsSome (seen old)
+  pub same_limit : limit new ≡ limit old
+  pub no_fewer : faults old ≤ faults new
+
+-- the node took it
+pub record Takes {D U S : Type 0} (kind : SeatKind D U S) (seen : D → Option (List ℕ)) (faults limit : D → ℕ) (front : List Line) (IsVoid : Host S → Type 0) (Has : Host S → (HostStep S → Type 0) → Type 0 → Type 0) (was now : U) (what : Happened) : Type 0 where
+  pub happens : Happens kind seen faults front IsVoid Has was now what
+  pub goes : Goes kind.ready was now what
+  pub keeps : DiskKeeps seen faults limit (kind.disk was) (kind.disk now)
+
+-- ---- a server
+
+-- the seat of the server that is this node
+abbrev pub server_seat : {D : Type 0} → (D → Option (List ℕ)) → (D → List ℕ → Type 0) → (D → ℕ) → Node → SeatKind D (ServerSeat D) ServerState
+server_seat {D} seen may_leave limit me = record { disk = λ s. seat_disk s; is = λ s h. IsHost seen may_leave limit me s h; ready = λ n s. IsReadySeat me n s }
 
 -- the host is down
 abbrev pub IsFallen : ServerHost → Type 0
@@ -49,33 +97,18 @@ HasStep me clock count (server.Fail call) h Is rose = (h.down ≡ None) × Is (s
 abbrev pub HasHeard : Node → ℕ → ℕ → List ℕ → ServerHost → (HostStep ServerState → Type 0) → Type 0 → Type 0
 HasHeard me clock place bytes h Is rose = (h.down ≡ None) × ((m : Message) → received bytes ≡ Whole m → HasServed (server_kind me) h clock place m Is rose)
 
--- the server is what the host is after this step, and gave this out; these lines come before its own
-pub record IsSeatStep {D : Type 0} (seen : D → Option (List ℕ)) (may_leave : D → List ℕ → Type 0) (limit : D → ℕ) (me : Node) (new : ServerSeat D) (front : List Line) (outs : Outs) (s : HostStep ServerState) : Type 0 where
-  pub host : IsHost seen may_leave limit me new s.host
-  pub lines : front ++ outs.lines ≡ s.lines
-  pub sent : parcels_read outs.parcels ≡ messages_spelled s.sent
+abbrev pub IsSeatStep : {D : Type 0} → (D → Option (List ℕ)) → (D → List ℕ → Type 0) → (D → ℕ) → Node → ServerSeat D → List Line → Outs → HostStep ServerState → Type 0
+IsSeatStep {D} seen may_leave limit me new front outs = IsStepOf (server_seat seen may_leave limit me) new front outs
 
--- Nothing came of it, and it wasn't for such a server; or the server made a step; or memory was wanting, and it stands for what it
--- stood for, or can't be told of.
 abbrev pub SeatHappens : {D : Type 0} → (D → Option (List ℕ)) → (D → List ℕ → Type 0) → (D → ℕ) → (D → ℕ) → Node → List Line → (ServerHost → Type 0) → (ServerHost → (HostStep ServerState → Type 0) → Type 0 → Type 0) →
     ServerSeat D → ServerSeat D → Happened → Type 0
-SeatHappens {D} seen may_leave faults limit me front IsVoid Has old new happened.Nothing = (new ≡ old) × ((h : ServerHost) → IsHost seen may_leave limit me old h → IsVoid h)
-SeatHappens {D} seen may_leave faults limit me front IsVoid Has old new (happened.Step outs) =
-    IsSome (seen (seat_disk old)) → (h : ServerHost) → IsHost seen may_leave limit me old h → Has h (IsSeatStep seen may_leave limit me new front outs) (Rose (faults (seat_disk old)) (faults (seat_disk new)))
-SeatHappens {D} seen may_leave faults limit me front IsVoid Has old new happened.Unchanged = (h : ServerHost) → IsHost seen may_leave limit me old h → IsHost seen may_leave limit me new h
-SeatHappens {D} seen may_leave faults limit me front IsVoid Has old new happened.Lost = Unit {0}
+SeatHappens {D} seen may_leave faults limit me front IsVoid Has old new what = Happens (server_seat seen may_leave limit me) seen faults front IsVoid Has old new what
 
--- it can be given what comes next
 abbrev pub SeatGoes : {D : Type 0} → Node → ServerSeat D → ServerSeat D → Happened → Type 0
-SeatGoes {D} me old new (happened.Step outs) = (entries : ℕ) → IsReadySeat me entries old → IsReadySeat me (entries + 1) new
-SeatGoes {D} me old new happened.Lost = Unit {0}
-SeatGoes {D} me old new other = (entries : ℕ) → IsReadySeat me entries old → IsReadySeat me entries new
+SeatGoes {D} me old new what = Goes (λ n s. IsReadySeat me n s) old new what
 
--- The disk tells as before, and has the same room; its count of faults doesn't fall.
-pub record SeatKeeps {D : Type 0} (seen : D → Option (List ℕ)) (faults limit : D → ℕ) (old new : ServerSeat D) : Type 0 where
-  pub told : IsSome (seen (seat_disk new)) ↔ IsSome (seen (seat_disk old))
-  pub same_limit : limit (seat_disk new) ≡ limit (seat_disk old)
-  pub no_fewer : faults (seat_disk old) ≤ faults (seat_disk new)
+abbrev pub SeatKeeps : {D : Type 0} → (D → Option (List ℕ)) → (D → ℕ) → (D → ℕ) → ServerSeat D → ServerSeat D → Type 0
+SeatKeeps {D} seen faults limit old new = DiskKeeps seen faults limit (seat_disk old) (seat_disk new)
 
 -- a server can be given something
 abbrev pub CanStep : {D : Type 0} → ServerSeat D → Type 0
@@ -93,9 +126,7 @@ pub record OneHappened {D : Type 0} (seen : D → Option (List ℕ)) (may_leave 
   pub now : ServerSeat D
   pub found : at_place old i ≡ Some was
   pub put : new ≡ put_place i now old
-  pub happens : SeatHappens seen may_leave faults limit (Server i) front IsVoid Has was now what
-  pub goes : SeatGoes (Server i) was now what
-  pub keeps : SeatKeeps seen faults limit was now
+  pub takes : Takes (server_seat seen may_leave limit (Server i)) seen faults limit front IsVoid Has was now what
 
 abbrev pub ServersHappened : {D : Type 0} → (D → Option (List ℕ)) → (D → List ℕ → Type 0) → (D → ℕ) → (D → ℕ) → ℕ → List Line → (ServerHost → Type 0) → (ServerHost → (HostStep ServerState → Type 0) → Type 0 → Type 0) →
     List (ServerSeat D) → List (ServerSeat D) → Happened → Type 0

@@ -8,9 +8,14 @@ use Rattle.afs_num.specs.declared.types.Node.TheVariants.{Client, Server}
 use Rattle.afs_rows.specs.Runs.{moved, start, Cell, Input}
 use Rattle.afs_rows.specs.Hosts.{Fall, MayBegin}
 use Rattle.afs_rows.specs.ServerHosts.{begun_by_disk}
+use Rattle.afs_rows.specs.LocRow.{LocState}
 use Rattle.afs_rows.specs.States.{ServerState}
 use Rattle.afs_server.specs.Seen.{lasting_of}
+use Rattle.afs_journal.specs.Records.{whole_records}
+use Rattle.afs_locdb.specs.Seen as loc
 use Rattle.afs_records.specs.Durable.{Durable}
+use Rattle.afs_records.specs.LocDurable.{LocDurable, LocStandFor}
+use Rattle.afs_host.specs.LocStanding.{loc_begun_by_disk}
 use Rattle.afs_volstore.specs.Stands.{Stands}
 use Rattle.afs_schedule.specs.Schedules.{events_of, first_turn, left_by, tasks_of, AreFirst, AreInputs, Turn}
 use Rattle.afs_clients.specs.Places.{Each}
@@ -31,7 +36,7 @@ pub record IsFirst {D : Type 0} (seen : D → Option (List ℕ)) (may_leave : D 
   pub clock : w.clock ≡ 0
   pub going : w.is_lost ≡ false
   pub acts : Each (λ (n : ℕ) (seat : ClientSeat). tasks_of (Client n) s.tasks ≡ seat.plan) w.clients
-  pub cell : AllTell seen w.servers → IsCell seen may_leave limit w (start s)
+  pub cell : AllTell seen w → IsCell seen may_leave limit w (start s)
 
 -- ---- one event
 
@@ -40,19 +45,19 @@ pub record IsAt {D : Type 0} (seen : D → Option (List ℕ)) (may_leave : D →
   pub cell : IsCell seen may_leave limit w c
   pub acts : Each (λ (n : ℕ) (s : ClientSeat). left (Client n) ≡ s.plan) w.clients
 
--- One entry more, that of such an input; the world stands for what comes of it. Where a server's disk fails by itself, that disk counts it.
+-- One entry more, that of such an input; the world stands for what comes of it. Where a disk fails by itself, that disk counts it.
 pub record Plays {D : Type 0} (seen : D → Option (List ℕ)) (may_leave : D → List ℕ → Type 0) (faults limit : D → ℕ) (is : Input → Type 0) (t : Turn) (old new : WorldState D) : Type 0 where
   pub input : Input
   pub is_one : is input
   pub history : told new.wire new.history ≡ told old.wire old.history ++ (moved t.cell input).entry ∷ []
   pub at : IsAt seen may_leave limit new (moved t.cell input).cell (left_by input t.left)
-  pub counts : (own : ℕ → ℕ) → Counts faults own old.servers → Counts faults (λ (i : ℕ). own i + falls_at i input (moved t.cell input).entry) new.servers
+  pub counts : (own : ℕ → ℕ) → Counts faults own old → Counts faults (λ (i : ℕ). own i + falls_at i input (moved t.cell input).entry) new
 
 -- So it is for each cell and the acts for which the world stands, while its disks tell.
 pub record PlaysOne {D : Type 0} (seen : D → Option (List ℕ)) (may_leave : D → List ℕ → Type 0) (faults limit : D → ℕ) (is : Turn → Input → Type 0) (old new : WorldState D) : Type 0 where
   pub count : length new.history ≡ length old.history + 1
   pub going : new.is_lost ≡ false
-  pub plays : AllTell seen old.servers → (t : Turn) → IsAt seen may_leave limit old t.cell t.left → Plays seen may_leave faults limit (is t) t old new
+  pub plays : AllTell seen old → (t : Turn) → IsAt seen may_leave limit old t.cell t.left → Plays seen may_leave faults limit (is t) t old new
 
 -- nothing was told and nothing was sent
 pub record TellsNothing {D : Type 0} (old new : WorldState D) : Type 0 where
@@ -81,8 +86,8 @@ Steps {D} seen may_leave faults limit is old new (Err fault) = Stays seen may_le
 pub record Stepped {D : Type 0} (seen : D → Option (List ℕ)) (may_leave : D → List ℕ → Type 0) (faults limit : D → ℕ) (s : Script) (is : Turn → Input → Type 0) (w new : WorldState D) (result : Result (Unit {0}) WorldFault) : Type 0 where
   pub steps : Steps seen may_leave faults limit is w new result
   pub safe : IsSafe limit s new
-  pub tells : AllTell seen w.servers ↔ AllTell seen new.servers
-  pub counts : (own : ℕ → ℕ) → Counts faults own w.servers → Counts faults own new.servers
+  pub tells : AllTell seen w ↔ AllTell seen new
+  pub counts : (own : ℕ → ℕ) → Counts faults own w → Counts faults own new
 
 -- ---- the disks that are given back
 
@@ -101,9 +106,33 @@ IsReadAs me s down true d = IsReadAfter me s down d
 abbrev pub MayBeRead : Cell → ℕ → Durable → Type 0
 MayBeRead c i d = (after : Bool) × (MayBegin (c.hosts i).down after × IsReadAs (Server i) (c.hosts i).state (c.hosts i).down after d)
 
--- each server's disk stands for such a part, of the capacity that the disk has
+-- so it is of the location database
+abbrev pub IsReadAfterAtLoc : LocState → Option Fall → LocDurable → Type 0
+IsReadAfterAtLoc s None d = loc.lasting_of d ≡ s.lasting
+IsReadAfterAtLoc s (Some fall) d = loc.lasting_of d ≡ (loc_begun_by_disk s true fall).state.lasting
+
+abbrev pub IsReadAsAtLoc : LocState → Option Fall → Bool → LocDurable → Type 0
+IsReadAsAtLoc s down false d = loc.lasting_of d ≡ s.lasting
+IsReadAsAtLoc s down true d = IsReadAfterAtLoc s down d
+
+abbrev pub MayBeReadAtLoc : Cell → LocDurable → Type 0
+MayBeReadAtLoc c d = (after : Bool) × (MayBegin c.loc.down after × IsReadAsAtLoc c.loc.state c.loc.down after d)
+
+-- the whole records of these bytes are those of this durable part of the database
+abbrev pub LocStands : List ℕ → LocDurable → Type 0
+LocStands bytes d = LocStandFor (whole_records bytes) d
+
+-- the disk of the server of this number stands for such a part, of the capacity that the disk has; and so does the database's
+abbrev pub IsStanding : {D : Type 0} → (D → Option (List ℕ)) → (D → ℕ) → Cell → ℕ → D → Type 0
+IsStanding {D} seen limit c i disk = (bytes : List ℕ) → seen disk ≡ Some bytes → (d : Durable) × (MayBeRead c i d × (Stands bytes d × (d.capacity ≡ limit disk)))
+
+abbrev pub IsStandingAtLoc : {D : Type 0} → (D → Option (List ℕ)) → (D → ℕ) → Cell → D → Type 0
+IsStandingAtLoc {D} seen limit c disk = (bytes : List ℕ) → seen disk ≡ Some bytes → (d : LocDurable) × (MayBeReadAtLoc c d × (LocStands bytes d × (d.capacity ≡ limit disk)))
+
+-- so it is of all disks of a cell: the first is the database's, and the others are the servers', in order of number
 abbrev pub AreStanding : {D : Type 0} → (D → Option (List ℕ)) → (D → ℕ) → Cell → List (Lent D) → Type 0
-AreStanding {D} seen limit c lent = Each (λ (i : ℕ) (l : Lent D). (bytes : List ℕ) → seen l.disk ≡ Some bytes → (d : Durable) × (MayBeRead c i d × (Stands bytes d × (d.capacity ≡ limit l.disk)))) lent
+AreStanding {D} seen limit c [] = ⊥
+AreStanding {D} seen limit c (l ∷ ls) = IsStandingAtLoc seen limit c l.disk × Each (λ (i : ℕ) (k : Lent D). IsStanding seen limit c i k.disk) ls
 
 -- ---- a whole schedule
 

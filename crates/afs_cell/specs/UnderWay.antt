@@ -37,7 +37,7 @@ pub record IsUnderWay {D : Type 0} (seen : D → Option (List ℕ)) (may_leave :
   pub is_left : IsLeft schedule events named
   pub fit : All (FitsEvent (counts_of s)) events
   pub ticks : w.clock + ticks_in events ≤ most_ticks
-  pub come : AllTell seen w.servers → HasCome seen may_leave faults limit s w events named
+  pub come : AllTell seen w → HasCome seen may_leave faults limit s w events named
 
 -- it is a world, and told nothing more
 abbrev pub Stops : {D : Type 0} → (D → Option (List ℕ)) → (D → List ℕ → Type 0) → (D → ℕ) → (D → ℕ) → Script → WorldState D → WorldState D → Type 0
@@ -46,6 +46,6 @@ Stops {D} seen may_leave faults limit s old new = IsWorld seen may_leave faults 
 -- How the next event went. Where none was played, nothing more was told.
 abbrev pub GoesSo : {D : Type 0} → (D → Option (List ℕ)) → (D → List ℕ → Type 0) → (D → ℕ) → (D → ℕ) → Script → WorldState D → WorldState D → Schedule → Played → Type 0
 GoesSo {D} seen may_leave faults limit s old new schedule played.Event = IsUnderWay seen may_leave faults limit s new schedule × (length new.history ≡ length old.history + 1)
-GoesSo {D} seen may_leave faults limit s old new schedule played.All = Stops seen may_leave faults limit s old new × ((new.is_lost ≡ false) × (AllTell seen new.servers → HasPlayedAll seen may_leave faults limit s new))
-GoesSo {D} seen may_leave faults limit s old new schedule played.Limit = Stops seen may_leave faults limit s old new × ((new.is_lost ≡ false) × ((length new.history ≡ most_entries) × (AllTell seen new.servers → HasPlayedFirst seen may_leave faults limit s new)))
-GoesSo {D} seen may_leave faults limit s old new schedule played.OutOfMemory = Stops seen may_leave faults limit s old new × (AllTell seen new.servers → HasPlayedSome seen may_leave faults limit s new)
+GoesSo {D} seen may_leave faults limit s old new schedule played.All = Stops seen may_leave faults limit s old new × ((new.is_lost ≡ false) × (AllTell seen new → HasPlayedAll seen may_leave faults limit s new))
+GoesSo {D} seen may_leave faults limit s old new schedule played.Limit = Stops seen may_leave faults limit s old new × ((new.is_lost ≡ false) × ((length new.history ≡ most_entries) × (AllTell seen new → HasPlayedFirst seen may_leave faults limit s new)))
+GoesSo {D} seen may_leave faults limit s old new schedule played.OutOfMemory = Stops seen may_leave faults limit s old new × (AllTell seen new → HasPlayedSome seen may_leave faults limit s new)

@@ -2,15 +2,16 @@
 use Rattle.std.specs.Prelude.{◌≡◌, ◌≤◌, ◌⊎◌, ◌+◌, ◌-◌, ◌^◌, ℕ, List, ◌∷◌, Bool, false, not, nat_eq, if◌then◌else◌, Option, length, IsSome}
 use Rattle.afs_num.specs.declared.histories.Actor.{Actor}
 use Rattle.afs_num.specs.declared.histories.Actor.TheVariants as actors
-use Rattle.afs_num.specs.declared.types.Node.TheVariants.{Server}
+use Rattle.afs_num.specs.declared.types.Node.TheVariants.{Loc, Server}
 use Rattle.afs_num.specs.declared.types.Parcel.{Parcel}
 use Rattle.afs_history.specs.declared.lines.Entry as kept
 use Rattle.afs_history.specs.declared.scripts.Script.{Script}
 use Rattle.afs_grammar.specs.CellScripts.{IsCellScript}
 use Rattle.afs_model.specs.Messages.{messages_spelled, parcels_read}
 use Rattle.afs_rows.specs.Going.{ClientState}
-use Rattle.afs_rows.specs.Runs.{gives, start, starts_again, Cell, Entry, Input, Leads}
+use Rattle.afs_rows.specs.Runs.{gives, start, starts_again, Cell, Entry, Input, Leads, locations}
 use Rattle.afs_rows.specs.Hosts.{fails_early, fails_midway, gives_out}
+use Rattle.afs_host.specs.LocSeated.{loc_seat_disk, DatabaseSeat, IsLocHost, IsLocReadySeat}
 use Rattle.afs_host.specs.Seated.{seat_disk, IsHost, IsReadySeat, ServerSeat}
 use Rattle.afs_clients.specs.Places.{Each}
 use Rattle.afs_text.specs.Telling.{told, sent_by, AreRead}
@@ -26,10 +27,11 @@ pub record LetGo : Type 0 where
 abbrev pub none_gone : LetGo
 none_gone = record { entries = 0; sent = 0; messages = 0 }
 
--- The script; the servers and the clients in order of number; the messages that were sent and the entries of the history, but for those
+-- The script; the location database; the servers and the clients in order of number; the messages that were sent and the entries of the history, but for those
 -- that were let go; the clock; and whether memory was wanting behind a node's step, so that the cell can't go on.
 pub record WorldState (D : Type 0) : Type 0 where
   pub script : Script
+  pub database : DatabaseSeat D
   pub servers : List (ServerSeat D)
   pub clients : List ClientSeat
   pub wire : List Parcel
@@ -52,12 +54,14 @@ pub record IsClient (s : ClientSeat) (state : ClientState) (away : Bool) : Type 
 
 -- the cell that the world stands for
 pub record IsCell {D : Type 0} (seen : D → Option (List ℕ)) (may_leave : D → List ℕ → Type 0) (limit : D → ℕ) (w : WorldState D) (c : Cell) : Type 0 where
+  pub loc : IsLocHost seen may_leave limit w.database c.loc
   pub host_count : c.host_count ≡ length w.servers
   pub hosts : Each (λ (i : ℕ) (s : ServerSeat D). IsHost seen may_leave limit (Server i) s (c.hosts i)) w.servers
   pub count : c.count ≡ length w.clients
   pub clients : Each (λ (n : ℕ) (s : ClientSeat). IsClient s (c.clients n) (c.away n)) w.clients
   pub sent : parcels_read w.wire ≡ messages_spelled c.sent
   pub clock : c.clock ≡ w.clock
+  pub handed : c.handed ≡ locations w.script
 
 -- ---- what the next input may rely on
 
@@ -69,36 +73,37 @@ pub record IsReadyClient (s : Script) (n entries : ℕ) (seat : ClientSeat) : Ty
 
 -- ---- disks
 
--- each server's disk tells its bytes
-abbrev pub AllTell : {D : Type 0} → (D → Option (List ℕ)) → List (ServerSeat D) → Type 0
-AllTell {D} seen servers = Each (λ (i : ℕ) (s : ServerSeat D). IsSome (seen (seat_disk s))) servers
+-- the database's disk tells its bytes, and so does each server's
+abbrev pub AllTell : {D : Type 0} → (D → Option (List ℕ)) → WorldState D → Type 0
+AllTell {D} seen w = IsSome (seen (loc_seat_disk w.database)) × Each (λ (i : ℕ) (s : ServerSeat D). IsSome (seen (seat_disk s))) w.servers
 
 -- each has room for so many bytes
-abbrev pub AllHold : {D : Type 0} → (D → ℕ) → ℕ → List (ServerSeat D) → Type 0
-AllHold {D} limit capacity servers = Each (λ (i : ℕ) (s : ServerSeat D). limit (seat_disk s) ≡ capacity) servers
+abbrev pub AllHold : {D : Type 0} → (D → ℕ) → ℕ → WorldState D → Type 0
+AllHold {D} limit capacity w = (limit (loc_seat_disk w.database) ≡ capacity) × Each (λ (i : ℕ) (s : ServerSeat D). limit (seat_disk s) ≡ capacity) w.servers
 
 -- so many, as far as a counter can count
 abbrev pub IsCounted : ℕ → ℕ → Type 0
 IsCounted n count = (n ≤ count) ⊎ (2 ^ 64 - 1 ≤ count)
 
--- the disk of each server counts so many faults as are its own here
-abbrev pub Counts : {D : Type 0} → (D → ℕ) → (ℕ → ℕ) → List (ServerSeat D) → Type 0
-Counts {D} faults own servers = Each (λ (i : ℕ) (s : ServerSeat D). IsCounted (own i) (faults (seat_disk s))) servers
+-- each disk counts so many faults as are its own here: the database's has number 0, the servers' have theirs
+abbrev pub Counts : {D : Type 0} → (D → ℕ) → (ℕ → ℕ) → WorldState D → Type 0
+Counts {D} faults own w = IsCounted (own 0) (faults (loc_seat_disk w.database)) × Each (λ (i : ℕ) (s : ServerSeat D). IsCounted (own i) (faults (seat_disk s))) w.servers
 
--- the disk of a server fails by itself with this input
+-- the disk of a node fails by itself with this input
 abbrev pub falls : Input → ℕ
 falls (gives place (gives_out call)) = 1
 falls (starts_again i after fails_early) = 1
 falls (starts_again i after fails_midway) = 1
 falls x = 0
 
--- whether this is a server, and another one
+-- Whether this is a node with a disk, and another than that of this number. The database has number 0.
 abbrev pub is_other : ℕ → Actor → Bool
+is_other i (actors.Node Loc) = not (nat_eq 0 i)
 is_other i (actors.Node (Server j)) = not (nat_eq j i)
 is_other i actor = false
 
--- The disk of this server fails by itself with this input, which made this entry. Where the entry is of no server, such a failure counts for
--- each.
+-- The disk of the node of this number fails by itself with this input, which made this entry. Where the entry is of no node with a disk,
+-- such a failure counts for each.
 abbrev pub falls_at : ℕ → Input → Entry → ℕ
 falls_at i x e = if is_other i e.actor then 0 else falls x
 
@@ -121,20 +126,21 @@ pub record IsSafe {D : Type 0} (limit : D → ℕ) (s : Script) (w : WorldState 
   pub cell_script : IsCellScript s
   pub server_count : length w.servers ≡ s.servers
   pub client_count : length w.clients ≡ s.clients
+  pub database : w.is_lost ≡ false → IsLocReadySeat (length w.history) w.database
   pub servers : w.is_lost ≡ false → Each (λ (i : ℕ) (seat : ServerSeat D). IsReadySeat (Server i) (length w.history) seat) w.servers
   pub clients : w.is_lost ≡ false → Each (λ (n : ℕ) (seat : ClientSeat). IsReadyClient s n (length w.history) seat) w.clients
-  pub disks : AllHold limit s.capacity w.servers
+  pub disks : AllHold limit s.capacity w
   pub sent : sent_by w.history ≡ length w.wire
   pub entries : length w.history ≤ most_entries
   pub ticks : w.clock ≤ most_ticks
 
 -- These inputs lead from the script's set-up through the history that the world tells to this cell, and the world stands for it.
--- Each time that a server's disk failed by itself is counted by that disk.
+-- Each time that a disk failed by itself is counted by that disk.
 pub record Runs {D : Type 0} (seen : D → Option (List ℕ)) (may_leave : D → List ℕ → Type 0) (faults limit : D → ℕ) (s : Script) (w : WorldState D) (inputs : List Input) (cell : Cell) : Type 0 where
   pub leads : Leads (start s) inputs (told w.wire w.history) cell
   pub read : AreRead w.wire
   pub cell_is : w.is_lost ≡ false → IsCell seen may_leave limit w cell
-  pub counts : Counts faults (λ (i : ℕ). own_falls i inputs (told w.wire w.history)) w.servers
+  pub counts : Counts faults (λ (i : ℕ). own_falls i inputs (told w.wire w.history)) w
 
 pub record HasRun {D : Type 0} (seen : D → Option (List ℕ)) (may_leave : D → List ℕ → Type 0) (faults limit : D → ℕ) (s : Script) (w : WorldState D) : Type 0 where
   pub inputs : List Input
@@ -144,4 +150,4 @@ pub record HasRun {D : Type 0} (seen : D → Option (List ℕ)) (may_leave : D �
 -- Where the disks tell, what the world tells is a run of its script.
 pub record IsWorld {D : Type 0} (seen : D → Option (List ℕ)) (may_leave : D → List ℕ → Type 0) (faults limit : D → ℕ) (s : Script) (w : WorldState D) : Type 0 where
   pub safe : IsSafe limit s w
-  pub run : AllTell seen w.servers → HasRun seen may_leave faults limit s w
+  pub run : AllTell seen w → HasRun seen may_leave faults limit s w

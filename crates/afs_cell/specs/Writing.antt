@@ -20,9 +20,9 @@ world_text {D} wire w = kept_history_text wire w.wire w.history
 
 -- how far it was played, where its disks tell
 abbrev pub EndsSo : {D : Type 0} → (D → Option (List ℕ)) → (D → List ℕ → Type 0) → (D → ℕ) → (D → ℕ) → Script → Type 0 → Ended → WorldState D → Type 0
-EndsSo {D} seen may_leave faults limit s tells ended.All w = (w.is_lost ≡ false) × (tells → AllTell seen w.servers × HasPlayedAll seen may_leave faults limit s w)
-EndsSo {D} seen may_leave faults limit s tells ended.Limit w = (w.is_lost ≡ false) × ((length w.history ≡ most_entries) × (tells → AllTell seen w.servers × HasPlayedFirst seen may_leave faults limit s w))
-EndsSo {D} seen may_leave faults limit s tells ended.OutOfMemory w = tells → AllTell seen w.servers × HasPlayedSome seen may_leave faults limit s w
+EndsSo {D} seen may_leave faults limit s tells ended.All w = (w.is_lost ≡ false) × (tells → AllTell seen w × HasPlayedAll seen may_leave faults limit s w)
+EndsSo {D} seen may_leave faults limit s tells ended.Limit w = (w.is_lost ≡ false) × ((length w.history ≡ most_entries) × (tells → AllTell seen w × HasPlayedFirst seen may_leave faults limit s w))
+EndsSo {D} seen may_leave faults limit s tells ended.OutOfMemory w = tells → AllTell seen w × HasPlayedSome seen may_leave faults limit s w
 
 -- The script was played so, and the history of the whole world was written, or a beginning of it.
 pub record IsTold {D : Type 0} (seen : D → Option (List ℕ)) (may_leave : D → List ℕ → Type 0) (faults limit : D → ℕ) (s : Script) (wire : Bool) (tells : Type 0) (old new : Option (List ℕ)) (before after : ℕ) (t : Told (WorldState D)) : Type 0 where
@@ -46,5 +46,5 @@ pub record PlaysOn {D : Type 0} (seen : D → Option (List ℕ)) (may_leave : D 
   pub way : IsUnderWay seen may_leave faults limit w.script (whole gone w) schedule
   pub none : w.history ≡ []
   pub kept : w.gone.messages ≤ settled schedule
-  pub tell : tells → AllTell seen w.servers
+  pub tell : tells → AllTell seen w
   pub text : Puts (world_text wire (whole gone w)) old new before after written

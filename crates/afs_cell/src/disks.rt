@@ -1,20 +1,32 @@
-//! The disks of a cell's servers go back.
+//! The disks of a cell's nodes go back.
 
 ghost use Rattle.std.specs.Prelude.{◌≡◌, ◌≤◌, ◌<◌, ◌+◌, ◌++◌, ◌∷◌, ◌^◌, [], length};
 ghost use Rattle.std.specs.Vec.{vec_capacity};
 ghost use Rattle.std.specs.Vec.Iter.{into_iter_items};
-ghost use Rattle.afs_cell.specs.FirstSeats.{AreKeptSeats, IsKeptSeat};
+ghost use Rattle.afs_cell.specs.FirstSeats.{AreKeptSeats, IsKeptSeat, IsLocKeptSeat};
 ghost use Rattle.afs_cell.specs.Lends.{lent_from};
+ghost use Rattle.afs_host.specs.LocSeated.{loc_seat_disk};
 ghost use Rattle.afs_host.specs.Seated.{seat_disk};
 
 use afs_disk::{Disk, Lent};
-use afs_host::{Seat, ServerSeat};
+use afs_host::{DatabaseSeat, Seat, ServerSeat};
 use std::vec::IntoIter;
 
 /// The disk of a server.
 fn disk_in<D: Disk>(seat: ServerSeat<D>) -> D
     ensures value { result ≡ seat_disk seat }
     ensures kept { IsKeptSeat D.seen D.may_leave D.limit seat }
+{
+    match seat {
+        Seat::Up(running) => running.into_disk(),
+        Seat::Down(resting) => resting.into_disk(),
+    }
+}
+
+/// The disk of the location database.
+pub fn database_disk<D: Disk>(seat: DatabaseSeat<D>) -> D
+    ensures value { result ≡ loc_seat_disk seat }
+    ensures kept { IsLocKeptSeat D.seen D.may_leave D.limit seat }
 {
     match seat {
         Seat::Up(running) => running.into_disk(),
@@ -56,6 +68,7 @@ pub fn give_back<D: Disk>(seats: Vec<ServerSeat<D>>, back: &mut Vec<Lent<D>>)
 pub fn give_rest<D: Disk + Drop>(disks: IntoIter<Lent<D>>, back: &mut Vec<Lent<D>>)
     requires room { length back.old.items + length (into_iter_items disks) ≤ vec_capacity back.old }
     ensures items { back.new.items ≡ back.old.items ++ into_iter_items disks }
+    ensures room { vec_capacity back.old ≤ vec_capacity back.new }
 {
     for lent in disks {
         let Lent { node, disk } = lent;

@@ -1,20 +1,23 @@
-//! One server of the cell is given something.
+//! One server of the cell is given something, or its location database.
 
 ghost use Rattle.std.specs.Prelude.{◌≤◌, ℕ, [], ◌∷◌};
 ghost use Rattle.afs_num.specs.declared.types.Node.TheVariants.{Server};
 ghost use Rattle.afs_history.specs.declared.lines.Line.TheVariants as lines;
-ghost use Rattle.afs_clients.specs.Happening.{IsDue};
+ghost use Rattle.afs_clients.specs.Happening.{IsDue, IsDueAtLoc};
+ghost use Rattle.afs_cell.specs.DatabaseHearing.{LocLeavesPick};
+ghost use Rattle.afs_cell.specs.DatabaseSteps.{HasLocHeard, HasLocStep, IsLocFallen, IsVoidAtLoc, LocTakes};
 ghost use Rattle.afs_cell.specs.SeatSteps.{HasHeard, HasStep, IsFallen, IsVoidServer, ServersHappened};
 ghost use Rattle.afs_cell.specs.Hearing.{OneFalls, IsUpAt};
 ghost use Rattle.afs_cell.specs.SeatPicks.{OneLeavesPick};
-ghost use Rattle.afs_cell.specs.Ready.{AllCanStep};
+ghost use Rattle.afs_cell.specs.Ready.{AllCanStep, CanTakeAtLoc};
 
-use crate::servers;
-use afs_clients::happening::{Happened, ServerInput};
+use crate::{database, servers};
+use afs_clients::happening::{DatabaseInput, Happened, ServerInput};
 use afs_clients::places::Places;
 use afs_disk::Disk;
-use afs_host::ServerSeat;
+use afs_host::{DatabaseSeat, ServerSeat};
 use afs_num::types::Node;
+use core::mem::replace_with;
 use std::alloc::Global;
 
 /// The disk of this server ended its step, and it goes down.
@@ -73,4 +76,29 @@ pub fn server_takes<D: Disk>(
     let (seat, happened) = servers::take(alloc, seat, Node::Server(server), clients, now, given);
     servers.put(server, seat);
     happened
+}
+
+/// The location database is given a message.
+pub fn database_hears<D: Disk>(alloc: Global, seat: &mut DatabaseSeat<D>, bytes: &[u8]) -> Happened
+    requires can { CanTakeAtLoc D.limit seat.old }
+    ensures { (clock place : ℕ) → LocTakes D.seen D.may_leave D.faults D.limit (lines.Given place ∷ []) IsLocFallen (HasLocHeard clock place bytes.now) seat.old seat.new result }
+{
+    match database::hear(seat, bytes) {
+        Some(happened) => happened,
+        None => replace_with(seat, alloc, database::fall),
+    }
+}
+
+/// The location database is given something that is no message.
+pub fn database_takes<D: Disk>(
+    alloc: Global,
+    seat: &mut DatabaseSeat<D>,
+    given: DatabaseInput,
+) -> Happened
+    requires can { CanTakeAtLoc D.limit seat.old }
+    requires due { IsDueAtLoc given }
+    ensures happened { (clock count : ℕ) → LocTakes D.seen D.may_leave D.faults D.limit [] (IsVoidAtLoc given) (HasLocStep clock count given) seat.old seat.new result }
+    ensures picked { LocLeavesPick D.seen D.left_by result given seat.old seat.new }
+{
+    replace_with(seat, (given, alloc), database::take)
 }

@@ -1,10 +1,12 @@
-//! The cell in one thread: its servers with their disks, its clients and the messages under way; and how a script is played there, and
+//! The cell in one thread: its location database and its servers with their disks, its clients and the messages under way; and how a script is played there, and
 //! told.
 #![tactic(auto)]
 
+mod database;
 mod disks;
 mod ending;
 pub mod faults;
+mod founding;
 mod giving;
 mod playing;
 mod reading;

@@ -48,7 +48,7 @@ impl<'a, D: Disk> World<'a, D> {
         ensures goes { GoesSoSince D.seen D.may_leave D.faults D.limit self.old self.new schedule.old schedule.new result }
         ensures keeps { Keeps self.old self.new }
         ensures settled { settled schedule.old ≤ settled schedule.new }
-        ensures tells { AllTell D.seen self.old.servers → AllTell D.seen self.new.servers }
+        ensures tells { AllTell D.seen self.old → AllTell D.seen self.new }
     {
         let Ok(next) = schedule.next(self.sent()) else {
             return Played::OutOfMemory;

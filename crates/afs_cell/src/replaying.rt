@@ -1,4 +1,4 @@
-//! A script is played over the disks of its servers, and its history is written.
+//! A script is played over the disks of its nodes, and its history is written.
 
 ghost use Rattle.std.specs.Prelude.{◌≡◌, ◌≤◌, ◌+◌, ℕ, List, Bool, Option, length, false};
 ghost use Rattle.afs_grammar.specs.CellScripts.{IsCellScript};
@@ -46,22 +46,22 @@ fn end<K: Sink, B: Bank<D: Drop>>(
 ) -> Status
     requires world { IsWorldSince B.D.seen B.D.may_leave B.D.faults B.D.limit world }
     requires going { world.is_lost ≡ false }
-    ensures ends { (wire : Bool) (start : Option (List ℕ)) (count : ℕ) (gone : HistoryTold) → IsWritten B.D.seen B.D.may_leave B.D.faults B.D.limit wire start count gone world.entry (K.held sink.old) (K.faults sink.old) written → EndsRun world.entry.script wire (AllTell B.D.seen world.entry.servers × HasPlayedAll B.D.seen B.D.may_leave B.D.faults B.D.limit world.entry.script (whole gone world.entry)) ⊥ (record { sink = span start (K.held sink.new); passed = K.passed sink.new; lends = span (B.lends bank.old) (B.lends bank.new); given = span (B.given bank.old) (B.given bank.new); sink_faults = span count (K.faults sink.new); bank_faults = span (B.faults bank.old) (B.faults bank.new); disk_faults = λ (n : ℕ). span (B.lent_faults bank.old n) (B.lent_faults bank.new n) }) result }
+    ensures ends { (wire : Bool) (start : Option (List ℕ)) (count : ℕ) (gone : HistoryTold) → IsWritten B.D.seen B.D.may_leave B.D.faults B.D.limit wire start count gone world.entry (K.held sink.old) (K.faults sink.old) written → EndsRun world.entry.script wire (AllTell B.D.seen world.entry × HasPlayedAll B.D.seen B.D.may_leave B.D.faults B.D.limit world.entry.script (whole gone world.entry)) ⊥ (record { sink = span start (K.held sink.new); passed = K.passed sink.new; lends = span (B.lends bank.old) (B.lends bank.new); given = span (B.given bank.old) (B.given bank.new); sink_faults = span count (K.faults sink.new); bank_faults = span (B.faults bank.old) (B.faults bank.new); disk_faults = λ (n : ℕ). span (B.lent_faults bank.old n) (B.lent_faults bank.new n) }) result }
     ensures lends { B.lends bank.new ≡ B.lends bank.old }
     ensures never_falls { B.faults bank.old ≤ B.faults bank.new }
 {
     runs_are_legal();
     runs_end_well();
     volumes_are_in_cell();
-    let left = match world.read_at_end() {
-        Ok(left) => left,
+    let (database, left) = match world.read_at_end() {
+        Ok(read) => read,
         Err(disks) => {
             let status = tell_none(sink, written, LendFault::OutOfMemory);
             return give_up(bank, disks, status);
         }
     };
     let status = tell_left(alloc, sink, left.as_slice(), written);
-    let taken = give_back(bank, 1, left);
+    let taken = give_back(bank, database, left);
     returned(status, taken)
 }
 
@@ -75,7 +75,7 @@ fn cut<K: Sink, B: Bank<D: Drop>>(
     requires world { IsWorldSince B.D.seen B.D.may_leave B.D.faults B.D.limit world }
     requires going { world.is_lost ≡ false }
     requires full { world.gone.entries + length world.history ≡ most_entries }
-    ensures ends { (wire : Bool) (start : Option (List ℕ)) (count : ℕ) (gone : HistoryTold) → IsWritten B.D.seen B.D.may_leave B.D.faults B.D.limit wire start count gone world.entry (K.held sink.old) (K.faults sink.old) written → EndsRun world.entry.script wire (AllTell B.D.seen world.entry.servers × HasPlayedFirst B.D.seen B.D.may_leave B.D.faults B.D.limit world.entry.script (whole gone world.entry)) ⊥ (record { sink = span start (K.held sink.new); passed = K.passed sink.new; lends = span (B.lends bank.old) (B.lends bank.new); given = span (B.given bank.old) (B.given bank.new); sink_faults = span count (K.faults sink.new); bank_faults = span (B.faults bank.old) (B.faults bank.new); disk_faults = λ (n : ℕ). span (B.lent_faults bank.old n) (B.lent_faults bank.new n) }) result }
+    ensures ends { (wire : Bool) (start : Option (List ℕ)) (count : ℕ) (gone : HistoryTold) → IsWritten B.D.seen B.D.may_leave B.D.faults B.D.limit wire start count gone world.entry (K.held sink.old) (K.faults sink.old) written → EndsRun world.entry.script wire (AllTell B.D.seen world.entry × HasPlayedFirst B.D.seen B.D.may_leave B.D.faults B.D.limit world.entry.script (whole gone world.entry)) ⊥ (record { sink = span start (K.held sink.new); passed = K.passed sink.new; lends = span (B.lends bank.old) (B.lends bank.new); given = span (B.given bank.old) (B.given bank.new); sink_faults = span count (K.faults sink.new); bank_faults = span (B.faults bank.old) (B.faults bank.new); disk_faults = λ (n : ℕ). span (B.lent_faults bank.old n) (B.lent_faults bank.new n) }) result }
     ensures lends { B.lends bank.new ≡ B.lends bank.old }
     ensures never_falls { B.faults bank.old ≤ B.faults bank.new }
 {
@@ -96,7 +96,7 @@ fn give_in<K: Sink, B: Bank<D: Drop>>(
     bank: &mut B,
 ) -> Status
     requires world { IsWorldSince B.D.seen B.D.may_leave B.D.faults B.D.limit world }
-    ensures ends { (wire : Bool) (start : Option (List ℕ)) (count : ℕ) (gone : HistoryTold) → IsWritten B.D.seen B.D.may_leave B.D.faults B.D.limit wire start count gone world.entry (K.held sink.old) (K.faults sink.old) written → EndsRun world.entry.script wire (AllTell B.D.seen world.entry.servers × HasPlayedSome B.D.seen B.D.may_leave B.D.faults B.D.limit world.entry.script (whole gone world.entry)) ⊥ (record { sink = span start (K.held sink.new); passed = K.passed sink.new; lends = span (B.lends bank.old) (B.lends bank.new); given = span (B.given bank.old) (B.given bank.new); sink_faults = span count (K.faults sink.new); bank_faults = span (B.faults bank.old) (B.faults bank.new); disk_faults = λ (n : ℕ). span (B.lent_faults bank.old n) (B.lent_faults bank.new n) }) result }
+    ensures ends { (wire : Bool) (start : Option (List ℕ)) (count : ℕ) (gone : HistoryTold) → IsWritten B.D.seen B.D.may_leave B.D.faults B.D.limit wire start count gone world.entry (K.held sink.old) (K.faults sink.old) written → EndsRun world.entry.script wire (AllTell B.D.seen world.entry × HasPlayedSome B.D.seen B.D.may_leave B.D.faults B.D.limit world.entry.script (whole gone world.entry)) ⊥ (record { sink = span start (K.held sink.new); passed = K.passed sink.new; lends = span (B.lends bank.old) (B.lends bank.new); given = span (B.given bank.old) (B.given bank.new); sink_faults = span count (K.faults sink.new); bank_faults = span (B.faults bank.old) (B.faults bank.new); disk_faults = λ (n : ℕ). span (B.lent_faults bank.old n) (B.lent_faults bank.new n) }) result }
     ensures lends { B.lends bank.new ≡ B.lends bank.old }
     ensures never_falls { B.faults bank.old ≤ B.faults bank.new }
 {
@@ -119,8 +119,8 @@ fn replay_over<K: Sink, B: Bank<D: Drop>>(
     bank: &mut B,
 ) -> Status
     requires script { IsCellScript script.now }
-    requires lent { AreLent B.D.limit script.now.capacity 1 disks }
-    requires all { length disks ≡ script.now.servers }
+    requires lent { AreLent B.D.limit script.now.capacity 0 disks }
+    requires all { length disks ≡ script.now.servers + 1 }
     requires unused { AreUnused B.D.faults disks }
     ensures ends { EndsRun script.now wire (LentTell B.D.seen disks) (SetUpLeaves B.D.seen B.D.may_leave B.D.faults script.now (record { sink = span (K.held sink.old) (K.held sink.new); passed = K.passed sink.new; lends = span (B.lends bank.old) (B.lends bank.new); given = span (B.given bank.old) (B.given bank.new); sink_faults = span (K.faults sink.old) (K.faults sink.new); bank_faults = span (B.faults bank.old) (B.faults bank.new); disk_faults = λ (n : ℕ). span (B.lent_faults bank.old n) (B.lent_faults bank.new n) })) (record { sink = span (K.held sink.old) (K.held sink.new); passed = K.passed sink.new; lends = span (B.lends bank.old) (B.lends bank.new); given = span (B.given bank.old) (B.given bank.new); sink_faults = span (K.faults sink.old) (K.faults sink.new); bank_faults = span (B.faults bank.old) (B.faults bank.new); disk_faults = λ (n : ℕ). span (B.lent_faults bank.old n) (B.lent_faults bank.new n) }) result }
     ensures lends { B.lends bank.new ≡ B.lends bank.old }
@@ -154,7 +154,7 @@ pub fn replay<K: Sink, B: Bank<D: Drop>>(
     requires script { IsCellScript script.now }
     ensures { EndsReplay script.now wire place.now (B.tells bank.old place.now) (SetUpLeaves B.D.seen B.D.may_leave B.D.faults script.now (record { sink = span (K.held sink.old) (K.held sink.new); passed = K.passed sink.new; lends = span (B.lends bank.old) (B.lends bank.new); given = span (B.given bank.old) (B.given bank.new); sink_faults = span (K.faults sink.old) (K.faults sink.new); bank_faults = span (B.faults bank.old) (B.faults bank.new); disk_faults = λ (n : ℕ). span (B.lent_faults bank.old n) (B.lent_faults bank.new n) })) (LendingLeaves B.D.seen B.D.faults B.D.limit script.now (record { sink = span (K.held sink.old) (K.held sink.new); passed = K.passed sink.new; lends = span (B.lends bank.old) (B.lends bank.new); given = span (B.given bank.old) (B.given bank.new); sink_faults = span (K.faults sink.old) (K.faults sink.new); bank_faults = span (B.faults bank.old) (B.faults bank.new); disk_faults = λ (n : ℕ). span (B.lent_faults bank.old n) (B.lent_faults bank.new n) })) (record { sink = span (K.held sink.old) (K.held sink.new); passed = K.passed sink.new; lends = span (B.lends bank.old) (B.lends bank.new); given = span (B.given bank.old) (B.given bank.new); sink_faults = span (K.faults sink.old) (K.faults sink.new); bank_faults = span (B.faults bank.old) (B.faults bank.new); disk_faults = λ (n : ℕ). span (B.lent_faults bank.old n) (B.lent_faults bank.new n) }) result }
 {
-    match lend_all(alloc, bank, place, 1, script.servers, script.capacity) {
+    match lend_all(alloc, bank, place, 0, script.servers + 1, script.capacity) {
         Ok(disks) => replay_over(alloc, script, disks, wire, sink, bank),
         Err((fault, disks)) => give_up(bank, disks, status_of_lend(fault)),
     }

@@ -1,14 +1,15 @@
 //! The cell: its nodes, the messages under way, and what is told of its run.
 
 ghost use Rattle.std.specs.Prelude.{◌≡◌, ◌≤◌, ◌<◌, ◌+◌, ◌-◌, ◌^◌, ◌↔◌, [], drop, None, Some, Ok, Err, false, true, length, ℕ};
-ghost use Rattle.afs_num.specs.declared.types.Node.TheVariants.{Server};
+ghost use Rattle.afs_num.specs.declared.types.Node.TheVariants.{Loc, Server};
 ghost use Rattle.afs_history.specs.declared.scripts.Event.TheVariants as events;
 ghost use Rattle.afs_grammar.specs.CellScripts.{counts_of, FitsEvent};
 ghost use Rattle.afs_grammar.specs.Lines.{ticks_of};
 ghost use Rattle.afs_rows.specs.Runs.{nothing};
 ghost use Rattle.afs_rows.specs.Runs as runs;
 ghost use Rattle.afs_schedule.specs.Schedules.{IsInput};
-ghost use Rattle.afs_clients.specs.Happening.{IsAsked, IsDue, IsGiven};
+ghost use Rattle.afs_clients.specs.Happening.{IsAsked, IsDue, IsDueAtLoc, IsGiven, IsGivenToLoc};
+ghost use Rattle.afs_cell.specs.DatabaseHearing.{IsPickedAtLoc};
 ghost use Rattle.afs_cell.specs.Happening.{NothingSettles, Settles};
 ghost use Rattle.afs_cell.specs.Noting.{given_line, Notes};
 ghost use Rattle.afs_cell.specs.Picks.{IsPicked};
@@ -16,20 +17,21 @@ ghost use Rattle.afs_cell.specs.Since.{DeliversKept, GoesOnSince, IsSafeSince, I
 ghost use Rattle.afs_cell.specs.Worlds.{most_entries, most_ticks, AllTell, Counts};
 ghost use Rattle.afs_cell.specs.declared.faults.WorldFault.TheVariants as faults;
 ghost use Rattle.afs_clients.specs.declared.happening.Happened.TheVariants as happened;
+ghost use Rattle.afs_clients.specs.declared.happening.DatabaseInput.TheVariants as database;
 ghost use Rattle.afs_clients.specs.declared.happening.ServerInput.TheVariants as input;
 
 use crate::faults::WorldFault;
-use crate::giving::{server_hears, server_takes};
+use crate::giving::{database_hears, database_takes, server_hears, server_takes};
 use afs_clients::clients::ClientSeat;
 use afs_clients::events::{Given, meaning_of};
 use afs_clients::giving::{client_hears, client_takes};
-use afs_clients::happening::{ClientInput, Happened, ServerInput};
+use afs_clients::happening::{ClientInput, DatabaseInput, Happened, ServerInput};
 use afs_clients::places::Places;
 use afs_clients::telling::{one_line, tell};
 use afs_disk::{Disk, Lent};
 use afs_history::lines::{Entry, Line, Outs};
 use afs_history::scripts::{Event, Script};
-use afs_host::ServerSeat;
+use afs_host::{DatabaseSeat, ServerSeat};
 use afs_num::histories::Actor;
 use afs_num::types::{Node, Parcel};
 use afs_wire::Wire;
@@ -56,13 +58,14 @@ pub(crate) struct Gone {
     pub(crate) sent: u64,
 }
 
-/// The servers and the clients of a cell in order of number, the messages that were sent, the history so far and the clock. The first
+/// The location database of a cell, its servers and its clients in order of number, the messages that were sent, the history so far and the clock. The first
 /// entries of the history may be let go, and the first messages. Where memory was wanting behind the step of a node, the cell is
 /// lost: it tells nothing any more, and its history is that from before the step.
 #[derive(Drop)]
 pub struct World<'a, D: Disk> {
     pub(crate) alloc: Global,
     pub(crate) script: &'a Script,
+    pub(crate) database: DatabaseSeat<D>,
     pub(crate) servers: Places<ServerSeat<D>>,
     pub(crate) clients: Places<ClientSeat<'a>>,
     pub(crate) wire: Wire,
@@ -81,9 +84,9 @@ impl<'a, D: Disk> Model for World<'a, D> {
 
     ghost Value = { WorldState D };
 
-    ghost view = { λ w. record { script = w.script.now; servers = w.servers.items; clients = w.clients.items; wire = w.wire.messages; history = w.history.items; gone = record { entries = w.gone.entries; sent = w.gone.sent; messages = w.wire.gone }; clock = w.clock; is_lost = w.is_lost } };
+    ghost view = { λ w. record { script = w.script.now; database = w.database; servers = w.servers.items; clients = w.clients.items; wire = w.wire.messages; history = w.history.items; gone = record { entries = w.gone.entries; sent = w.gone.sent; messages = w.wire.gone }; clock = w.clock; is_lost = w.is_lost } };
 
-    ghost invariant = { λ w. record { empty : w.back.items ≡ []; room : w.script.now.servers ≤ vec_capacity w.back; behind : w.wire.gone ≤ w.gone.sent; ahead : w.gone.sent ≤ w.wire.gone + length w.wire.messages } };
+    ghost invariant = { λ w. record { empty : w.back.items ≡ []; room : w.script.now.servers + 1 ≤ vec_capacity w.back; behind : w.wire.gone ≤ w.gone.sent; ahead : w.gone.sent ≤ w.wire.gone + length w.wire.messages } };
 }
 
 impl<'a, D: Disk> World<'a, D> {
@@ -176,6 +179,21 @@ impl<'a, D: Disk> World<'a, D> {
         self.settle(Node::Server(server), None, happened)
     }
 
+    /// The location database is given something that is no message.
+    fn serve_database(&mut self, given: DatabaseInput) -> Result<(), WorldFault>
+        requires safe { IsSafeSince D.limit self.old }
+        requires going { self.old.is_lost ≡ false }
+        requires few { self.old.gone.entries + length self.old.history < most_entries }
+        requires due { IsDueAtLoc given }
+        ensures stepped { SteppedSince D.seen D.may_leave D.faults D.limit (λ t. IsGivenToLoc given t) self.old self.new result }
+        ensures keeps { Keeps self.old self.new }
+        ensures clock { self.new.clock ≡ self.old.clock }
+        ensures picked { (pick : ℕ) → given ≡ database.Crash pick → IsPickedAtLoc D.seen D.left_by pick self.old.database self.new.database result }
+    {
+        let happened = database_takes(self.alloc, &mut self.database, given);
+        self.settle(Node::Loc, None, happened)
+    }
+
     /// A client is given something that is no message.
     fn ask(&mut self, client: u8, given: ClientInput) -> Result<(), WorldFault>
         requires safe { IsSafeSince D.limit self.old }
@@ -232,7 +250,10 @@ impl<'a, D: Disk> World<'a, D> {
                 );
                 self.settle(Node::Client(client), Some(place), happened)
             }
-            Node::Loc => self.skip(),
+            Node::Loc => {
+                let happened = database_hears(self.alloc, &mut self.database, bytes);
+                self.settle(Node::Loc, Some(place), happened)
+            }
             Node::Admin(_) => self.skip(),
         }
     }
@@ -266,11 +287,13 @@ impl<'a, D: Disk> World<'a, D> {
         requires ticks { self.old.clock + ticks_of event ≤ most_ticks }
         ensures plays { PlaysSince D.seen D.may_leave D.faults D.limit (λ t. IsInput t event) (ticks_of event) self.old self.new result }
         ensures picked { (i pick : ℕ) → event ≡ events.CrashDisk (Server i) pick → IsPicked D.seen D.left_by i pick self.old.servers self.new.servers result }
+        ensures picked_at_loc { (pick : ℕ) → event ≡ events.CrashDisk Loc pick → IsPickedAtLoc D.seen D.left_by pick self.old.database self.new.database result }
     {
         match meaning_of(event) {
             Given::Nothing => self.skip(),
             Given::Client(client, what) => self.ask(client, what),
             Given::Server(server, what) => self.serve(server, what),
+            Given::Database(what) => self.serve_database(what),
             Given::Message(place) => self.deliver(place),
             Given::Ticks(ticks) => self.tick(ticks),
         }
@@ -296,12 +319,13 @@ impl<'a, D: Disk> World<'a, D> {
         ensures world { GoesOnSince D.seen D.may_leave D.faults D.limit self.old self.new }
         ensures steps { StepsSince D.seen D.may_leave D.faults D.limit (λ t. IsInput t event.now) self.old self.new result }
         ensures keeps { Keeps self.old self.new }
-        ensures tells { AllTell D.seen self.old.servers ↔ AllTell D.seen self.new.servers }
-        ensures counts { (own : ℕ → ℕ) → Counts D.faults own self.old.servers → Counts D.faults own self.new.servers }
+        ensures tells { AllTell D.seen self.old ↔ AllTell D.seen self.new }
+        ensures counts { (own : ℕ → ℕ) → Counts D.faults own self.old → Counts D.faults own self.new }
         ensures clock { self.new.clock ≤ self.old.clock + ticks_of event.now }
         ensures lost { self.old.is_lost ≡ true → (result ≡ Err faults.OutOfMemory) × (self.new ≡ self.old) }
         ensures full { self.old.is_lost ≡ false → self.old.gone.entries + length self.old.history ≡ most_entries → (result ≡ Err faults.Limit) × (self.new ≡ self.old) }
         ensures picked { (i pick : ℕ) → event.now ≡ events.CrashDisk (Server i) pick → IsPicked D.seen D.left_by i pick self.old.servers self.new.servers result }
+        ensures picked_at_loc { (pick : ℕ) → event.now ≡ events.CrashDisk Loc pick → IsPickedAtLoc D.seen D.left_by pick self.old.database self.new.database result }
     {
         if self.is_lost {
             return Err(WorldFault::OutOfMemory);

@@ -66,7 +66,7 @@ pub(crate) fn play<'a, K: Sink, D: Disk>(
 ) -> Told<World<'a, D>>
     requires world { IsWorld D.seen D.may_leave D.faults D.limit world.script world }
     requires first { IsFirst D.seen D.may_leave D.limit world.script world }
-    ensures { IsTold D.seen D.may_leave D.faults D.limit world.entry.script wire (AllTell D.seen world.entry.servers) (K.held sink.old) (K.held sink.new) (K.faults sink.old) (K.faults sink.new) result }
+    ensures { IsTold D.seen D.may_leave D.faults D.limit world.entry.script wire (AllTell D.seen world.entry) (K.held sink.old) (K.held sink.new) (K.faults sink.old) (K.faults sink.new) result }
 {
     let mut world = world;
     let mut schedule = world.schedule();

@@ -95,7 +95,7 @@ pub replay_isnt_usage : (s : Script) (wire : Bool) (place : Place) (tells left :
 replay_isnt_usage s wire place tells left Unlent o status ends is = replay_isnt_before s wire place tells left Unlent o status ends (is_before status is)
 
 no_bank_fault : (s : Script) (wire : Bool) (tells left : Type 0) (o : Outside) → AtBankFault s wire tells left o → (RoseBy 1 o.bank_faults → ⊥) → (OneRose o.disk_faults → ⊥) → ⊥
-no_bank_fault s wire tells left o (inl setting_up) bank disks = disks (setting_up.server, setting_up.rose)
+no_bank_fault s wire tells left o (inl setting_up) bank disks = disks (setting_up.node, setting_up.rose)
 no_bank_fault s wire tells left o (inr (inl reading)) bank disks = disks (reading.server, reading.rose)
 no_bank_fault s wire tells left o (inr (inr returning)) bank disks = bank returning.rose
 

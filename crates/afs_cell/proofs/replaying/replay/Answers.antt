@@ -12,7 +12,7 @@ returns-in-Ok g c =
 
 pub returns-in-Err : goal.returns-in-Err
 returns-in-Err g c =
-    not_lent c.args.script.now c.args.wire c.args.place.now _ _ _ c.in-Err.fault (length c.in-Err.disks) _ _ _ (c.in-Err.ensures.few (omega (arith, c.requires.script.servers.0))) (lent_before _ _ _ _ _ _ c.in-Err.ensures.back_lends c.give_up.ensures.lends) refl
+    not_lent c.args.script.now c.args.wire c.args.place.now _ _ _ c.in-Err.fault (length c.in-Err.disks) _ _ _ (c.in-Err.ensures.few (omega arith)) (lent_before _ _ _ _ _ _ c.in-Err.ensures.back_lends c.give_up.ensures.lends) refl
     (λ e. rose_before _ _ _ (c.in-Err.ensures.cause e) c.in-Err.ensures.never_falls c.give_up.ensures.never_falls)
     (λ e. leaves_lent g.B.D.Disk.seen g.B.D.Disk.faults g.B.D.Disk.limit c.args.script.now _ _ _ _ _ _ _ _ _ _ _ 1 c.in-Err.disks c.in-Err.ensures.back_lent c.in-Err.ensures.back c.in-Err.ensures.given (one_failed _ _ (c.in-Err.ensures.cause e) c.in-Err.ensures.never_falls) c.give_up.ensures.never_falls c.give_up.ensures.back)
     (λ e. leaves_lent g.B.D.Disk.seen g.B.D.Disk.faults g.B.D.Disk.limit c.args.script.now _ _ _ _ _ _ _ _ _ _ _ 0 c.in-Err.disks c.in-Err.ensures.back_lent c.in-Err.ensures.back c.in-Err.ensures.given (none_failed _ _ (c.in-Err.ensures.memory e)) c.give_up.ensures.never_falls c.give_up.ensures.back)

@@ -1,12 +1,12 @@
 use Rattle.std.proofs.Common.{refl}
-use Rattle.afs_cell.proofs.Ended.{of_servers, refused_of}
+use Rattle.afs_cell.proofs.Ended.{of_nodes, refused_of}
 use Rattle.afs_cell.proofs.PlayedOn.{all_ends, first_ends, full_first, going_all, going_first, since_of, some_ends, written_of}
 use Rattle.afs_cell.proofs.replaying.replay_over.Goals as goal
 
 pub returns-in-Err-clause-ends : goal.returns-in-Err-clause-ends
 returns-in-Err-clause-ends g c =
     refused_of g.B.D.Disk.seen g.B.D.Disk.may_leave g.B.D.Disk.faults c.args.script.now c.args.wire _ c.args.disks c.in-Err.fault c.in-Err.disks _ _ _ c.requires.unused c.in-Err.ensures.cause c.in-Err.ensures.left
-    (of_servers g.B.D.Disk.limit c.args.script.now.capacity 1 c.in-Err.disks c.in-Err.ensures.back.0, c.in-Err.ensures.back.1) refl c.give_up.ensures.back c.give_up.ensures.faults
+    (of_nodes g.B.D.Disk.limit c.args.script.now.capacity 0 c.in-Err.disks c.in-Err.ensures.back.0, c.in-Err.ensures.back.1) refl c.give_up.ensures.back c.give_up.ensures.faults
     c.give_up.ensures.never_falls c.give_up.ensures.status c.status_of_setup.ensures
 
 pub end-requires-clause-world : goal.end-requires-clause-world

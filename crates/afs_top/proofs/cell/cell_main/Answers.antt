@@ -1,6 +1,7 @@
 use Rattle.std.specs.Prelude.{◌≡◌, Some, IsSome}
 use Rattle.std.proofs.Common.{rules, map, string_bytes, refl, inl, sym, ap, ◌∙◌}
 use Rattle.afs_command.specs.Forms.{form_in, HaveForm}
+use Rattle.afs_command.specs.Reading.{level}
 use Rattle.afs_command.specs.Spans.{span}
 use Rattle.afs_cell.specs.Replays.{LendingLeaves, SetUpLeaves}
 use Rattle.afs_top.specs.Top.{Ends}
@@ -14,7 +15,7 @@ pub returns-in-Err-clause-no_form : goal.returns-in-Err-clause-no_form
 returns-in-Err-clause-no_form g c = λ none. absurd (none (have_form (map string_bytes c.args.words.now) c.in-Err.ensures.err))
 
 pub replay-requires : goal.replay-requires
-replay-requires g c = record { script = c.scripts_are_of_cells.ensures 6 c.in-Ok.ensures.script.input c.in-Ok.script c.in-Ok.ensures.script.read }
+replay-requires g c = record { script = c.scripts_are_of_cells.ensures level c.in-Ok.ensures.script.input c.in-Ok.script c.in-Ok.ensures.script.read }
 
 pub returns-in-Ok-clause-ends : goal.returns-in-Ok-clause-ends
 returns-in-Ok-clause-ends g c =

@@ -1,8 +1,8 @@
 use Rattle.std.proofs.Common.{Some}
-use Rattle.afs_num.specs.declared.types.Node.TheVariants.{Client, Server}
+use Rattle.afs_num.specs.declared.types.Node.TheVariants.{Client, Loc, Server}
 use Rattle.afs_history.specs.declared.lines.Line.TheVariants as lines
-use Rattle.afs_cell.proofs.Clocks.{clock_heard, clock_served, nothing_clock}
-use Rattle.afs_cell.proofs.Since.{admin_since, can_since, keeps_heard, keeps_served, keeps_skipped, loc_since, message_heard_since, message_served_since, nobody_since, ready_since}
+use Rattle.afs_cell.proofs.Clocks.{clock_heard, clock_managed, clock_served, nothing_clock}
+use Rattle.afs_cell.proofs.Since.{admin_since, can_manage_since, can_since, keeps_heard, keeps_managed, keeps_served, keeps_skipped, message_heard_since, message_managed_since, message_served_since, nobody_since, ready_since}
 use Rattle.afs_cell.proofs.world.World.deliver.Goals as goal
 
 pub returns-in_default-clause-stepped : goal.returns-in_default-clause-stepped
@@ -27,10 +27,14 @@ returns-in-Client-clause-stepped g c =
     c.args.place c.in-Some.parcel.now c.in-Client.client c.as_slice-bytes.result.now c.client_hears-happened.new.clients.items c.client_hears-happened.result c.requires.kept c.in-Some.ensures c.in-Client.is c.as_slice-bytes.ensures
     (c.client_hears-happened.ensures c.args.place) c.settle-in-Client.ensures
 
+pub database_hears-happened-requires : goal.database_hears-happened-requires
+database_hears-happened-requires g c = record { can = can_manage_since g.D.Disk.limit _ c.args.self.now c.self.view_is c.requires.safe c.requires.going c.requires.few }
+
 pub returns-in-Loc-clause-stepped : goal.returns-in-Loc-clause-stepped
 returns-in-Loc-clause-stepped g c =
-    loc_since g.D.Disk.seen g.D.Disk.may_leave g.D.Disk.faults g.D.Disk.limit _ c.args.self.now c.self.view_is c.requires.going c.requires.few c.skip-in-Loc.new.self c.skip-in-Loc.result
-    c.args.place c.in-Some.parcel.now c.requires.kept c.in-Some.ensures c.in-Loc.is c.skip-in-Loc.ensures
+    message_managed_since g.D.Disk.seen g.D.Disk.may_leave g.D.Disk.faults g.D.Disk.limit _ c.args.self.now c.self.view_is c.requires.going c.requires.few c.settle-in-Loc.new.self c.settle-in-Loc.result
+    c.args.place c.in-Some.parcel.now c.as_slice-bytes.result.now c.database_hears-happened.new.seat c.database_hears-happened.result c.requires.kept c.in-Some.ensures c.in-Loc.is c.as_slice-bytes.ensures
+    (λ clock. c.database_hears-happened.ensures clock c.args.place) c.settle-in-Loc.ensures
 
 pub returns-in-Admin-clause-stepped : goal.returns-in-Admin-clause-stepped
 returns-in-Admin-clause-stepped g c =
@@ -49,7 +53,8 @@ returns-in-Client-clause-keeps g c =
     keeps_heard _ c.args.self.now c.settle-in-Client.new.self c.client_hears-happened.new.clients.items (Client c.in-Client.client) (Some (lines.Given c.args.place)) c.client_hears-happened.result c.settle-in-Client.result c.self.view_is c.settle-in-Client.ensures
 
 pub returns-in-Loc-clause-keeps : goal.returns-in-Loc-clause-keeps
-returns-in-Loc-clause-keeps g c = keeps_skipped c.args.self.now c.skip-in-Loc.new.self c.skip-in-Loc.result c.skip-in-Loc.ensures
+returns-in-Loc-clause-keeps g c =
+    keeps_managed _ c.args.self.now c.settle-in-Loc.new.self c.database_hears-happened.new.seat Loc (Some (lines.Given c.args.place)) c.database_hears-happened.result c.settle-in-Loc.result c.self.view_is c.settle-in-Loc.ensures
 
 pub returns-in-Admin-clause-keeps : goal.returns-in-Admin-clause-keeps
 returns-in-Admin-clause-keeps g c = keeps_skipped c.args.self.now c.skip-in-Admin.new.self c.skip-in-Admin.result c.skip-in-Admin.ensures
@@ -66,7 +71,8 @@ returns-in-Client-clause-clock g c =
     clock_heard _ c.args.self.now c.settle-in-Client.new.self c.client_hears-happened.new.clients.items (Client c.in-Client.client) (Some (lines.Given c.args.place)) c.client_hears-happened.result c.settle-in-Client.result c.self.view_is c.settle-in-Client.ensures
 
 pub returns-in-Loc-clause-clock : goal.returns-in-Loc-clause-clock
-returns-in-Loc-clause-clock g c = nothing_clock c.args.self.now c.skip-in-Loc.new.self c.skip-in-Loc.result c.skip-in-Loc.ensures
+returns-in-Loc-clause-clock g c =
+    clock_managed _ c.args.self.now c.settle-in-Loc.new.self c.database_hears-happened.new.seat Loc (Some (lines.Given c.args.place)) c.database_hears-happened.result c.settle-in-Loc.result c.self.view_is c.settle-in-Loc.ensures
 
 pub returns-in-Admin-clause-clock : goal.returns-in-Admin-clause-clock
 returns-in-Admin-clause-clock g c = nothing_clock c.args.self.now c.skip-in-Admin.new.self c.skip-in-Admin.result c.skip-in-Admin.ensures

@@ -2,8 +2,9 @@ use Rattle.std.proofs.Common.{arith, sym, ◌∙◌}
 use Rattle.afs_grammar.specs.CellScripts.{counts_of}
 use Rattle.afs_cell.proofs.Clocks.{nothing_clock}
 use Rattle.afs_cell.specs.Since.{whole}
+use Rattle.afs_cell.proofs.DatabasePicked.{loc_picked_as}
 use Rattle.afs_cell.proofs.Picked.{picked_as}
-use Rattle.afs_cell.proofs.Meant.{as_client, as_message, as_server, as_ticks, clock_ticks, some_ticks, ticks_within}
+use Rattle.afs_cell.proofs.Meant.{as_client, as_database, as_message, as_server, as_ticks, clock_ticks, some_ticks, ticks_within}
 use Rattle.afs_cell.proofs.Since.{as_nothing_since, keeps_skipped, kept_place}
 use Rattle.afs_cell.proofs.world.World.play_event.Goals as goal
 
@@ -72,3 +73,35 @@ returns-in-Ticks-clause-picked g c = λ i pick e. absurd (cc (c.in-Ticks.is, c.m
 pub returns-in-Server-clause-picked : goal.returns-in-Server-clause-picked
 returns-in-Server-clause-picked g c = λ i pick e.
     picked_as g.D.Disk.seen g.D.Disk.left_by i pick c.in-Server.server c.in-Server.what c.args.self.now.servers c.serve.new.self.servers c.serve.result (sym c.in-Server.is ∙ c.meaning_of.ensures.picked i pick e) c.serve.ensures.picked
+
+pub serve_database-requires-clause-due : goal.serve_database-requires-clause-due
+serve_database-requires-clause-due g c = c.in-Database.ensures.meant.due (counts_of c.args.self.now.script) c.requires.fits
+
+pub returns-in-Database-clause-plays : goal.returns-in-Database-clause-plays
+returns-in-Database-clause-plays g c = record {
+  stepped = λ before is safe. as_database g.D.Disk.seen g.D.Disk.may_leave g.D.Disk.faults g.D.Disk.limit (whole before c.args.self.now) (whole before c.serve_database.new.self) c.serve_database.result c.args.event c.in-Database.what c.in-Database.ensures.meant (c.serve_database.ensures.stepped before is safe);
+  keeps = c.serve_database.ensures.keeps;
+  clock = omega (arith, c.serve_database.ensures.clock);
+}
+
+pub returns-in-Database-clause-picked : goal.returns-in-Database-clause-picked
+returns-in-Database-clause-picked g c = λ i pick e. absurd (cc (c.in-Database.is, c.meaning_of.ensures.picked i pick e))
+
+pub returns-in-Nothing-clause-picked_at_loc : goal.returns-in-Nothing-clause-picked_at_loc
+returns-in-Nothing-clause-picked_at_loc g c = λ pick e. absurd (cc (c.in-Nothing.is, c.meaning_of.ensures.picked_at_loc pick e))
+
+pub returns-in-Client-clause-picked_at_loc : goal.returns-in-Client-clause-picked_at_loc
+returns-in-Client-clause-picked_at_loc g c = λ pick e. absurd (cc (c.in-Client.is, c.meaning_of.ensures.picked_at_loc pick e))
+
+pub returns-in-Server-clause-picked_at_loc : goal.returns-in-Server-clause-picked_at_loc
+returns-in-Server-clause-picked_at_loc g c = λ pick e. absurd (cc (c.in-Server.is, c.meaning_of.ensures.picked_at_loc pick e))
+
+pub returns-in-Message-clause-picked_at_loc : goal.returns-in-Message-clause-picked_at_loc
+returns-in-Message-clause-picked_at_loc g c = λ pick e. absurd (cc (c.in-Message.is, c.meaning_of.ensures.picked_at_loc pick e))
+
+pub returns-in-Ticks-clause-picked_at_loc : goal.returns-in-Ticks-clause-picked_at_loc
+returns-in-Ticks-clause-picked_at_loc g c = λ pick e. absurd (cc (c.in-Ticks.is, c.meaning_of.ensures.picked_at_loc pick e))
+
+pub returns-in-Database-clause-picked_at_loc : goal.returns-in-Database-clause-picked_at_loc
+returns-in-Database-clause-picked_at_loc g c = λ pick e.
+    loc_picked_as g.D.Disk.seen g.D.Disk.left_by pick c.in-Database.what c.args.self.now.database c.serve_database.new.self.database c.serve_database.result (sym c.in-Database.is ∙ c.meaning_of.ensures.picked_at_loc pick e) c.serve_database.ensures.picked
