@@ -25,7 +25,8 @@ holds() {
     fi
 }
 
-# What the example prints is what its row wants, and the disk of its server is the one that an undisturbed run leaves.
+# What the example prints is what its row wants, and the disks of its nodes are those that an undisturbed run leaves: node-0 is the
+# location database's, node-1 the server's.
 sed -e '1,/^----$/d' -e '/^---- wire$/,$d' tests/rows/example_open_close.row > "$work/text"
 fresh() {
     rm -rf "$work/disks"
@@ -36,9 +37,14 @@ status=0
 "$program" replay --disks "$work/disks" < examples/open_close.afs > "$work/out" || status=$?
 holds 'an undisturbed run' [ "$status" = 0 ]
 holds 'its text' cmp -s "$work/text" "$work/out"
-cp "$work/disks/node-1" "$work/whole"
+cp -r "$work/disks" "$work/whole"
 
-# A closed stream isn't taken for a disk: the run has the fault of that stream, and its disk is whole, or was never made.
+# Both disks are whole.
+are_whole() {
+    cmp -s "$work/whole/node-0" "$work/disks/node-0" && cmp -s "$work/whole/node-1" "$work/disks/node-1"
+}
+
+# A closed stream isn't taken for a disk: the run has the fault of that stream, and its disks are whole, or were never made.
 closed() {
     name=$1
     want=$2
@@ -56,8 +62,8 @@ closed() {
     esac
     holds "closed: $name: status $status, wanted $want" [ "$status" = "$want" ]
     case $disk in
-    whole) holds "closed: $name: the disk" cmp -s "$work/whole" "$work/disks/node-1" ;;
-    none) holds "closed: $name: no disk" [ ! -e "$work/disks/node-1" ] ;;
+    whole) holds "closed: $name: the disks" are_whole ;;
+    none) holds "closed: $name: no disk" [ -z "$(ls "$work/disks")" ] ;;
     esac
 }
 closed input 4 none
@@ -80,30 +86,35 @@ outside() {
     fresh
     printf 'kept outside' > "$work/outside"
 }
-outside
-ln -s "$work/outside" "$work/disks/node-1"
-refused 'a symbolic link'
-holds 'a symbolic link: its file' [ "$(cat "$work/outside")" = 'kept outside' ]
-outside
-ln "$work/outside" "$work/disks/node-1"
-refused 'a second name'
-holds 'a second name: its file' [ "$(cat "$work/outside")" = 'kept outside' ]
+for node in node-0 node-1; do
+    outside
+    ln -s "$work/outside" "$work/disks/$node"
+    refused "$node: a symbolic link"
+    holds "$node: a symbolic link: its file" [ "$(cat "$work/outside")" = 'kept outside' ]
+    outside
+    ln "$work/outside" "$work/disks/$node"
+    refused "$node: a second name"
+    holds "$node: a second name: its file" [ "$(cat "$work/outside")" = 'kept outside' ]
+    fresh
+    ln -s "$work/missing" "$work/disks/$node"
+    refused "$node: a symbolic link to nothing"
+    holds "$node: a symbolic link to nothing: nothing was made" [ ! -e "$work/missing" ]
+    fresh
+    mkdir "$work/disks/$node"
+    refused "$node: a folder in the place of a disk"
+    fresh
+    mkfifo "$work/disks/$node"
+    refused "$node: a pipe in the place of a disk"
+done
+
+# Disks that were there are begun anew, whichever node's they were.
 fresh
-ln -s "$work/missing" "$work/disks/node-1"
-refused 'a symbolic link to nothing'
-holds 'a symbolic link to nothing: nothing was made' [ ! -e "$work/missing" ]
-fresh
-mkdir "$work/disks/node-1"
-refused 'a folder in the place of a disk'
-fresh
-mkfifo "$work/disks/node-1"
-refused 'a pipe in the place of a disk'
-fresh
-cp "$work/whole" "$work/disks/node-1"
+cp "$work/whole/node-1" "$work/disks/node-0"
+cp "$work/whole/node-0" "$work/disks/node-1"
 status=0
 "$program" replay --disks "$work/disks" < examples/open_close.afs > "$work/out" || status=$?
-holds 'a disk that was there' [ "$status" = 0 ]
-holds 'a disk that was there: its bytes' cmp -s "$work/whole" "$work/disks/node-1"
+holds 'disks that were there' [ "$status" = 0 ]
+holds 'disks that were there: their bytes' are_whole
 
 # While a script is played somebody removes the folder, or cuts the file: the run ends with a fault of the disk, or its history
 # has one. The script is long, and is written into a pipe, so that the run is in its middle.
@@ -207,12 +218,12 @@ at_end 6 all cut_short
 holds "$name: its line" [ "$(cat "$work/err")" = 'disk fault' ]
 holds "$name: the history alone" cmp -s "$work/history" "$work/out"
 
-# Behind a sink that failed the script is played on, with all that its disk keeps. That is read before the final part is written, so
+# Behind a sink that failed the script is played on, with all that its disks keep. The server's is read before the final part is written, so
 # a failure there is what is told.
 name='a reader that went away'
 at_end 5 away true
 holds "$name: its line" [ "$(cat "$work/err")" = 'write fault' ]
-holds "$name: the disk" cmp -s "$work/whole" "$work/disks/node-1"
+holds "$name: the disks" are_whole
 name='a reader that went away, and a disk that fails at the end'
 at_end 6 away cut_short
 holds "$name: its line" [ "$(cat "$work/err")" = 'disk fault' ]

@@ -1,9 +1,11 @@
-"""Makes a script of one server from a seed: python3 tests/generate.py KIND SEED PROGRAM.
+"""Makes a script from a seed: python3 tests/generate.py KIND SEED PROGRAM.
 
-The kinds: `events`, one client or none, whose messages are lost, repeated, reordered and time out, and which crashes and begins again;
-`disks`, the same with a server that crashes, and whose disk stops it or fails; `acts`, every act on a tree of directories, files and
-links with access lists and users; `caches`, up to 16 clients with small caches, and a clock that passes the ends of promises.
-About one script in eight of `events` and `acts` is spoiled in one place, so that it may be none.
+The kinds of one server: `events`, one client or none, whose messages are lost, repeated, reordered and time out, and which crashes
+and begins again; `disks`, the same with a server and a location database that crash, and whose disks stop or fail; `acts`, every act
+on a tree of directories, files and links with access lists and users; `caches`, up to 16 clients with small caches, and a clock that
+passes the ends of promises. Those of up to eight: `servers`, volumes on several of them, clients, and all these accidents at each
+node; `asks`, acts on volumes that the script doesn't have, or on copies that no volume has, and accidents of the location database.
+About one script in eight of `events`, `acts` and `asks` is spoiled in one place, so that it may be none.
 
 PROGRAM is a program that plays scripts, as the built one. It is asked how far a script goes: how many messages were sent, and
 which lines it refuses. What it prints beside that plays no part, and nothing here says what is right: tests/seeds.sh compares.
@@ -27,14 +29,16 @@ WRITERS = ["close"] * 6 + ["make", "mkdir", "rm", "mv"] * 2 + ["rmdir", "ln", "s
 
 
 class Kind:
-    """What scripts of a kind have."""
+    """What scripts of a kind have, and how many of their acts ask for a volume that isn't there."""
 
-    def __init__(self, clients, caches, disks, trees, spoiled):
+    def __init__(self, clients, caches, disks, trees, spoiled, servers=(1,), asks=0.02):
         self.clients = clients
         self.caches = caches
         self.disks = disks
         self.trees = trees
         self.spoiled = spoiled
+        self.servers = servers
+        self.asks = asks
 
 
 KINDS = {
@@ -42,6 +46,8 @@ KINDS = {
     "disks": Kind([1, 1, 2, 3], [64], True, 0.3, 0),
     "acts": Kind([1, 1, 2, 3], [64, 8, 3], True, 0.9, 0.125),
     "caches": Kind([1, 2, 3, 4, 6, 16], [1, 2, 3, 4, 6, 8, 16, 64], True, 0.5, 0),
+    "servers": Kind([1, 2, 3, 4], [64, 16, 3], True, 0.4, 0, (1, 2, 3, 4, 5, 6, 7, 8), 0.05),
+    "asks": Kind([1, 1, 2, 3], [64, 3], True, 0.2, 0.125, (1, 1, 2, 3, 8), 0.5),
 }
 
 
@@ -53,7 +59,8 @@ class Script:
         self.lines = lines
         self.events = []
         self.sent = 0
-        self.is_down = False
+        self.down = set()
+        self.called = {}
 
     def text(self):
         return "\n".join([*self.lines, "schedule", *self.events, "end"]) + "\n"
@@ -70,21 +77,26 @@ class Script:
             del self.lines[int(told.split()[2].rstrip(":")) - 1]
 
     def look(self):
-        """How many messages were sent by now, and whether the server is down."""
-        self.is_down = False
+        """How many messages were sent by now, which nodes are down, and whom each node called last."""
         self.sent = 0
-        for line in self.play().stdout.split(b"\n"):
-            if line.startswith(b"sent "):
+        self.down = set()
+        self.called = {}
+        for line in self.play().stdout.decode().split("\n"):
+            words = line.split(" ")
+            if words[0] == "sent":
                 self.sent += 1
-            elif line in (b"crash s1", b"fault s1", b"full s1"):
-                self.is_down = True
-            elif line.startswith(b"restart s1 "):
-                self.is_down = False
+                if words[4] == "call":
+                    self.called[words[2]] = words[3]
+            elif words[0] in ("crash", "fault", "full"):
+                self.down.add(words[1])
+            elif words[0] == "restart":
+                self.down.discard(words[1])
 
 
 def head(rng, kind):
     clients = rng.choice(kind.clients)
-    lines = ["cell 1", "servers 1"]
+    servers = rng.choice(kind.servers)
+    lines = ["cell 1", f"servers {servers}"]
     if clients or rng.random() < 0.5:
         lines.append(f"clients {clients}")
     if rng.random() < 0.7:
@@ -94,35 +106,52 @@ def head(rng, kind):
     for client in range(1, clients + 1):
         if rng.random() < 0.5 * kind.trees:
             lines.append(f"user c{client} {rng.choice(['amy', 'bob', 'carol', 'guest'])}")
-    return clients, lines
+    return servers, clients, lines
 
 
-def tree(rng, kind):
-    """Set-up lines, and the paths of directories and files."""
-    lines = [f"volume proj s1 {rng.choice([12, 30, 1000, 10000, 10000])}"]
+def tree(rng, kind, name):
+    """Set-up lines of a volume, and the paths of its directories and files."""
+    lines = []
     directories = []
     if rng.random() < kind.trees:
         directories = rng.choice([[], ["d"], ["d", "e"], ["d", "d/f"], ["d", "e", "d/f"]])
-    lines += [f"dir proj/{path}" for path in directories]
+    lines += [f"dir {name}/{path}" for path in directories]
     files = []
     for number in range(rng.choice([1, 2, 3, 6, 20])):
         path = rng.choice(["", *(f"{directory}/" for directory in directories)]) + f"f{number}"
         contents = rng.choice(["hex:616263", "hex:", f"fill:{rng.choice([0, 1, 100, 1024, 2000])}:61"])
-        lines.append(f"file proj/{path} {contents}")
+        lines.append(f"file {name}/{path} {contents}")
         files.append(path)
     if rng.random() < 0.5 * kind.trees:
-        lines.append(f"link proj/l hex:{rng.choice(['78797a', '6430'])}")
+        lines.append(f"link {name}/l hex:{rng.choice(['78797a', '6430'])}")
     if rng.random() < 0.5 * kind.trees:
         path = rng.choice(["", *(f"/{directory}" for directory in directories)])
-        lines.append(f"acl proj{path} hex:{rng.choice(ACCESS_LISTS).hex()}")
+        lines.append(f"acl {name}{path} hex:{rng.choice(ACCESS_LISTS).hex()}")
     return lines, directories, files
+
+
+def trees(rng, kind, servers):
+    """Volumes at these servers, with what is laid in them: the lines, and the paths of each volume by its name and number."""
+    count = 1 if max(kind.servers) == 1 else rng.choice([1, 2, servers, servers, servers + 2])
+    lines = []
+    laid = []
+    paths = []
+    for number in range(count):
+        name = ["proj", "docs", "a_b-c.d"][number] if number < 3 else f"v{number}"
+        lines.append(f"volume {name} s{rng.randrange(1, servers + 1)} {rng.choice([12, 30, 1000, 10000, 10000])}")
+        more, directories, files = tree(rng, kind, name)
+        laid += more
+        paths.append(Paths(rng, name, 536870912 + number, directories, files))
+    return lines + laid, paths
 
 
 class Paths:
     """Paths of a tree, and some that aren't there."""
 
-    def __init__(self, rng, directories, files):
+    def __init__(self, rng, volume, number, directories, files):
         self.rng = rng
+        self.volume = volume
+        self.number = number
         self.directories = directories
         self.files = files
         self.names = [path.split("/")[-1] for path in files][:8] + ["d", "e", "l", "x", "y", "a%25b", "f0"]
@@ -131,10 +160,10 @@ class Paths:
         rng = self.rng
         if rng.random() < 0.1:
             vnode, unique = rng.choice(FIDS)
-            return f"@536870912.{vnode}.{unique}"
+            return f"@{self.number}.{vnode}.{unique}"
         if rng.random() < 0.45 and self.files:
-            return "proj/" + rng.choice(self.files)
-        parts = ["proj"]
+            return f"{self.volume}/{rng.choice(self.files)}"
+        parts = [self.volume]
         if rng.random() < 0.4 and self.directories:
             parts.append(rng.choice(self.directories))
         if rng.random() < 0.9:
@@ -142,7 +171,37 @@ class Paths:
         return "/".join(parts)
 
     def directory(self):
-        return self.rng.choice(["proj", *("proj/" + path for path in self.directories), self.any()])
+        return self.rng.choice([self.volume, *(f"{self.volume}/{path}" for path in self.directories), self.any()])
+
+
+class Forest:
+    """The paths of all volumes, and of volumes that aren't there."""
+
+    def __init__(self, rng, kind, volumes):
+        self.rng = rng
+        self.asks = kind.asks
+        self.volumes = volumes
+
+    def unknown(self):
+        rng = self.rng
+        known = rng.choice(self.volumes).volume
+        names = ["nosuch", f"{known}.readonly", f"{known}.backup", f"{known}.readonly.backup", ".readonly", "007", "n" * 32, "%FF"]
+        number = rng.choice([0, 7, 536870911, self.volumes[-1].number + 1, 4294967295])
+        name = rng.choice(names)
+        return rng.choice([name, f"{name}/f0", f"{name}/d/x", f"@{number}.1.1", f"@{number}.2.2"])
+
+    def any(self):
+        return self.unknown() if self.rng.random() < self.asks else self.rng.choice(self.volumes).any()
+
+    def two(self):
+        """Two paths, mostly of one volume."""
+        if self.rng.random() < 0.7:
+            volume = self.rng.choice(self.volumes)
+            return f"{volume.any()} {volume.any()}"
+        return f"{self.any()} {self.any()}"
+
+    def directory(self):
+        return self.unknown() if self.rng.random() < self.asks else self.rng.choice(self.volumes).directory()
 
 
 def act(rng, paths):
@@ -154,7 +213,7 @@ def act(rng, paths):
                     f"fill:{rng.choice([1024, 5000, 20000])}:41"]
         return f"close {paths.any()} {rng.choice(contents)}"
     if word in ("mv", "ln"):
-        return f"{word} {paths.any()} {paths.any()}"
+        return f"{word} {paths.two()}"
     if word == "symlink":
         return f"symlink {paths.any()} hex:616263"
     if word == "chmod":
@@ -164,18 +223,48 @@ def act(rng, paths):
     return word if word == "giveup" else f"{word} {paths.any()}"
 
 
-def accident(rng, kind, clients):
-    """Something that no step asks for."""
-    client = f"c{rng.randrange(1, clients + 1)}" if clients else None
-    events = [f"tick {rng.choice([1, 10, 100, 3000, 7199, 7200, 7300])}", f"deliver {1 + rng.randrange(10**6)}", "wake s1"]
-    if client:
-        events += [f"crash {client}", f"restart {client}", f"timeout {client} s1", f"timeout s1 {client}"]
-    if kind.disks:
-        events += [f"crash s1 {rng.randrange(4)}", "restart s1", f"stop s1 {rng.randrange(6)} {rng.randrange(4)}", f"fail s1 {rng.randrange(1, 6)}"]
-    return rng.choice(events)
+class Nodes:
+    """The nodes of a cell, and what no step asks them for."""
+
+    def __init__(self, rng, kind, servers, clients):
+        self.rng = rng
+        self.has_disks = kind.disks
+        self.asks = kind.asks
+        self.servers = [f"s{number}" for number in range(1, servers + 1)]
+        self.clients = [f"c{number}" for number in range(1, clients + 1)]
+
+    def client(self):
+        return self.rng.choice(self.clients)
+
+    def with_disk(self):
+        """A server, or the location database, the oftener the more it is asked."""
+        return "loc" if self.rng.random() < self.asks else self.rng.choice(self.servers)
+
+    def accident(self):
+        """Something that no step asks for."""
+        rng = self.rng
+        events = [f"tick {rng.choice([1, 10, 100, 3000, 7199, 7200, 7300])}", f"deliver {1 + rng.randrange(10**6)}",
+                  f"wake {rng.choice(self.servers)}"]
+        if self.clients:
+            client = self.client()
+            events += [f"crash {client}", f"restart {client}", f"timeout {client} {self.with_disk()}",
+                       f"timeout {rng.choice(self.servers)} {client}"]
+        if self.has_disks:
+            node = self.with_disk()
+            events += [f"crash {node} {rng.randrange(4)}", f"restart {node}", f"stop {node} {rng.randrange(6)} {rng.randrange(4)}",
+                       f"fail {node} {rng.randrange(1, 6)}"]
+        return rng.choice(events)
+
+    def timeout(self, called):
+        """A call that may wait: mostly the last one of its node."""
+        rng = self.rng
+        caller = rng.choice([*self.clients, *self.servers])
+        if caller in called and rng.random() < 0.8:
+            return f"timeout {caller} {called[caller]}"
+        return rng.choice([f"timeout {self.client()} {self.with_disk()}", f"timeout {rng.choice(self.servers)} {self.client()}"])
 
 
-def schedule(rng, kind, clients, script):
+def schedule(rng, kind, nodes, script):
     """Plays on: messages mostly come in order, some are lost, late or repeated."""
     named = set()
     wild = rng.choice([0, 0.02, 0.1, 0.3])
@@ -186,7 +275,7 @@ def schedule(rng, kind, clients, script):
         flying = [place for place in range(1, script.sent + 1) if place not in named]
         chance = rng.random()
         if chance < wild:
-            script.events.append(accident(rng, kind, clients))
+            script.events.append(nodes.accident())
         elif chance < 0.62 and flying:
             place = flying[0] if rng.random() < 0.7 else rng.choice(flying)
             named.add(place)
@@ -196,19 +285,19 @@ def schedule(rng, kind, clients, script):
             place = 1 + rng.randrange(script.sent)
             named.add(place)
             script.events.append(f"deliver {place}")
-        elif chance < 0.9 and clients:
-            script.events.append(f"act c{rng.randrange(1, clients + 1)}")
-        elif chance < 0.94 and clients:
-            client = f"c{rng.randrange(1, clients + 1)}"
-            script.events.append(rng.choice([f"timeout {client} s1", f"timeout s1 {client}"]))
-        elif chance < 0.97 and script.is_down:
-            script.events.append("restart s1")
+        elif chance < 0.9 and nodes.clients:
+            script.events.append(f"act {nodes.client()}")
+        elif chance < 0.94 and nodes.clients:
+            script.events.append(nodes.timeout(script.called))
+        elif chance < 0.97 and script.down:
+            script.events.append(f"restart {rng.choice(sorted(script.down))}")
         elif chance < 0.98:
             script.events.append("drain")
             script.look()
             named.update(range(1, script.sent + 1))
     if rng.random() < 0.6:
-        script.events += ["restart s1"] * kind.disks + [f"restart c{client}" for client in range(1, clients + 1)] + ["drain"]
+        ends = ["loc", *nodes.servers] if kind.disks else []
+        script.events += [f"restart {node}" for node in [*ends, *nodes.clients]] + ["drain"]
 
 
 def spoil(rng, text):
@@ -224,7 +313,7 @@ def spoil(rng, text):
         lines[place] += rng.choice([" ", " x", " 0", "0", "%"])
     elif how == 3:
         words = lines[place].split(" ")
-        words[rng.randrange(len(words))] = rng.choice(["", "0", "007", "4294967296", "c2", "s2", "a1", "loc", "hex:6", "proj/..", "@1.2", "x"])
+        words[rng.randrange(len(words))] = rng.choice(["", "0", "007", "4294967296", "9", "c2", "s2", "a1", "loc", "hex:6", "proj/..", "@1.2", "x"])
         lines[place] = " ".join(words)
     elif how == 4 and lines[place]:
         letter = rng.randrange(len(lines[place]))
@@ -237,15 +326,16 @@ def spoil(rng, text):
 def make(name, seed, program):
     kind = KINDS[name]
     rng = random.Random(f"{name} {seed}")
-    clients, lines = head(rng, kind)
-    more, directories, files = tree(rng, kind)
-    paths = Paths(rng, directories, files)
+    servers, clients, lines = head(rng, kind)
+    more, volumes = trees(rng, kind, servers)
+    paths = Forest(rng, kind, volumes)
+    nodes = Nodes(rng, kind, servers, clients)
     tasks = []
     if clients:
-        tasks = [f"do c{rng.randrange(1, clients + 1)} {act(rng, paths)}" for _ in range(rng.choice([3, 10, 30, 60]))]
+        tasks = [f"do {nodes.client()} {act(rng, paths)}" for _ in range(rng.choice([3, 10, 30, 60]))]
     script = Script(program, [*lines, *more, *tasks])
     script.clean()
-    schedule(rng, kind, clients, script)
+    schedule(rng, kind, nodes, script)
     text = script.text()
     return spoil(rng, text) if rng.random() < kind.spoiled else text
 

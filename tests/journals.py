@@ -1,9 +1,9 @@
-"""Reads the disk of a server that was killed, beside that of the same run that ended.
+"""Reads the disk of a node that was killed, beside that of the same run that ended.
 
 python3 tests/journals.py WHOLE KILLED: the two files. A record of a journal is a gate, 1 where the record counts, two words with
 the length and the number of the record, its body, and the gate of the next; the records that count are cut off at the first
 that doesn't (docs/formats.md, Journal). What was killed must have the first of the whole run's records, each as it stands
-there, and behind them a torn tail: a closed gate and as much of the next record as had been written, which a server that
+there, and behind them a torn tail: a closed gate and as much of the next record as had been written, which a node that
 takes the disk up cuts off. It prints how many records count and how long the tail is.
 """
 

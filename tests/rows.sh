@@ -6,10 +6,10 @@
 #   error TEXT, where a line is told on standard error
 #   what is printed
 #   ---- wire, where messages are sent, and what is printed with --wire
-#   ---- disk, in some rows, and the bytes that the server's disk has at the end
+#   ---- disk N, in some rows, for one node or several, and the bytes that this node's disk has at the end
 # tests/refusals.table has the inputs that are no script. Then come words that are no form of the program, a source and a
-# sink that fail, disks in a folder, contents at the limit of a close, a directory and a volume that are full, and a
-# script at the limit of its lines. Nothing here writes what is wanted of a row. tests/seeds.sh compares made scripts with
+# sink that fail, disks in a folder, contents at the limit of a close, a directory and a volume that are full, a disk of
+# the location database that is full, and scripts at the limits of their lines and volumes. Nothing here writes what is wanted of a row. tests/seeds.sh compares made scripts with
 # a reference program.
 # The program is the one that ./afscell or the gate built; AFSCELL names another one.
 set -eu
@@ -75,8 +75,8 @@ take_apart() {
         part == "head" && sub(/^status /, "") { print > (row "/status"); next }
         part == "head" && sub(/^error /, "") { print > (row "/error"); next }
         part != "wire" && $0 == "---- wire" { part = "wire"; printf "" > (row "/wire"); next }
-        part == "wire" && $0 == "---- disk" { part = "disk"; next }
-        part == "wire" || part == "disk" { print > (row "/" part); next }
+        part ~ /^wire|^disk/ && sub(/^---- disk /, "") { part = "disk-" $0; next }
+        part ~ /^wire|^disk/ { print > (row "/" part); next }
         { part = "text"; print > (row "/text") }
         END { exit part == "" }
     ' "$1"
@@ -104,23 +104,24 @@ row() {
     play "$name" "$script" replay
     if [ -f "$work/row/wire" ]; then wanted "$want" "$work/row/wire" "$error"; fi
     play "$name with --wire" "$script" replay --wire
-    if [ -f "$work/row/disk" ] || is_of_files "$script"; then
+    disks=$(sed -n 's/^---- disk //p' "$1")
+    if [ -n "$disks" ] || is_of_files "$script"; then
         rm -rf "$work/node"
         mkdir "$work/node"
         wanted "$want" "$work/row/text" "$error"
         play "$name over files" "$script" replay --disks "$work/node"
     fi
-    if [ -f "$work/row/disk" ]; then
-        od -An -v -tx1 "$work/node/node-1" | tr -d ' \n' > "$work/row/left"
-        tr -d '\n' < "$work/row/disk" > "$work/row/bytes"
-        if cmp -s "$work/row/bytes" "$work/row/left"; then pass; else fail "$name: the bytes of its disk"; fi
-    fi
+    for node in $disks; do
+        od -An -v -tx1 "$work/node/node-$node" | tr -d ' \n' > "$work/row/left"
+        tr -d '\n' < "$work/row/disk-$node" > "$work/row/bytes"
+        if cmp -s "$work/row/bytes" "$work/row/left"; then pass; else fail "$name: the bytes of disk $node"; fi
+    done
 }
 
 # Whether a disk goes down in this script, and one in a file keeps of it what one in memory does. A file keeps all that was
 # written, as a disk in memory does by pick 1.
 is_of_files() {
-    grep -Eq '^(crash|stop|fail) s' "$1" && ! grep -Eq '^stop s[1-8] [0-9]+ [023]$' "$1"
+    grep -Eq '^(crash|stop|fail) (s|loc)' "$1" && ! grep -Eq '^stop (s[1-8]|loc) [0-9]+ [023]$' "$1"
 }
 
 # Writes each input of the table to a file of $work/refusals, and a line with its number, what is told and its name to
@@ -233,15 +234,17 @@ else
     echo 'skipped: a sink that fails (there is no /dev/full)'
 fi
 
-# Disks in a folder, in each spelling: the text is the same, and each server's disk lies there. A folder that isn't there
-# can't lend one.
+# Disks in a folder, in each spelling: the text is the same, and the disks of the location database and of the server lie there, and
+# no other. A folder that isn't there can't lend one.
 take_apart tests/rows/example_open_close.row
 wanted 0 "$work/row/text" ''
 mkdir "$work/disks"
 for words in "--disks $work/disks" "--disks=$work/disks"; do
     rm -f "$work/disks"/*
     play 'disks in a folder' examples/open_close.afs replay $words
+    if [ -s "$work/disks/node-0" ]; then pass; else fail 'disks in a folder: there is no disk of the location database'; fi
     if [ -s "$work/disks/node-1" ]; then pass; else fail 'disks in a folder: there is no disk of the server'; fi
+    if [ "$(ls "$work/disks")" = "$(printf 'node-0\nnode-1')" ]; then pass; else fail 'disks in a folder: there are others'; fi
 done
 wanted 6 /dev/null 'disk fault'
 play 'disks in a folder that is not there' examples/open_close.afs replay --disks "$work/none"
@@ -326,6 +329,54 @@ last_name() {
 }
 last_name 'a directory of 1,024 names' 1023 0 27
 last_name 'a volume of 4,096 vnodes' 1019 3 108
+
+# The location database begins again until its disk is full. A journal begins with one byte, and each record has nine more. Its first
+# record has 40 bytes, and 44 and the name for the one volume; the record of a start has 32. So 1,596 starts fit into 65,536
+# bytes, and the next one doesn't.
+starts=$(((65536 - 1 - (40 + 48 + 9)) / (32 + 9)))
+{
+    printf 'cell 1\nservers 1\ncapacity 65536\nvolume proj s1 1000\nschedule\n'
+    awk -v n=$((starts + 1)) 'BEGIN { for (i = 1; i <= n; i++) print "crash loc 0\nrestart loc" }'
+    printf 'crash loc 0\nrestart loc\nend\n'
+} > "$work/full.afs"
+{
+    awk -v n="$starts" 'BEGIN {
+        for (i = 1; i <= n; i++) printf "entry %d loc\ncrash loc\nentry %d loc\nrestart loc %d\n", 2 * i - 1, 2 * i, i + 1
+        printf "entry %d loc\ncrash loc\nentry %d loc\nfull loc\n", 2 * n + 1, 2 * n + 2
+        printf "entry %d none\nvoid\nentry %d loc\nfull loc\n", 2 * n + 3, 2 * n + 4
+    }'
+    printf 'final\nvolume s1 536870912 proj 0 0\nvnode 536870912.1.1 2 1 1 d:\nend\n'
+} > "$work/full.text"
+wanted 0 "$work/full.text" ''
+play 'a disk of the location database that is full' "$work/full.afs" replay
+rm -f "$work/disks"/*
+play 'the same in a folder' "$work/full.afs" replay --disks "$work/disks"
+want=$((1 + 40 + 48 + 9 + starts * (32 + 9)))
+if [ "$(wc -c < "$work/disks/node-0")" -eq "$want" ]; then pass; else fail "its disk has not $want bytes"; fi
+
+# Each of eight servers has as many volumes as it may have. One more is refused, at the first server and at the last.
+at_servers() {
+    printf 'cell 1\nservers 8\n'
+    awk 'BEGIN { for (i = 0; i < 512; i++) printf "volume v%d s%d 1\n", i, i % 8 + 1 }'
+    printf '%sschedule\nend\n' "$1"
+}
+at_servers '' > "$work/volumes.afs"
+{
+    echo final
+    awk 'BEGIN {
+        for (s = 1; s <= 8; s++) for (i = s - 1; i < 512; i += 8)
+            printf "volume s%d %d v%d 0 0\nvnode %d.1.1 2 1 1 d:\n", s, 536870912 + i, i, 536870912 + i
+    }'
+    echo end
+} > "$work/volumes.text"
+wanted 0 "$work/volumes.text" ''
+play 'as many volumes as a cell may have' "$work/volumes.afs" replay
+wanted 3 /dev/null 'script: line 515: Limit'
+for server in s1 s8; do
+    at_servers "volume more $server 1
+" > "$work/volumes.afs"
+    play "one volume more at $server" "$work/volumes.afs" replay
+done
 
 # At the limit of a script's lines: 199,999 good ones and the end, and one more.
 at_limit() {

@@ -322,7 +322,7 @@ TRIALS = (
     ("a private function for a proof", replaced("`FileServer::handle`, clause `step`", "`FileServer::take`"), "is not public"),
     ("a law that is none", replaced("`calls_run_once`", "`calls_run_twice`"), "there is no calls_run_twice"),
     ("a row that is not there", replaced("`call_given_twice`", "`call_given_thrice`"), "there is no call_given_thrice"),
-    ("a line of refusals that is not there", replaced("`two servers`", "`three servers`"), "there is no three servers"),
+    ("a line of refusals that is not there", replaced("`nine servers`", "`ten servers`"), "there is no ten servers"),
     ("an empty cell", lambda text: re.sub(r"\| none \|", "|  |", text, count=1), "or an empty one"),
     ("a cell too few", lambda text: re.sub(r"\| none \|", "|", text, count=1), "has not 5 cells"),
     ("a section that is not there", replaced("(cell.md#", "(cell.md#no-"), "has no section no-"),

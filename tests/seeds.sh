@@ -2,12 +2,12 @@
 # Compares made scripts, played by the built program and by a reference program: tests/seeds.sh REFERENCE COUNT [FIRST [KIND..]].
 # REFERENCE is a command that plays a script as the program does, as 'python3 FOLDER/afscell.py'; COUNT scripts of each kind are
 # made by tests/generate.py, with the seeds from FIRST, or 1, on. Each is played without and with --wire; output, status and the
-# line on standard error have to be the same. Every tenth script of `disks` is played over disks in a folder besides, by both, and
-# the disks have to have the same bytes then. A reference program that reads a copy of a disk at the end leaves there what a record
-# has written whose second or third device call failed, where this one cuts it: such a script differs in its disk alone.
-# It is no part of the gate: the reference program isn't in the repository.
-# A reference program that has a location database asks it for a volume that the script doesn't have, and this one answers 363524 at
-# once: a spoiled script that names another volume in an act may differ so, and in nothing else.
+# line on standard error have to be the same. Every tenth script of `disks`, `servers` and `asks` is played over disks in a folder
+# besides, by both, and the disks of the location database and of each server have to have the same bytes then. A reference program
+# that reads a copy of a disk at the end leaves there what a record has written whose second or third device call failed or was
+# stopped, where this one cuts it: such a script differs in that disk alone.
+# It is no part of the gate: the reference program isn't in the repository. One that plays more than this program, as lines of
+# administrators, may differ in a spoiled script that has such a line, and in nothing else.
 # The program is the one that ./afscell or the gate built; AFSCELL names another one.
 set -eu
 
@@ -16,7 +16,7 @@ program=${AFSCELL:-crates/afs_top/out/afs_top}
 reference=$1
 count=$2
 first=${3:-1}
-if [ $# -gt 3 ]; then shift 3; kinds=$*; else kinds='events disks acts caches'; fi
+if [ $# -gt 3 ]; then shift 3; kinds=$*; else kinds='events disks acts caches servers asks'; fi
 
 work=$(mktemp -d)
 trap 'rm -rf "$work"' EXIT
@@ -47,7 +47,7 @@ agree_on_disks() {
     mkdir "$work/want" "$work/got"
     play want $reference replay --disks "$work/want"
     play got "$program" replay --disks "$work/got"
-    cmp -s "$work/want.out" "$work/got.out" && cmp -s "$work/want/node-1" "$work/got/node-1"
+    cmp -s "$work/want.out" "$work/got.out" && diff -r "$work/want" "$work/got" > /dev/null
 }
 
 differ() {
@@ -70,10 +70,12 @@ for kind in $kinds; do
         elif ! agree --wire; then differ 'with --wire'
         else equal=$((equal + 1)); fi
         if [ "$(cat "$work/want.status")" != 0 ]; then none=$((none + 1)); fi
-        if [ "$kind" = disks ] && [ $((seed % 10)) = 0 ]; then
+        case $kind,$((seed % 10)) in
+        disks,0 | servers,0 | asks,0)
             disks=$((disks + 1))
             agree_on_disks || differ 'over disks in a folder'
-        fi
+            ;;
+        esac
         seed=$((seed + 1))
     done
     echo "$kind: $equal of $count equal, of which $none are no script; $disks compared over disks; unequal: $unequal"
