@@ -15,7 +15,6 @@ use Rattle.afs_records.proofs.Forms.{bound}
 use Rattle.afs_fold.specs.Effects.{effect_by, vanished_lines}
 use Rattle.afs_fold.specs.Fold.{body_taken, first_folded, fold_all, fold_from, folded}
 use Rattle.afs_fold.specs.Laws.{HasOpenVolumes, PlainRecordsFoldAlike}
-use Rattle.afs_fold.specs.ServerLines.{plain_lines}
 
 -- ---- the fold
 
@@ -68,7 +67,7 @@ none_vanish server [] all = refl
 none_vanish server (p ∷ ps) all = rw (unflagged p.1 all.0) (none_vanish server ps all.1)
 
 told_alike : (server : Node) (h : RecordHead) (body : RecordBody) (d e : Durable) → HasOpenVolumes d → landed.body_taken body d ≡ Some e →
-    effect_by server h body d ≡ plain_lines (landed.effect_by server h body d)
+    effect_by server h body d ≡ landed.effect_by server h body d
 told_alike server h (bodies.First volumes) d e all is = refl
 told_alike server h (bodies.Change id counter unique vnodes removed) d e all is = refl
 told_alike server h (bodies.Boot boot) d e all is = none_vanish server d.volumes all
@@ -81,7 +80,7 @@ told_alike server h (bodies.Forward _ _) d e all is = absurd cc
 told_alike server h bodies.Stamp d e all is = absurd cc
 
 record_told_alike : (server : Node) (r : StoreRecord) (d e : Durable) → HasOpenVolumes d → landed.folded r d ≡ Some e →
-    effect_by server r.head r.body d ≡ plain_lines (landed.effect_by server r.head r.body d)
+    effect_by server r.head r.body d ≡ landed.effect_by server r.head r.body d
 unfolding landed.folded
 record_told_alike server r d e all h =
     let a = bound (landed.body_taken r.body d) (λ f. Some (with_journal (placing d r).journal (noted r.head f))) e h in

@@ -7,6 +7,7 @@ use Rattle.afs_num.specs.declared.histories.Version.{Version}
 use Rattle.afs_num.specs.declared.records.RecordBody.TheVariants as bodies
 use Rattle.afs_num.specs.declared.types.Node.TheVariants.{Server}
 use Rattle.afs_xdr.specs.Words.{word, words, opaque, pad, word_at, opaque_at, counted_at}
+use Rattle.afs_history.specs.declared.lines.Line.TheVariants as lines
 use Rattle.afs_ideal.specs.AccessLists as acls
 use Rattle.afs_ideal.specs.Directories as directories
 use Rattle.afs_ideal.specs.Images.{value_of}
@@ -18,9 +19,8 @@ use Rattle.afs_records.specs.Sound.{is_sound}
 use Rattle.afs_dumps.specs.Restores.{finished}
 use Rattle.afs_dumps.specs.Streams.{dump_at, dump_field, dump_header_field, image_field, live_field, next_at, volume_header_field}
 use Rattle.afs_fold.specs.Deeds.{created}
-use Rattle.afs_fold.specs.Effects.{effect_by}
+use Rattle.afs_fold.specs.Effects.{effect_by, version_lines}
 use Rattle.afs_fold.specs.Fold.{body_taken, first_folded}
-use Rattle.afs_fold.specs.ServerLines.{enable, fence, made, released, vanish, version_lines}
 
 -- ---- a server with one volume, in service, and a forwarding of another
 
@@ -150,26 +150,26 @@ stamps_nothing_first = refl
 abbrev first_version : ℕ → Version
 first_version id = record { fid = record { volume = id; vnode = 1; unique = 1 }; index = 1; data_version = 1; body = shapes.Dir [] }
 
-tells_a_new_one : effect_by (Server 1) no_head (bodies.Flags gone 0) (with_volumes ((gone, fresh) ∷ [])) ≡ made (Server 1) gone 1 ∷ version_lines (first_version gone ∷ []) ++ enable gone (Server 1) ∷ []
+tells_a_new_one : effect_by (Server 1) no_head (bodies.Flags gone 0) (with_volumes ((gone, fresh) ∷ [])) ≡ lines.Made (Server 1) gone 1 ∷ version_lines (first_version gone ∷ []) ++ lines.Enable gone (Server 1) ∷ []
 tells_a_new_one = refl
 
-tells_a_fence : effect_by (Server 1) no_head (bodies.Flags home 2) at ≡ fence home (Server 1) ∷ []
+tells_a_fence : effect_by (Server 1) no_head (bodies.Flags home 2) at ≡ lines.Fence home (Server 1) ∷ []
 tells_a_fence = refl
 
 tells_no_fence_again : effect_by (Server 1) no_head (bodies.Flags home 3) (with_volumes ((home, flagged_as 2 project) ∷ [])) ≡ []
 tells_no_fence_again = refl
 
-tells_an_end_of_a_fence : effect_by (Server 1) no_head (bodies.Flags home 0) (with_volumes ((home, flagged_as 2 project) ∷ [])) ≡ enable home (Server 1) ∷ []
+tells_an_end_of_a_fence : effect_by (Server 1) no_head (bodies.Flags home 0) (with_volumes ((home, flagged_as 2 project) ∷ [])) ≡ lines.Enable home (Server 1) ∷ []
 tells_an_end_of_a_fence = refl
 
 -- a read-only volume is told at each time, a backup never
 abbrev copy : ℕ → ℕ → Stored
 copy kind flags = record project { volume = record project.volume { kind = kind; flags = flags; release = 7 } }
 
-tells_a_release : effect_by (Server 1) no_head (bodies.Flags gone 0) (with_volumes ((gone, copy 1 3) ∷ [])) ≡ released home gone 7 (Server 1) ∷ []
+tells_a_release : effect_by (Server 1) no_head (bodies.Flags gone 0) (with_volumes ((gone, copy 1 3) ∷ [])) ≡ lines.Released home gone 7 (Server 1) ∷ []
 tells_a_release = refl
 
-tells_a_release_again : effect_by (Server 1) no_head (bodies.Flags gone 0) (with_volumes ((gone, copy 1 0) ∷ [])) ≡ released home gone 7 (Server 1) ∷ []
+tells_a_release_again : effect_by (Server 1) no_head (bodies.Flags gone 0) (with_volumes ((gone, copy 1 0) ∷ [])) ≡ lines.Released home gone 7 (Server 1) ∷ []
 tells_a_release_again = refl
 
 tells_no_release : effect_by (Server 1) no_head (bodies.Flags gone 2) (with_volumes ((gone, copy 1 0) ∷ [])) ≡ []
@@ -179,7 +179,7 @@ tells_no_backup : effect_by (Server 1) no_head (bodies.Flags gone 0) (with_volum
 tells_no_backup = refl
 
 -- a volume that is made with flags 0 accepts stores at once; one with flags, or of another kind, tells nothing
-tells_one_made_at_once : effect_by (Server 1) no_head (bodies.Create gone gone (codes "new") 0 0 1 false) at ≡ made (Server 1) gone 1 ∷ version_lines (first_version gone ∷ []) ++ enable gone (Server 1) ∷ []
+tells_one_made_at_once : effect_by (Server 1) no_head (bodies.Create gone gone (codes "new") 0 0 1 false) at ≡ lines.Made (Server 1) gone 1 ∷ version_lines (first_version gone ∷ []) ++ lines.Enable gone (Server 1) ∷ []
 tells_one_made_at_once = refl
 
 tells_none_made : effect_by (Server 1) no_head (bodies.Create gone gone (codes "new") 0 3 1 true) at ≡ []
@@ -189,7 +189,7 @@ tells_no_copy_made : effect_by (Server 1) no_head (bodies.Create gone home (code
 tells_no_copy_made = refl
 
 -- a read-write volume that goes
-tells_one_gone : effect_by (Server 1) no_head (bodies.Delete home) at ≡ vanish home (Server 1) ∷ []
+tells_one_gone : effect_by (Server 1) no_head (bodies.Delete home) at ≡ lines.Vanish home (Server 1) ∷ []
 tells_one_gone = refl
 
 tells_no_copy_gone : effect_by (Server 1) no_head (bodies.Delete gone) (with_volumes ((gone, copy 1 0) ∷ [])) ≡ []
@@ -198,5 +198,5 @@ tells_no_copy_gone = refl
 -- at a start, by their numbers: those with the flag of delete on salvage
 tells_those_gone :
     effect_by (Server 1) no_head (bodies.Boot 2) (with_volumes ((home, flagged_as 3 project) ∷ (gone, copy 1 3) ∷ (gone + 1, flagged_as 2 project) ∷ (gone + 2, flagged_as 1 project) ∷ []))
-    ≡ vanish home (Server 1) ∷ vanish (gone + 2) (Server 1) ∷ []
+    ≡ lines.Vanish home (Server 1) ∷ lines.Vanish (gone + 2) (Server 1) ∷ []
 tells_those_gone = refl

@@ -12,7 +12,6 @@ use Rattle.afs_records.specs.Sound.{is_sound}
 use Rattle.afs_dumps.specs.Laws.{IsTimed}
 use Rattle.afs_fold.specs.Effects.{effect_of}
 use Rattle.afs_fold.specs.Fold.{folded, fold_all, StandFor}
-use Rattle.afs_fold.specs.ServerLines.{plain_lines}
 
 -- ---- what a server without volume calls keeps on its disk
 
@@ -25,7 +24,7 @@ pub record PlainRecordsFoldAlike : Type 0 where
   pub one : (r : StoreRecord) (d e : Durable) → landed.folded r d ≡ Some e → folded r d ≡ Some e
   pub all : (capacity : ℕ) (records : List (List ℕ)) (d : Durable) → landed.fold_all capacity records ≡ Some d → fold_all capacity records ≡ Some d
   pub told : (server : Node) (r : StoreRecord) (d e : Durable) → HasOpenVolumes d → landed.folded r d ≡ Some e →
-      effect_of server r d ≡ plain_lines (landed.effect_of server r d)
+      effect_of server r d ≡ landed.effect_of server r d
 
 -- ---- one more record
 

@@ -116,6 +116,36 @@ pub enum Line {
         client: Node,
         number: u32,
     },
+    /// The flags of the server's new read-write volume became 0 for the first time; the versions of so many vnodes
+    /// follow.
+    Made {
+        server: Node,
+        volume: u32,
+        count: u32,
+    },
+    /// The flags of the read-write volume at the server were 0, and aren't any more.
+    Fence {
+        volume: u32,
+        server: Node,
+    },
+    /// The flags of the read-write volume at the server became 0.
+    Enable {
+        volume: u32,
+        server: Node,
+    },
+    /// The read-write volume was deleted at the server.
+    Vanish {
+        volume: u32,
+        server: Node,
+    },
+    /// The flags of a read-only volume became 0 at the server. The family is the number of its read-write volume; the
+    /// release counts its releases.
+    Released {
+        family: u32,
+        volume: u32,
+        release: u32,
+        server: Node,
+    },
     /// The location database has locked the volume's entry under this stamp, for this operation.
     Locked {
         volume: u32,

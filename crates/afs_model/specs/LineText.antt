@@ -133,6 +133,24 @@ stop_text node calls pick = codes "stop " ++ (node_text node ++ (codes " " ++ (d
 unfoldable pub fail_text : Node → ℕ → List ℕ
 fail_text node calls = codes "fail " ++ (node_text node ++ (codes " " ++ (decimal calls ++ codes "\n")))
 
+-- ---- volumes at a server
+
+unfoldable pub made_text : Node → ℕ → ℕ → List ℕ
+made_text server volume count = codes "made " ++ (node_text server ++ (codes " " ++ (decimal volume ++ (codes " " ++ (decimal count ++ codes "\n")))))
+
+unfoldable pub fence_text : ℕ → Node → List ℕ
+fence_text volume server = codes "fence " ++ (decimal volume ++ (codes " " ++ (node_text server ++ codes "\n")))
+
+unfoldable pub enable_text : ℕ → Node → List ℕ
+enable_text volume server = codes "enable " ++ (decimal volume ++ (codes " " ++ (node_text server ++ codes "\n")))
+
+unfoldable pub vanish_text : ℕ → Node → List ℕ
+vanish_text volume server = codes "vanish " ++ (decimal volume ++ (codes " " ++ (node_text server ++ codes "\n")))
+
+unfoldable pub released_text : ℕ → ℕ → ℕ → Node → List ℕ
+released_text family volume release server =
+    codes "released " ++ (decimal family ++ (codes " " ++ (decimal volume ++ (codes " " ++ (decimal release ++ (codes " " ++ (node_text server ++ codes "\n")))))))
+
 -- ---- the location database
 
 unfoldable pub locked_text : ℕ → ℕ → ℕ → List ℕ

@@ -7,7 +7,7 @@ use Rattle.afs_num.specs.declared.histories.ReadSource.{ReadSource}
 use Rattle.afs_num.specs.declared.histories.ReadSource.TheVariants.{Cached, Fetched}
 use Rattle.afs_history.specs.declared.lines.Line.{Line}
 use Rattle.afs_history.specs.declared.lines.Line.TheVariants as lines
-use Rattle.afs_model.specs.LineText.{answer_text, change_text, crash_text, drop_all_text, drop_text, fail_text, fault_text, full_text, given_text, grant_text, located_text, locked_text, owe_text, owed_text, quit_text, read_text, recovered_text, restart_text, settle_text, source_text, stop_text, tick_text, timeout_text, unlocked_text, version_text}
+use Rattle.afs_model.specs.LineText.{answer_text, change_text, crash_text, drop_all_text, drop_text, enable_text, fail_text, fault_text, fence_text, full_text, given_text, grant_text, located_text, locked_text, made_text, owe_text, owed_text, quit_text, read_text, recovered_text, released_text, restart_text, settle_text, source_text, stop_text, tick_text, timeout_text, unlocked_text, vanish_text, version_text}
 use Rattle.afs_text.specs.ActText.{begin_text}
 use Rattle.afs_text.specs.RunText.{line_text}
 use Rattle.afs_text.specs.Whole.{IsWholeFid, IsWholeLine, IsWholeOwed}
@@ -101,6 +101,21 @@ settle_at bytes = read (node_at bytes) (λ s q. read (node_at q) (λ c r. read (
 pub quit_at : List ℕ → Found
 quit_at bytes = read (node_at bytes) (λ s q. read (node_at q) (λ c r. read (number_at r) (λ n t. Some (lines.Quit s c n, t))))
 
+pub made_at : List ℕ → Found
+made_at bytes = read (node_at bytes) (λ s q. read (number_at q) (λ v r. read (number_at r) (λ n t. Some (lines.Made s v n, t))))
+
+pub fence_at : List ℕ → Found
+fence_at bytes = read (number_at bytes) (λ v q. read (node_at q) (λ s t. Some (lines.Fence v s, t)))
+
+pub enable_at : List ℕ → Found
+enable_at bytes = read (number_at bytes) (λ v q. read (node_at q) (λ s t. Some (lines.Enable v s, t)))
+
+pub vanish_at : List ℕ → Found
+vanish_at bytes = read (number_at bytes) (λ v q. read (node_at q) (λ s t. Some (lines.Vanish v s, t)))
+
+pub released_at : List ℕ → Found
+released_at bytes = read (number_at bytes) (λ f q. read (number_at q) (λ v r. read (number_at r) (λ n u. read (node_at u) (λ s t. Some (lines.Released f v n s, t)))))
+
 pub locked_at : List ℕ → Found
 locked_at bytes = read (number_at bytes) (λ v q. read (number_at q) (λ s r. read (number_at r) (λ o t. Some (lines.Locked v s o, t))))
 
@@ -134,16 +149,21 @@ line_at bytes =
     (at_word (behind (codes "owe ") bytes) owe_at
     (at_word (behind (codes "settle ") bytes) settle_at
     (at_word (behind (codes "quit ") bytes) quit_at
+    (at_word (behind (codes "made ") bytes) made_at
+    (at_word (behind (codes "fence ") bytes) fence_at
+    (at_word (behind (codes "enable ") bytes) enable_at
+    (at_word (behind (codes "vanish ") bytes) vanish_at
+    (at_word (behind (codes "released ") bytes) released_at
     (at_word (behind (codes "locked ") bytes) locked_at
     (at_word (behind (codes "unlocked ") bytes) unlocked_at
     (at_word (behind (codes "recovered ") bytes) recovered_at
     (at_word (behind (codes "located ") bytes) located_at
     (at_word (behind (codes "void\n") bytes) (λ r. Some (lines.Void, r))
-    None)))))))))))))))))))))))
+    None))))))))))))))))))))))))))))
 
 -- each line is read back, whatever stands behind it
 pub line_again : (l : Line) → IsWholeLine l → (rest : List ℕ) → line_at (line_text l ++ rest) ≡ Some (l, rest)
-unfolding line_at line_text begin_text given_text grant_text change_text version_text read_text answer_text timeout_text tick_text stop_text fail_text crash_text fault_text restart_text full_text drop_text drop_all_text owe_text settle_text quit_text locked_text unlocked_text recovered_text located_text begin_at given_at grant_at change_at version_at read_at answer_at timeout_at tick_at stop_at fail_at crash_at fault_at restart_at full_at drop_at owe_at settle_at quit_at locked_at unlocked_at recovered_at located_at
+unfolding line_at line_text begin_text given_text grant_text change_text version_text read_text answer_text timeout_text tick_text stop_text fail_text crash_text fault_text restart_text full_text drop_text drop_all_text owe_text settle_text quit_text made_text fence_text enable_text vanish_text released_text locked_text unlocked_text recovered_text located_text begin_at given_at grant_at change_at version_at read_at answer_at timeout_at tick_at stop_at fail_at crash_at fault_at restart_at full_at drop_at owe_at settle_at quit_at made_at fence_at enable_at vanish_at released_at locked_at unlocked_at recovered_at located_at
 line_again (lines.Begin n a) whole rest = rw (node_row n 32 whole.0 refl, act_row a whole.1 [] rest) refl
 line_again (lines.Given p) whole rest = rw (number_row p 10 whole refl [] rest) refl
 line_again (lines.Grant s c f i e) whole rest = rw (node_row s 32 whole.0 refl, node_row c 32 whole.1 refl, fid_row f 32 whole.2 refl, number_row i 32 whole.3 refl, number_row e 10 whole.4 refl [] rest) refl
@@ -164,6 +184,11 @@ line_again (lines.DropAll c s) whole rest = rw (node_row c 32 whole.0 refl, node
 line_again (lines.Owe s c f n) whole rest = rw (node_row s 32 whole.0 refl, node_row c 32 whole.1 refl, owed_row f whole.2, number_row n 10 whole.3 refl [] rest) refl
 line_again (lines.Settle s c n) whole rest = rw (node_row s 32 whole.0 refl, node_row c 32 whole.1 refl, number_row n 10 whole.2 refl [] rest) refl
 line_again (lines.Quit s c n) whole rest = rw (node_row s 32 whole.0 refl, node_row c 32 whole.1 refl, number_row n 10 whole.2 refl [] rest) refl
+line_again (lines.Made s v n) whole rest = rw (node_row s 32 whole.0 refl, number_row v 32 whole.1 refl, number_row n 10 whole.2 refl [] rest) refl
+line_again (lines.Fence v s) whole rest = rw (number_row v 32 whole.0 refl, node_row s 10 whole.1 refl [] rest) refl
+line_again (lines.Enable v s) whole rest = rw (number_row v 32 whole.0 refl, node_row s 10 whole.1 refl [] rest) refl
+line_again (lines.Vanish v s) whole rest = rw (number_row v 32 whole.0 refl, node_row s 10 whole.1 refl [] rest) refl
+line_again (lines.Released f v n s) whole rest = rw (number_row f 32 whole.0 refl, number_row v 32 whole.1 refl, number_row n 32 whole.2 refl, node_row s 10 whole.3 refl [] rest) refl
 line_again (lines.Locked v s o) whole rest = rw (number_row v 32 whole.0 refl, number_row s 32 whole.1 refl, number_row o 10 whole.2 refl [] rest) refl
 line_again (lines.Unlocked v) whole rest = rw (number_row v 10 whole refl [] rest) refl
 line_again (lines.Recovered v) whole rest = rw (number_row v 10 whole refl [] rest) refl

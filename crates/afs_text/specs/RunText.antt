@@ -1,7 +1,7 @@
 -- The text of the lines of a run whose clients take every act.
 use Rattle.std.specs.Prelude.{ℕ, List, codes}
 use Rattle.std.specs.List.{flat_map}
-use Rattle.afs_model.specs.LineText.{answer_text, change_text, crash_text, drop_all_text, drop_text, fail_text, fault_text, full_text, given_text, grant_text, located_text, locked_text, owe_text, quit_text, read_text, recovered_text, restart_text, settle_text, stop_text, tick_text, timeout_text, unlocked_text, version_text}
+use Rattle.afs_model.specs.LineText.{answer_text, change_text, crash_text, drop_all_text, drop_text, enable_text, fail_text, fault_text, fence_text, full_text, given_text, grant_text, located_text, locked_text, made_text, owe_text, quit_text, read_text, recovered_text, released_text, restart_text, settle_text, stop_text, tick_text, timeout_text, unlocked_text, vanish_text, version_text}
 use Rattle.afs_history.specs.declared.lines.Line.{Line}
 use Rattle.afs_history.specs.declared.lines.Line.TheVariants as lines
 use Rattle.afs_text.specs.ActText.{begin_text}
@@ -27,6 +27,11 @@ line_text (lines.DropAll client server) = drop_all_text client server
 line_text (lines.Owe server client fid number) = owe_text server client fid number
 line_text (lines.Settle server client number) = settle_text server client number
 line_text (lines.Quit server client number) = quit_text server client number
+line_text (lines.Made server volume count) = made_text server volume count
+line_text (lines.Fence volume server) = fence_text volume server
+line_text (lines.Enable volume server) = enable_text volume server
+line_text (lines.Vanish volume server) = vanish_text volume server
+line_text (lines.Released family volume release server) = released_text family volume release server
 line_text (lines.Locked volume stamp operation) = locked_text volume stamp operation
 line_text (lines.Unlocked volume) = unlocked_text volume
 line_text (lines.Recovered volume) = recovered_text volume

@@ -1,7 +1,7 @@
 //! The lines of a history, but for the one with which an act begins.
 
 ghost use Rattle.afs_text.specs.Laying.{Lays};
-ghost use Rattle.afs_model.specs.LineText.{answer_text, change_text, crash_text, drop_all_text, drop_text, fail_text, fault_text, full_text, given_text, grant_text, located_text, locked_text, owe_text, quit_text, read_text, recovered_text, restart_text, settle_text, stop_text, tick_text, timeout_text, unlocked_text, version_text};
+ghost use Rattle.afs_model.specs.LineText.{answer_text, change_text, crash_text, drop_all_text, drop_text, enable_text, fail_text, fault_text, fence_text, full_text, given_text, grant_text, located_text, locked_text, made_text, owe_text, quit_text, read_text, recovered_text, released_text, restart_text, settle_text, stop_text, tick_text, timeout_text, unlocked_text, vanish_text, version_text};
 
 use crate::bodies::{Owed, lay_body, lay_read_body};
 use crate::laying::{TextPiece, lay_short};
@@ -264,6 +264,89 @@ pub fn lay_fail<K: Sink>(
     ensures { Lays (fail_text node calls) piece.old piece.new (K.held sink.old) (K.held sink.new) (K.faults sink.old) (K.faults sink.new) result }
 {
     lay_short(sink, piece, &row!("fail ", node, " ", calls, "\n"))
+}
+
+// ---- volumes at a server
+
+#[tactic(auto, unfolding(afs_model::specs::LineText::made_text))]
+pub fn lay_made<K: Sink>(
+    sink: &mut K,
+    piece: &mut TextPiece,
+    server: Node,
+    volume: u32,
+    count: u32,
+) -> Result<(), Failed>
+    ensures { Lays (made_text server volume count) piece.old piece.new (K.held sink.old) (K.held sink.new) (K.faults sink.old) (K.faults sink.new) result }
+{
+    lay_short(
+        sink,
+        piece,
+        &row!("made ", server, " ", volume, " ", count, "\n"),
+    )
+}
+
+#[tactic(auto, unfolding(afs_model::specs::LineText::fence_text))]
+pub fn lay_fence<K: Sink>(
+    sink: &mut K,
+    piece: &mut TextPiece,
+    volume: u32,
+    server: Node,
+) -> Result<(), Failed>
+    ensures { Lays (fence_text volume server) piece.old piece.new (K.held sink.old) (K.held sink.new) (K.faults sink.old) (K.faults sink.new) result }
+{
+    lay_short(sink, piece, &row!("fence ", volume, " ", server, "\n"))
+}
+
+#[tactic(auto, unfolding(afs_model::specs::LineText::enable_text))]
+pub fn lay_enable<K: Sink>(
+    sink: &mut K,
+    piece: &mut TextPiece,
+    volume: u32,
+    server: Node,
+) -> Result<(), Failed>
+    ensures { Lays (enable_text volume server) piece.old piece.new (K.held sink.old) (K.held sink.new) (K.faults sink.old) (K.faults sink.new) result }
+{
+    lay_short(sink, piece, &row!("enable ", volume, " ", server, "\n"))
+}
+
+#[tactic(auto, unfolding(afs_model::specs::LineText::vanish_text))]
+pub fn lay_vanish<K: Sink>(
+    sink: &mut K,
+    piece: &mut TextPiece,
+    volume: u32,
+    server: Node,
+) -> Result<(), Failed>
+    ensures { Lays (vanish_text volume server) piece.old piece.new (K.held sink.old) (K.held sink.new) (K.faults sink.old) (K.faults sink.new) result }
+{
+    lay_short(sink, piece, &row!("vanish ", volume, " ", server, "\n"))
+}
+
+#[tactic(auto, unfolding(afs_model::specs::LineText::released_text))]
+pub fn lay_released<K: Sink>(
+    sink: &mut K,
+    piece: &mut TextPiece,
+    family: u32,
+    volume: u32,
+    release: u32,
+    server: Node,
+) -> Result<(), Failed>
+    ensures { Lays (released_text family volume release server) piece.old piece.new (K.held sink.old) (K.held sink.new) (K.faults sink.old) (K.faults sink.new) result }
+{
+    lay_short(
+        sink,
+        piece,
+        &row!(
+            "released ",
+            family,
+            " ",
+            volume,
+            " ",
+            release,
+            " ",
+            server,
+            "\n"
+        ),
+    )
 }
 
 // ---- the location database

@@ -6,9 +6,10 @@ ghost use Rattle.afs_text.specs.RunText.{line_text};
 use crate::acts::lay_begin;
 use crate::laying::{TextPiece, lay_short};
 use crate::lines::{
-    lay_answer, lay_change, lay_crash, lay_drop, lay_drop_all, lay_fail, lay_fault, lay_full,
-    lay_given, lay_grant, lay_located, lay_locked, lay_owe, lay_quit, lay_read, lay_recovered,
-    lay_restart, lay_settle, lay_stop, lay_tick, lay_timeout, lay_unlocked, lay_version,
+    lay_answer, lay_change, lay_crash, lay_drop, lay_drop_all, lay_enable, lay_fail, lay_fault,
+    lay_fence, lay_full, lay_given, lay_grant, lay_located, lay_locked, lay_made, lay_owe,
+    lay_quit, lay_read, lay_recovered, lay_released, lay_restart, lay_settle, lay_stop, lay_tick,
+    lay_timeout, lay_unlocked, lay_vanish, lay_version,
 };
 use crate::pieces::Print;
 use afs_history::lines::Line;
@@ -75,6 +76,20 @@ pub(crate) fn lay_line<K: Sink>(
             client,
             number,
         } => lay_quit(sink, piece, *server, *client, *number),
+        Line::Made {
+            server,
+            volume,
+            count,
+        } => lay_made(sink, piece, *server, *volume, *count),
+        Line::Fence { volume, server } => lay_fence(sink, piece, *volume, *server),
+        Line::Enable { volume, server } => lay_enable(sink, piece, *volume, *server),
+        Line::Vanish { volume, server } => lay_vanish(sink, piece, *volume, *server),
+        Line::Released {
+            family,
+            volume,
+            release,
+            server,
+        } => lay_released(sink, piece, *family, *volume, *release, *server),
         Line::Locked {
             volume,
             stamp,

@@ -2,7 +2,6 @@
 use Rattle.std.proofs.Common.{◌≡◌, ◌+◌, ◌++◌, ℕ, length, Bool, true, false, cond, List, [], ◌∷◌, Option, Some, None, Result, Ok, Err, refl, sym, ap, ◌∙◌}
 use Rattle.std.specs.Prelude.{⊤, nat_eq, nat_lt, filter}
 use Rattle.std.specs.List.{AllByRecursion}
-use Rattle.std.proofs.lemmas.List.{map-append}
 use Rattle.afs_num.specs.declared.types.Fid.{Fid}
 use Rattle.afs_num.specs.declared.types.Head.{Head}
 use Rattle.afs_num.specs.declared.types.Node.{Node}
@@ -33,11 +32,9 @@ use Rattle.afs_rows.specs.ServerSteps.{back_timeout_row, done, server_row, start
 use Rattle.afs_rows.specs.States.{BackCall, ServerState, durable_of}
 use Rattle.afs_rows.specs.Steps.{begun_before, Begun}
 use Rattle.afs_fold.specs.Effects.{vanished_lines}
-use Rattle.afs_fold.specs.ServerLines.{plain, plain_lines, ServerLine}
 use Rattle.afs_fold.proofs.Plain.{none_vanish}
 use Rattle.afs_volrows.specs.FileLaws.{IsOpen, OpenServersArePlain, OpenServersStayOpen, TellsFirst}
 use Rattle.afs_volrows.specs.FileRow.{closed_code, file_admits, file_called, file_carried, file_decides, file_hears, file_in, file_received, file_row, file_serves, file_sight, file_sights, file_start, file_volume, sight_unless, start_lines, unless_closed}
-use Rattle.afs_volrows.specs.LinedSteps.{plain_begun, plain_step, with_lines, LinedBegun}
 
 -- ---- what is decided
 
@@ -215,7 +212,7 @@ cut_open me s clock (repeats reply) f h = h
 cut_open me s clock (refuses head code) f h = h
 cut_open me s clock (shows head r) f h = h
 
-started_open : (me : Node) (clock count : ℕ) (begun : LinedBegun ServerState) → IsOpen begun.state → IsOpen (file_start me clock count begun).state
+started_open : (me : Node) (clock count : ℕ) (begun : Begun ServerState) → IsOpen begun.state → IsOpen (file_start me clock count begun).state
 unfolding file_start
 started_open me clock count begun h = record { forwardings = h.forwardings; volumes = all_filter begun.state.lasting.volumes h.volumes }
 
@@ -290,14 +287,12 @@ row_plain : (me : Node) (s : ServerState) (clock place : ℕ) (m : Received) →
 unfolding file_row server_row
 row_plain me s clock place m h = ap (λ (d : Decision). done me s clock place d (turned_in me s clock (expired clock s.backs) d m)) (decides_plain me s clock m h)
 
-start_plain : (me : Node) (clock count : ℕ) (begun : Begun ServerState) → IsOpen begun.state → TellsFirst begun → file_start me clock count (plain_begun begun) ≡ plain_step (start_row me clock count begun)
+start_plain : (me : Node) (clock count : ℕ) (begun : Begun ServerState) → IsOpen begun.state → file_start me clock count begun ≡ start_row me clock count begun
 unfolding file_start start_row
-start_plain me clock count begun h first =
-    let rest : List Line = (risen_turn me clock count).lines in
-    let vanish : vanished_lines me begun.state.lasting.volumes ≡ [] = none_vanish me begun.state.lasting.volumes h.volumes in
-    let told : start_lines me clock count (plain_begun begun) ≡ plain_lines (begun.before (lines.Restart me (begun.state.lasting.boot + 1) ∷ rest)) =
-    rw vanish (sym (ap plain_lines (first (lines.Restart me (begun.state.lasting.boot + 1) ∷ rest)) ∙ map-append plain (begun.before []) (lines.Restart me (begun.state.lasting.boot + 1) ∷ rest))) in
-    ap (λ (ls : List ServerLine). with_lines ls (stepped me (revived begun.state) [] (risen_turn me clock count))) told
+start_plain me clock count begun h =
+    let turn = risen_turn me clock count in
+    ap (λ (ls : List Line). stepped me (revived begun.state) (begun.before (lines.Restart me (begun.state.lasting.boot + 1) ∷ (ls ++ turn.lines))) turn)
+    (none_vanish me begun.state.lasting.volumes h.volumes)
 
 tells_before : (s : ServerState) → TellsFirst (begun_before s)
 tells_before s ls = refl

@@ -311,4 +311,4 @@ deeds_are_folded l head x taken node all =
     rw (taken_is x.body d taken) (ap (λ (e : Durable). Some e) (whole_is (journal_with (deed_record head x) l) f l (kept_by_number l.kept) keeps refl (set (node_number head.from) (kept_of seat) f.kept) (seat_placed seat l.kept) new))
 
 pub deeds_are_told : DeedsAreTold
-deeds_are_told = record { step = λ me l head x. refl; restart = λ me s head x. refl }
+deeds_are_told = record { step = λ me l head x. refl; restart = λ me s head x ls. refl }

@@ -13,8 +13,6 @@ use Rattle.afs_num.specs.declared.messages.Received.TheVariants.{Nothing, Unserv
 use Rattle.afs_history.specs.declared.lines.Line.{Line}
 use Rattle.afs_history.specs.declared.lines.Line.TheVariants as lines
 use Rattle.afs_model.specs.Calls.{is_sent_again}
-use Rattle.afs_fold.specs.ServerLines.{plain, ServerLine}
-use Rattle.afs_volrows.specs.LinedSteps.{LinedBegun, LinedStep}
 use Rattle.afs_volrows.specs.VolSteps.{given_up, node_file_decides}
 use Rattle.afs_ideal.specs.Operations.{is_number}
 use Rattle.afs_model.specs.Calls.{finished}
@@ -27,6 +25,7 @@ use Rattle.afs_rows.specs.Callbacks.{expired, is_ready, put_at}
 use Rattle.afs_rows.specs.ServerRow.{begun_after, does, drops as rests, key_of, refuses, repeats as says_again, saves as changes, shows, stored_by, tells_boot as tells, Decision}
 use Rattle.afs_rows.specs.ServerSteps.{back_timeout_row, wake_row}
 use Rattle.afs_rows.specs.States.{BackCall, Backs, Held, Lasting, ServerState, durable_of}
+use Rattle.afs_rows.specs.Steps.{Begun, Step}
 use Rattle.afs_volrows.specs.FileRow.{file_decides, file_row, file_start}
 use Rattle.afs_volrows.specs.VolLaws.{AreApart, AreStamped, Follows, IsApart, IsStamped, KeepsApart, KeepsStamps, NodesStayApart, NodesStayStamped, StandsAfter, stamp_at}
 use Rattle.afs_volrows.specs.VolRow.{Dispatch, holds_of}
@@ -43,7 +42,7 @@ pub record Same (l : Lasting) (w : VolState) (t : VolTurn) : Type 0 where
 same_at_once : (l : Lasting) (v : VolState) (b : Backs) → Same l v (vol_rests l v b)
 same_at_once l v b = record { lasting = refl; transactions = refl; last = refl }
 
-answers_same : (l : Lasting) (v : VolState) (b : Backs) (ls : List ServerLine) (reply : Message) (waits : List ℕ) (again : Bool) → Same l v (vol_answers l v b ls reply waits again)
+answers_same : (l : Lasting) (v : VolState) (b : Backs) (ls : List Line) (reply : Message) (waits : List ℕ) (again : Bool) → Same l v (vol_answers l v b ls reply waits again)
 answers_same l v b ls reply [] again = record { lasting = refl; transactions = refl; last = refl }
 answers_same l v b ls reply (k ∷ ks) again = record { lasting = refl; transactions = refl; last = refl }
 
@@ -64,7 +63,7 @@ repeats_same l v b reply (Some h) good = one_of l v (h.again && is_ready b.lists
 repeats_same l v b reply None true = answers_same l v b [] reply _ true
 repeats_same l v b reply None false = answers_same l v b [] reply [] true
 
-ends_same : (me : Node) (l : Lasting) (v : VolState) (b : Backs) (ls : List ServerLine) (n : Node) (xs : List Sending) (x : Sending) (code : ℤ) → Same l v (ends_sending me l v b ls n xs x code)
+ends_same : (me : Node) (l : Lasting) (v : VolState) (b : Backs) (ls : List Line) (n : Node) (xs : List Sending) (x : Sending) (code : ℤ) → Same l v (ends_sending me l v b ls n xs x code)
 ends_same me l v b ls n xs x code = let z = next_same me l.boot n (record {
   lasting = l;
   vol = record v { sendings = put_at n xs v.sendings; calls = put_at n None v.calls; seats = finished (key_of x.head) (forward_reply l.boot x.head code) v.seats };
@@ -188,7 +187,7 @@ turned_apart me l v b d (Whole m) all h = turned_apart_by me l v b d m.head m.ca
 
 -- ---- steps
 
-vol_follows : (me : Node) (s : ServerState) (ls : List ServerLine) (t : VolTurn) → Risen s.lasting t → Follows s (vol_stepped me s ls t).state
+vol_follows : (me : Node) (s : ServerState) (ls : List Line) (t : VolTurn) → Risen s.lasting t → Follows s (vol_stepped me s ls t).state
 vol_follows me s ls t h = record { stamped = h.stamps; rises = h.rises }
 
 -- the file server writes no stamps
@@ -222,7 +221,7 @@ wake_leaves : (me : Node) (s : ServerState) (clock : ℕ) → Leaves s (wake_row
 unfolding wake_row
 wake_leaves me s clock = record { volumes = λ k h. h; stamps = refl }
 
-either : (s : ServerState) (b : Bool) (x y : LinedStep NodeState) → Follows s x.state → Follows s y.state → Follows s (cond b x y).state
+either : (s : ServerState) (b : Bool) (x y : Step NodeState) → Follows s x.state → Follows s y.state → Follows s (cond b x y).state
 either s true x y h k = h
 either s false x y h k = k
 
@@ -231,7 +230,7 @@ unfolding node_row
 given_follows me s clock place m h =
     either s.file (is_of_client (from_of m)) _ _
     (left_follows s _ (file_leaves me (holds_of s.vol.transactions) s.file clock place m) refl h)
-    (vol_follows me s.file (plain (lines.Given place) ∷ []) _ (turned_risen me s.file.lasting s.vol (expired clock s.file.backs) (vol_decides me (durable_of s.file.lasting) s.vol m) m h (stamps_stand me (durable_of s.file.lasting) s.vol m h)))
+    (vol_follows me s.file (lines.Given place ∷ []) _ (turned_risen me s.file.lasting s.vol (expired clock s.file.backs) (vol_decides me (durable_of s.file.lasting) s.vol m) m h (stamps_stand me (durable_of s.file.lasting) s.vol m h)))
 
 piece_follows : (me : Node) (s : NodeState) (clock : ℕ) (n : Node) (c : PieceCall) → IsStamped s → Follows s.file (piece_timeout_row me s clock n c).state
 unfolding piece_timeout_row
@@ -262,7 +261,7 @@ vol_cut me s (repeats reply) f h = alike f (stamp_at s f) (stamp_at s f) refl
 vol_cut me s (replies_to head reply ts last) f h = alike f (stamp_at s f) (stamp_at s f) refl
 vol_cut me s (dispatches head x) f h = alike f (stamp_at s f) (stamp_at s f) refl
 
-cut_by : (n f : ℕ) (b : Bool) (x y : LinedBegun ServerState) → n ≤ stamp_at x.state f → n ≤ stamp_at y.state f → n ≤ stamp_at (cond b x y).state f
+cut_by : (n f : ℕ) (b : Bool) (x y : Begun ServerState) → n ≤ stamp_at x.state f → n ≤ stamp_at y.state f → n ≤ stamp_at (cond b x y).state f
 cut_by n f true x y h k = h
 cut_by n f false x y h k = k
 
@@ -272,7 +271,7 @@ cut_rises me s clock m h f =
     (alike f (stamp_at s.file f) _ (ap (λ (t : Table ℕ). or_zero (get f t)) (sym (file_cut me s.file clock (node_file_decides me s clock m)))))
     (vol_cut me s.file (vol_decides me (durable_of s.file.lasting) s.vol m) f (stamps_stand me (durable_of s.file.lasting) s.vol m h))
 
-start_follows : (me : Node) (clock count : ℕ) (begun : LinedBegun ServerState) → Follows begun.state (node_start_row me clock count begun).state
+start_follows : (me : Node) (clock count : ℕ) (begun : Begun ServerState) → Follows begun.state (node_start_row me clock count begun).state
 unfolding node_start_row file_start
 start_follows me clock count begun = record { stamped = tt; rises = λ f. alike f (stamp_at begun.state f) (stamp_at begun.state f) refl }
 
@@ -284,7 +283,7 @@ nodes_stay_stamped = record { given = given_follows; late = piece_follows; back 
 left_apart : (s : NodeState) (e : ServerState) → Leaves s.file e → IsApart s → AreApart e.lasting.volumes s.vol.last_transaction s.vol.transactions
 left_apart s e left h = wider s.file.lasting.volumes e.lasting.volumes s.vol.last_transaction s.vol.transactions left.volumes h
 
-either_apart : (b : Bool) (x y : LinedStep NodeState) → IsApart x.state → IsApart y.state → IsApart (cond b x y).state
+either_apart : (b : Bool) (x y : Step NodeState) → IsApart x.state → IsApart y.state → IsApart (cond b x y).state
 either_apart true x y h k = h
 either_apart false x y h k = k
 
@@ -306,7 +305,7 @@ wake_apart : (me : Node) (s : NodeState) (clock : ℕ) → IsApart s → IsApart
 unfolding node_wake_row
 wake_apart me s clock h = left_apart s _ (wake_leaves me s.file clock) h
 
-start_apart : (me : Node) (clock count : ℕ) (begun : LinedBegun ServerState) → IsApart (node_start_row me clock count begun).state
+start_apart : (me : Node) (clock count : ℕ) (begun : Begun ServerState) → IsApart (node_start_row me clock count begun).state
 unfolding node_start_row file_start
 start_apart me clock count begun = record { ascend = tt; there = λ n t e. absurd cc; numbered = λ n t e. absurd cc; alone = λ n m t u e f same. absurd cc }
 

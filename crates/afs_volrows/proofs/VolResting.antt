@@ -5,18 +5,16 @@ use Rattle.afs_num.specs.declared.messages.Message.{Message}
 use Rattle.afs_rows.specs.Callbacks.{is_ready, replies_of}
 use Rattle.afs_rows.specs.States.{Held, ServerState}
 use Rattle.afs_rows.specs.Steps.{Step}
-use Rattle.afs_fold.specs.ServerLines.{plain_lines}
 use Rattle.afs_volrows.specs.FileRow.{file_row}
-use Rattle.afs_volrows.specs.LinedSteps.{LinedStep}
 use Rattle.afs_volrows.specs.VolLaws.{resting, ClientsLeaveVolumesAlone}
 use Rattle.afs_volrows.specs.VolRow.{holds_of}
 use Rattle.afs_volrows.specs.VolStates.{NodeState, VolState}
 use Rattle.afs_volrows.specs.VolSteps.{file_stepped, is_waiting, node_row}
 
-with_held : VolState → List Held → Step ServerState → LinedStep NodeState
+with_held : VolState → List Held → Step ServerState → Step NodeState
 with_held v hs s = record {
   state = record { file = s.state; vol = record v { held = filter (is_waiting s.state.backs.lists.owed) hs } };
-  lines = plain_lines s.lines;
+  lines = s.lines;
   sent = s.sent ++ replies_of (filter (is_ready s.state.backs.lists.owed) hs);
 }
 
@@ -24,8 +22,8 @@ none_held : (v : VolState) (s : Step ServerState) → v.held ≡ [] → file_ste
 unfolding with_held
 none_held v s none =
     ap (λ (hs : List Held). with_held v hs s) none
-    ∙ (ap (λ (ms : List Message). record { state = record { file = s.state; vol = record v { held = [] } }; lines = plain_lines s.lines; sent = ms }) (append-nil s.sent)
-    ∙ ap (λ (hs : List Held). record { state = record { file = s.state; vol = record v { held = hs } }; lines = plain_lines s.lines; sent = s.sent }) (sym none))
+    ∙ (ap (λ (ms : List Message). record { state = record { file = s.state; vol = record v { held = [] } }; lines = s.lines; sent = ms }) (append-nil s.sent)
+    ∙ ap (λ (hs : List Held). record { state = record { file = s.state; vol = record v { held = hs } }; lines = s.lines; sent = s.sent }) (sym none))
 
 pub clients_leave : ClientsLeaveVolumesAlone
 unfolding node_row

@@ -11,6 +11,7 @@ use Rattle.afs_num.specs.declared.types.Head.{Head}
 use Rattle.afs_num.specs.declared.types.Node.{Node}
 use Rattle.afs_num.specs.declared.types.Node.TheVariants.{Server}
 use Rattle.afs_breaks.specs.declared.types.OwedBreak.{OwedBreak}
+use Rattle.afs_history.specs.declared.lines.Line.{Line}
 use Rattle.afs_history.specs.declared.lines.Line.TheVariants as lines
 use Rattle.afs_ideal.specs.Operations.{is_number}
 use Rattle.afs_records.specs.Durable.{Durable}
@@ -18,7 +19,6 @@ use Rattle.afs_model.specs.Calls.{finished, is_sent_again}
 use Rattle.afs_rows.specs.Callbacks.{expired, is_ready, owe_line, pumped, put_at, starts, starts_by, Started, Turn}
 use Rattle.afs_rows.specs.ServerRow.{key_of}
 use Rattle.afs_rows.specs.States.{durable_of, BackCall, Backs, Held, Lasting, ServerState}
-use Rattle.afs_fold.specs.ServerLines.{plain, plain_lines, ServerLine}
 use Rattle.afs_volrows.specs.VolLaws.{is_saved, waits_of, DeedsAreShown, LeavesFiles, OthersLeaveFiles, ShowsDeed}
 use Rattle.afs_volrows.specs.VolRow.{Dispatch}
 use Rattle.afs_volrows.specs.VolStates.{NodeState, PieceCall, Sending, VolState}
@@ -47,11 +47,11 @@ pub record Rests (l : Lasting) (b : Backs) (t : VolTurn) : Type 0 where
 at_once : (l : Lasting) (b : Backs) (v : VolState) → Rests l b (vol_rests l v b)
 at_once l b v = record { lasting = refl; lists = refl }
 
-pub answers_rest : (l : Lasting) (v : VolState) (b : Backs) (ls : List ServerLine) (reply : Message) (waits : List ℕ) (again : Bool) → Rests l b (vol_answers l v b ls reply waits again)
+pub answers_rest : (l : Lasting) (v : VolState) (b : Backs) (ls : List Line) (reply : Message) (waits : List ℕ) (again : Bool) → Rests l b (vol_answers l v b ls reply waits again)
 answers_rest l v b ls reply [] again = record { lasting = refl; lists = refl }
 answers_rest l v b ls reply (k ∷ ks) again = record { lasting = refl; lists = refl }
 
-pub answers_tell : (l : Lasting) (v : VolState) (b : Backs) (ls : List ServerLine) (reply : Message) (waits : List ℕ) (again : Bool) → (vol_answers l v b ls reply waits again).lines ≡ ls
+pub answers_tell : (l : Lasting) (v : VolState) (b : Backs) (ls : List Line) (reply : Message) (waits : List ℕ) (again : Bool) → (vol_answers l v b ls reply waits again).lines ≡ ls
 answers_tell l v b ls reply [] again = refl
 answers_tell l v b ls reply (k ∷ ks) again = refl
 
@@ -72,7 +72,7 @@ repeats_rest l v b reply (Some h) good = either_rests l b (h.again && is_ready b
 repeats_rest l v b reply None true = answers_rest l v b [] reply _ true
 repeats_rest l v b reply None false = answers_rest l v b [] reply [] true
 
-ends_rest : (me : Node) (l : Lasting) (v : VolState) (b : Backs) (ls : List ServerLine) (n : Node) (xs : List Sending) (x : Sending) (code : ℤ) → Rests l b (ends_sending me l v b ls n xs x code)
+ends_rest : (me : Node) (l : Lasting) (v : VolState) (b : Backs) (ls : List Line) (n : Node) (xs : List Sending) (x : Sending) (code : ℤ) → Rests l b (ends_sending me l v b ls n xs x code)
 ends_rest me l v b ls n xs x code = let z = next_rests me l.boot n (record {
   lasting = l;
   vol = record v { sendings = put_at n xs v.sendings; calls = put_at n None v.calls; seats = finished (key_of x.head) (forward_reply l.boot x.head code) v.seats };
@@ -132,7 +132,7 @@ turned_rests me l v b d (Whole m) e = turned_rests_by me l v b d m.head m.carrie
 
 -- ---- a step
 
-leaves : (me : Node) (s : ServerState) (clock : ℕ) (ls : List ServerLine) (t : VolTurn) → Rests s.lasting (expired clock s.backs) t → LeavesFiles clock s (vol_stepped me s ls t)
+leaves : (me : Node) (s : ServerState) (clock : ℕ) (ls : List Line) (t : VolTurn) → Rests s.lasting (expired clock s.backs) t → LeavesFiles clock s (vol_stepped me s ls t)
 leaves me s clock ls t h = record {
   lasting = h.lasting;
   seats = refl;
@@ -142,7 +142,7 @@ leaves me s clock ls t h = record {
 pub others_leave_files : OthersLeaveFiles
 unfolding node_row piece_timeout_row
 others_leave_files = record {
-  given = λ me s clock place m other quiet'. rw other (leaves me s.file clock (plain (lines.Given place) ∷ []) _ (turned_rests me s.file.lasting s.vol (expired clock s.file.backs) (vol_decides me (durable_of s.file.lasting) s.vol m) m quiet'));
+  given = λ me s clock place m other quiet'. rw other (leaves me s.file clock (lines.Given place ∷ []) _ (turned_rests me s.file.lasting s.vol (expired clock s.file.backs) (vol_decides me (durable_of s.file.lasting) s.vol m) m quiet'));
   late = λ me s clock n c. leaves me s.file clock [] _ (timed_rests me s.file.lasting s.vol (expired clock s.file.backs) n c (s.vol.sendings n));
 }
 
@@ -161,23 +161,23 @@ turned_call me l v b d (Unreadable h) head x e = ap (vol_turn me l v b) e
 turned_call me l v b d (Whole m) head x e = hears_call me l v b d m.head head m.carried x e
 
 pub saved_row : (me : Node) (s : NodeState) (clock place : ℕ) (m : Received) (head : Head) (x : Deed) → is_of_client (from_of m) ≡ false → vol_decides me (durable_of s.file.lasting) s.vol m ≡ saves head x →
-    node_row me s clock place m ≡ vol_stepped me s.file (plain (lines.Given place) ∷ []) (vol_turn me s.file.lasting s.vol (expired clock s.file.backs) (saves head x))
+    node_row me s clock place m ≡ vol_stepped me s.file (lines.Given place ∷ []) (vol_turn me s.file.lasting s.vol (expired clock s.file.backs) (saves head x))
 unfolding node_row
 saved_row me s clock place m head x other is =
-    rw other (ap (vol_stepped me s.file (plain (lines.Given place) ∷ [])) (turned_call me s.file.lasting s.vol (expired clock s.file.backs) (durable_of s.file.lasting) m head x is))
+    rw other (ap (vol_stepped me s.file (lines.Given place ∷ [])) (turned_call me s.file.lasting s.vol (expired clock s.file.backs) (durable_of s.file.lasting) m head x is))
 
-shows_by : (me : Node) (s : NodeState) (clock place : ℕ) (head : Head) (x : Deed) → ShowsDeed me s clock place head x (vol_stepped me s.file (plain (lines.Given place) ∷ []) (vol_turn me s.file.lasting s.vol (expired clock s.file.backs) (saves head x)))
+shows_by : (me : Node) (s : NodeState) (clock place : ℕ) (head : Head) (x : Deed) → ShowsDeed me s clock place head x (vol_stepped me s.file (lines.Given place ∷ []) (vol_turn me s.file.lasting s.vol (expired clock s.file.backs) (saves head x)))
 shows_by me s clock place head x =
     let l : Lasting = s.file.lasting in
     let b : Backs = expired clock s.file.backs in
     let v : VolState = vol_seated head x.reply (with_transactions x.transactions x.last s.vol) in
-    let ls : List ServerLine = deed_lines me head x l ++ plain_lines (map (owe_line me) (owes_of x.withdraws b.lists)) in
+    let ls : List Line = deed_lines me head x l ++ map (owe_line me) (owes_of x.withdraws b.lists) in
     let rests = answers_rest (deed_done head x l) v (record b { lists = withdraws_from x.withdraws b.lists }) ls x.reply (waits_of x b.lists) false in
     let t : VolTurn = vol_turn me l s.vol b (saves head x) in record {
       lasting = rests.lasting;
       seats = refl;
       lists = pumped_lists me t.lasting.boot (record { backs = t.backs; lines = []; sent = t.sent; outs = [] }) ∙ rests.lists;
-      lines = ap (λ (k : List ServerLine). plain (lines.Given place) ∷ k) (answers_tell (deed_done head x l) v (record b { lists = withdraws_from x.withdraws b.lists }) ls x.reply (waits_of x b.lists) false);
+      lines = ap (λ (k : List Line). lines.Given place ∷ k) (answers_tell (deed_done head x l) v (record b { lists = withdraws_from x.withdraws b.lists }) ls x.reply (waits_of x b.lists) false);
     }
 
 pub deeds_are_shown : DeedsAreShown

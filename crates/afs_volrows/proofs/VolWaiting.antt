@@ -13,6 +13,7 @@ use Rattle.afs_num.specs.declared.messages.Received.{Received}
 use Rattle.afs_num.specs.declared.messages.Received.TheVariants.{Nothing, Unserved, Unreadable, Whole}
 use Rattle.afs_breaks.specs.declared.types.OwedBreak.{OwedBreak}
 use Rattle.afs_breaks.specs.Promises.{Lists, by_fid, has_break, hits_on, owes_from}
+use Rattle.afs_history.specs.declared.lines.Line.{Line}
 use Rattle.afs_history.specs.declared.lines.Line.TheVariants as lines
 use Rattle.afs_volrows.proofs.VolTurns.{pumped_lists, saved_row}
 use Rattle.afs_ideal.specs.Operations.{is_number}
@@ -26,8 +27,6 @@ use Rattle.afs_volrows.specs.FileRow.{file_row}
 use Rattle.afs_volrows.specs.VolLaws.{FencesWait, HeldAreKept, HeldGoOutLast, IsAmong, IsHeldFor, KeepsHeld, waits_of, IsHeldBack}
 use Rattle.afs_volrows.specs.VolStates.{NodeState, PieceCall, Sending, VolState}
 use Rattle.afs_volrows.specs.VolSteps.{VolDecision, VolTurn, answered_by, code_told, deed_done, deed_lines, dispatches, drops, ends_sending, forward_reply, from_of, in_progress, is_awaited, is_of_client, is_waiting, moved_on, next_by, node_back_timeout_row, node_row, node_wake_row, owes_of, piece_timeout_row, queued, repeats, replies_to, saves, sent_whole, tells_boot, vol_answers, vol_decides, vol_renews, vol_repeats, vol_rests, vol_seated, vol_stepped, vol_timed, vol_told_by, vol_turn, vol_turned, vol_turned_by, with_transactions, withdraws_from, Deed, file_stepped, given_up}
-use Rattle.afs_volrows.specs.LinedSteps.{LinedStep}
-use Rattle.afs_fold.specs.ServerLines.{ServerLine, plain, plain_lines}
 use Rattle.afs_volrows.specs.VolRow.{holds_of}
 
 -- ---- breaks that are owed
@@ -83,11 +82,11 @@ stays reply n (x ∷ hs) os (inr h) e = stays_by (is_waiting os x) reply n x (fi
 
 -- ---- a saved call
 
-answers_hold : (l : Lasting) (v : VolState) (b : Backs) (ls : List ServerLine) (reply : Message) (n : ℕ) (ks : List ℕ) (again : Bool) → IsAmong n ks → IsHeldFor reply n (vol_answers l v b ls reply ks again).vol.held
+answers_hold : (l : Lasting) (v : VolState) (b : Backs) (ls : List Line) (reply : Message) (n : ℕ) (ks : List ℕ) (again : Bool) → IsAmong n ks → IsHeldFor reply n (vol_answers l v b ls reply ks again).vol.held
 answers_hold l v b ls reply n [] again h = absurd h
 answers_hold l v b ls reply n (k ∷ ks) again h = held_behind reply n v.held _ (inl (refl, h))
 
-answers_lists : (l : Lasting) (v : VolState) (b : Backs) (ls : List ServerLine) (reply : Message) (ks : List ℕ) (again : Bool) → (vol_answers l v b ls reply ks again).backs.lists ≡ b.lists
+answers_lists : (l : Lasting) (v : VolState) (b : Backs) (ls : List Line) (reply : Message) (ks : List ℕ) (again : Bool) → (vol_answers l v b ls reply ks again).backs.lists ≡ b.lists
 answers_lists l v b ls reply [] again = refl
 answers_lists l v b ls reply (k ∷ ks) again = refl
 
@@ -135,7 +134,7 @@ owed_after : (n : ℕ) (w : Option ℕ) (l : Lists) → IsAmong n (numbers (owes
 owed_after n w l (inl h) = new_owed n w l h
 owed_after n w l (inr h) = old_owed n w l (all_break n l.owed h)
 
-held_back : (me : Node) (s : NodeState) (clock : ℕ) (ls : List ServerLine) (head : Head) (x : Deed) (n : ℕ) → IsAmong n (waits_of x (expired clock s.file.backs).lists) →
+held_back : (me : Node) (s : NodeState) (clock : ℕ) (ls : List Line) (head : Head) (x : Deed) (n : ℕ) → IsAmong n (waits_of x (expired clock s.file.backs).lists) →
     IsHeldBack x.reply n (vol_stepped me s.file ls (vol_turn me s.file.lasting s.vol (expired clock s.file.backs) (saves head x)))
 held_back me s clock ls head x n waits =
     let l : Lasting = s.file.lasting in
@@ -148,7 +147,7 @@ held_back me s clock ls head x n waits =
     record { owed = owed; held = stays x.reply n t.vol.held _ (answers_hold _ _ _ _ x.reply n (waits_of x b.lists) false waits) owed }
 
 pub fences_wait : FencesWait
-fences_wait me s clock place m head x n other is waits = subst (IsHeldBack x.reply n) (sym (saved_row me s clock place m head x other is)) (held_back me s clock (plain (lines.Given place) ∷ []) head x n waits)
+fences_wait me s clock place m head x n other is waits = subst (IsHeldBack x.reply n) (sym (saved_row me s clock place m head x other is)) (held_back me s clock (lines.Given place ∷ []) head x n waits)
 
 -- ---- every step
 
@@ -156,7 +155,7 @@ fences_wait me s clock place m head x n other is waits = subst (IsHeldBack x.rep
 record Holds (v : VolState) (t : VolTurn) : Type 0 where
   keeps : (reply : Message) (n : ℕ) → IsHeldFor reply n v.held → IsHeldFor reply n t.vol.held
 
-answers_keep : (v u : VolState) (l : Lasting) (b : Backs) (ls : List ServerLine) (reply : Message) (waits : List ℕ) (again : Bool) → u.held ≡ v.held → Holds v (vol_answers l u b ls reply waits again)
+answers_keep : (v u : VolState) (l : Lasting) (b : Backs) (ls : List Line) (reply : Message) (waits : List ℕ) (again : Bool) → u.held ≡ v.held → Holds v (vol_answers l u b ls reply waits again)
 answers_keep v u l b ls reply [] again same = record { keeps = λ r n h. subst (IsHeldFor r n) (sym same) h }
 answers_keep v u l b ls reply (k ∷ ks) again same = record { keeps = λ r n h. held_front r n u.held _ (subst (IsHeldFor r n) (sym same) h) }
 
@@ -182,9 +181,9 @@ turn_keeps me l v b (replies_to head reply ts last) = answers_keep v (vol_seated
 turn_keeps me l v b (dispatches head x) =
     let q : VolState = queued head x (in_progress head v) in
     next_keeps v me l.boot (Server x.server) (vol_rests l q b) (q.sendings (Server x.server)) (q.calls (Server x.server)) (record { keeps = λ r k y. y })
-turn_keeps me l v b (saves head x) = answers_keep v (vol_seated head x.reply (with_transactions x.transactions x.last v)) (deed_done head x l) (record b { lists = withdraws_from x.withdraws b.lists }) (deed_lines me head x l ++ plain_lines (map (owe_line me) (owes_of x.withdraws b.lists))) x.reply (waits_of x b.lists) false refl
+turn_keeps me l v b (saves head x) = answers_keep v (vol_seated head x.reply (with_transactions x.transactions x.last v)) (deed_done head x l) (record b { lists = withdraws_from x.withdraws b.lists }) (deed_lines me head x l ++ map (owe_line me) (owes_of x.withdraws b.lists)) x.reply (waits_of x b.lists) false refl
 
-ends_keep : (me : Node) (l : Lasting) (v : VolState) (b : Backs) (ls : List ServerLine) (n : Node) (xs : List Sending) (x : Sending) (code : ℤ) → Holds v (ends_sending me l v b ls n xs x code)
+ends_keep : (me : Node) (l : Lasting) (v : VolState) (b : Backs) (ls : List Line) (n : Node) (xs : List Sending) (x : Sending) (code : ℤ) → Holds v (ends_sending me l v b ls n xs x code)
 ends_keep me l v b ls n xs x code =
     let u : VolState = record v { sendings = put_at n xs v.sendings; calls = put_at n None v.calls; seats = finished (key_of x.head) (forward_reply l.boot x.head code) v.seats } in
     next_keeps v me l.boot n (record { lasting = l; vol = u; backs = b; lines = ls; sent = forward_reply l.boot x.head code ∷ [] }) (u.sendings n) (u.calls n) (record { keeps = λ r k y. y })
@@ -226,17 +225,17 @@ timed_keeps me l v b n c (x ∷ xs) = if_keeps v (is_sent_again c.tries) _ _ (re
 file_keeps : (s : NodeState) (after : Step ServerState) → KeepsHeld s (file_stepped s.vol after)
 file_keeps s after reply n h e = stays reply n s.vol.held after.state.backs.lists.owed h e
 
-vol_keeps : (me : Node) (s : NodeState) (ls : List ServerLine) (t : VolTurn) → Holds s.vol t → KeepsHeld s (vol_stepped me s.file ls t)
+vol_keeps : (me : Node) (s : NodeState) (ls : List Line) (t : VolTurn) → Holds s.vol t → KeepsHeld s (vol_stepped me s.file ls t)
 vol_keeps me s ls t k reply n h e = stays reply n t.vol.held _ (k.keeps reply n h) e
 
-node_keeps : (t : Bool) (s : NodeState) (x y : LinedStep NodeState) → KeepsHeld s x → KeepsHeld s y → KeepsHeld s (cond t x y)
+node_keeps : (t : Bool) (s : NodeState) (x y : Step NodeState) → KeepsHeld s x → KeepsHeld s y → KeepsHeld s (cond t x y)
 node_keeps true s x y h k = h
 node_keeps false s x y h k = k
 
 pub held_are_kept : HeldAreKept
 unfolding node_row node_back_timeout_row piece_timeout_row node_wake_row
 held_are_kept = record {
-  given = λ me s clock place m. node_keeps (is_of_client (from_of m)) s _ _ (file_keeps s (file_row me (holds_of s.vol.transactions) s.file clock place m)) (vol_keeps me s (plain (lines.Given place) ∷ []) _ (all_keep me s.file.lasting s.vol (expired clock s.file.backs) (vol_decides me (durable_of s.file.lasting) s.vol m) m));
+  given = λ me s clock place m. node_keeps (is_of_client (from_of m)) s _ _ (file_keeps s (file_row me (holds_of s.vol.transactions) s.file clock place m)) (vol_keeps me s (lines.Given place ∷ []) _ (all_keep me s.file.lasting s.vol (expired clock s.file.backs) (vol_decides me (durable_of s.file.lasting) s.vol m) m));
   late = λ me s clock n c. file_keeps s (back_timeout_row me s.file clock n c);
   piece = λ me s clock n c. vol_keeps me s [] _ (timed_keeps me s.file.lasting s.vol (expired clock s.file.backs) n c (s.vol.sendings n));
   woken = λ me s clock. file_keeps s (wake_row me s.file clock);

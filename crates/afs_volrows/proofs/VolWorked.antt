@@ -22,6 +22,7 @@ use Rattle.afs_num.specs.declared.volume_calls.VolCall.{VolCall}
 use Rattle.afs_num.specs.declared.volume_calls.VolCall.TheVariants as calls
 use Rattle.afs_num.specs.declared.volume_calls.VolReply.{VolReply}
 use Rattle.afs_num.specs.declared.volume_calls.VolReply.TheVariants as replies
+use Rattle.afs_history.specs.declared.lines.Line.{Line}
 use Rattle.afs_history.specs.declared.lines.Line.TheVariants as lines
 use Rattle.afs_xdr.specs.Words.{word, opaque, pad, word_at}
 use Rattle.afs_ideal.specs.AccessLists.{acl_text, entry_text, rights_of}
@@ -38,10 +39,10 @@ use Rattle.afs_dumps.specs.Dumps.{dump_of}
 use Rattle.afs_dumps.specs.Restores.{fed, finished}
 use Rattle.afs_dumps.specs.Streams.{dump_at, dump_bytes, dump_field, dump_header_field, image_field, live_field, volume_header_field}
 use Rattle.afs_rows.specs.Runs.{first_server}
+use Rattle.afs_rows.specs.Steps.{begun_before}
 use Rattle.afs_fold.specs.Deeds.{created}
-use Rattle.afs_fold.specs.ServerLines.{enable, fence, made, plain, vanish, version_lines, ServerLine}
+use Rattle.afs_fold.specs.Effects.{version_lines}
 use Rattle.afs_volrows.specs.FileRow.{file_row, file_start}
-use Rattle.afs_volrows.specs.LinedSteps.{nothing_before}
 use Rattle.afs_volrows.specs.VolStates.{fresh_vol, NodeState}
 use Rattle.afs_volrows.specs.VolSteps.{node_begun_after, node_row, node_start_row}
 
@@ -86,7 +87,7 @@ abbrev answers : NodeState → List Message → List Carried
 answers s [] = []
 answers s (m ∷ ms) = map (λ (x : Message). x.carried) (node_row (Server 1) s 0 1 (Whole m)).sent ++ answers (node_row (Server 1) s 0 1 (Whole m)).state ms
 
-abbrev told : NodeState → List Message → List ServerLine
+abbrev told : NodeState → List Message → List Line
 told s [] = []
 told s (m ∷ ms) = (node_row (Server 1) s 0 1 (Whole m)).lines ++ told (node_row (Server 1) s 0 1 (Whole m)).state ms
 
@@ -183,15 +184,15 @@ fence_waits : answers (after start (makes ∷ [])) (asks 1 1 (calls.TransCreate 
 unfolding node_row node_start_row file_start file_row spelled record_bytes head_form volume_form word opaque pad directory_bytes name_bytes rights_of image acl_text digits entry_text name_ok
 fence_waits = refl
 
-abbrev owes_it : ServerLine
-owes_it = plain (lines.Owe (Server 1) (Client 1) (Some (record { volume = home; vnode = 2; unique = 2 })) 1)
+abbrev owes_it : Line
+owes_it = lines.Owe (Server 1) (Client 1) (Some (record { volume = home; vnode = 2; unique = 2 })) 1
 
-fence_told : told (after start (makes ∷ asks 1 1 (calls.TransCreate home home 1) ∷ [])) (asks 2 1 (calls.SetFlags home 1 2) ∷ []) ≡ plain (lines.Given 1) ∷ fence home (Server 1) ∷ owes_it ∷ []
+fence_told : told (after start (makes ∷ asks 1 1 (calls.TransCreate home home 1) ∷ [])) (asks 2 1 (calls.SetFlags home 1 2) ∷ []) ≡ lines.Given 1 ∷ lines.Fence home (Server 1) ∷ owes_it ∷ []
 unfolding node_row node_start_row file_start file_row spelled record_bytes head_form volume_form word opaque pad directory_bytes name_bytes rights_of image acl_text digits entry_text name_ok
 fence_told = refl
 
 -- so does each word that takes the flags from 0
-other_flags_told : told (after start (makes ∷ asks 1 1 (calls.TransCreate home home 1) ∷ [])) (asks 2 1 (calls.SetFlags home 1 4) ∷ []) ≡ plain (lines.Given 1) ∷ fence home (Server 1) ∷ owes_it ∷ []
+other_flags_told : told (after start (makes ∷ asks 1 1 (calls.TransCreate home home 1) ∷ [])) (asks 2 1 (calls.SetFlags home 1 4) ∷ []) ≡ lines.Given 1 ∷ lines.Fence home (Server 1) ∷ owes_it ∷ []
 unfolding node_row node_start_row file_start file_row spelled record_bytes head_form volume_form word opaque pad directory_bytes name_bytes rights_of image acl_text digits entry_text name_ok
 other_flags_told = refl
 
@@ -211,7 +212,7 @@ fence_answered = refl
 
 flagged_then_gone :
     (node_start_row (Server 1) 9 1 (node_begun_after (Server 1) (after start (asks 1 1 (calls.TransCreate home home 1) ∷ [])) 0 (Whole (asks 2 1 (calls.SetFlags home 1 3))))).lines
-    ≡ fence home (Server 1) ∷ plain (lines.Restart (Server 1) 2) ∷ vanish home (Server 1) ∷ plain (lines.Owe (Server 1) (Client 1) None 1) ∷ []
+    ≡ lines.Fence home (Server 1) ∷ lines.Restart (Server 1) 2 ∷ lines.Vanish home (Server 1) ∷ lines.Owe (Server 1) (Client 1) None 1 ∷ []
 unfolding node_row node_start_row file_start file_row spelled record_bytes head_form volume_form word opaque pad directory_bytes name_bytes rights_of image acl_text digits entry_text name_ok
 flagged_then_gone = refl
 
@@ -221,7 +222,7 @@ abbrev in_boot_2 : Message → Message
 in_boot_2 m = record m { head = record m.head { boot = 2 } }
 
 anew :
-    answers (node_start_row (Server 1) 9 1 (nothing_before (after start (asks 1 1 (calls.TransCreate home home 1) ∷ asks 2 2 (calls.TransCreate home home 1) ∷ [])).file)).state
+    answers (node_start_row (Server 1) 9 1 (begun_before (after start (asks 1 1 (calls.TransCreate home home 1) ∷ asks 2 2 (calls.TransCreate home home 1) ∷ [])).file)).state
     (map in_boot_2 (asks 3 2 (calls.GetFlags home 2) ∷ asks 4 1 (calls.TransCreate home home 1) ∷ asks 5 2 (calls.TransCreate home home 1) ∷ []))
     ≡ no 1492325135 ∷ no 1492325131 ∷ yes (replies.TransCreate 1) ∷ []
 unfolding node_row node_start_row file_start file_row spelled record_bytes head_form volume_form word opaque pad directory_bytes name_bytes rights_of image acl_text digits entry_text name_ok
@@ -229,22 +230,22 @@ anew = refl
 
 -- ---- a read-write volume that is made with flags 0 is told whole, and accepts stores at once
 
-abbrev first_of : ℕ → List ServerLine
+abbrev first_of : ℕ → List Line
 first_of id = version_lines (record { fid = record { volume = id; vnode = 1; unique = 1 }; index = 1; data_version = 1; body = shapes.Dir [] } ∷ [])
 
-made_at_once : told start (asks 1 0 (calls.CreateVolume other other (codes "new") 0 0 1) ∷ []) ≡ plain (lines.Given 1) ∷ made (Server 1) other 1 ∷ first_of other ++ enable other (Server 1) ∷ []
+made_at_once : told start (asks 1 0 (calls.CreateVolume other other (codes "new") 0 0 1) ∷ []) ≡ lines.Given 1 ∷ lines.Made (Server 1) other 1 ∷ first_of other ++ lines.Enable other (Server 1) ∷ []
 unfolding node_row node_start_row file_start file_row spelled record_bytes head_form volume_form word opaque pad directory_bytes name_bytes rights_of image acl_text digits entry_text name_ok
 made_at_once = refl
 
 -- with flags it is told at its first SetFlags 0, and at no other
 made_later :
     told start (asks 1 0 (calls.CreateVolume other other (codes "new") 0 3 1) ∷ asks 2 0 (calls.SetFlags other 1 0) ∷ asks 3 0 (calls.SetFlags other 1 2) ∷ asks 4 0 (calls.SetFlags other 1 0) ∷ [])
-    ≡ plain (lines.Given 1) ∷ plain (lines.Given 1) ∷ made (Server 1) other 1 ∷ first_of other ++ enable other (Server 1) ∷ plain (lines.Given 1) ∷ fence other (Server 1) ∷ plain (lines.Given 1) ∷ enable other (Server 1) ∷ []
+    ≡ lines.Given 1 ∷ lines.Given 1 ∷ lines.Made (Server 1) other 1 ∷ first_of other ++ lines.Enable other (Server 1) ∷ lines.Given 1 ∷ lines.Fence other (Server 1) ∷ lines.Given 1 ∷ lines.Enable other (Server 1) ∷ []
 unfolding node_row node_start_row file_start file_row spelled record_bytes head_form volume_form word opaque pad directory_bytes name_bytes rights_of image acl_text digits entry_text name_ok
 made_later = refl
 
 -- under a stamp it is no new one: its flags are told, and nothing else
-brought : told start (asks 1 5 (calls.CreateVolume other other (codes "new") 0 3 1) ∷ asks 2 5 (calls.SetFlags other 1 0) ∷ []) ≡ plain (lines.Given 1) ∷ plain (lines.Given 1) ∷ enable other (Server 1) ∷ []
+brought : told start (asks 1 5 (calls.CreateVolume other other (codes "new") 0 3 1) ∷ asks 2 5 (calls.SetFlags other 1 0) ∷ []) ≡ lines.Given 1 ∷ lines.Given 1 ∷ lines.Enable other (Server 1) ∷ []
 unfolding node_row node_start_row file_start file_row spelled record_bytes head_form volume_form word opaque pad directory_bytes name_bytes rights_of image acl_text digits entry_text name_ok
 brought = refl
 

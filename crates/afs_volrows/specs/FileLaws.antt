@@ -21,7 +21,6 @@ use Rattle.afs_rows.specs.ServerSteps.{back_timeout_row, done, server_row, start
 use Rattle.afs_rows.specs.States.{BackCall, ServerState}
 use Rattle.afs_rows.specs.Steps.{begun_before, Begun}
 use Rattle.afs_volrows.specs.FileRow.{busy, closed_code, file_decides, file_row, file_serves, file_sight, file_start, missing_code, out_of_service, went_on}
-use Rattle.afs_volrows.specs.LinedSteps.{plain_begun, plain_step, LinedBegun}
 
 -- ---- a server without volume calls: none of its volumes is held, out of service or elsewhere
 
@@ -37,8 +36,7 @@ TellsFirst begun = (ls : List Line) → begun.before ls ≡ begun.before [] ++ l
 pub record OpenServersArePlain : Type 0 where
   pub decided : (me : Node) (s : ServerState) (clock : ℕ) (m : Received) → IsOpen s → file_decides me [] s clock m ≡ decides me s clock m
   pub row : (me : Node) (s : ServerState) (clock place : ℕ) (m : Received) → IsOpen s → file_row me [] s clock place m ≡ server_row me s clock place m
-  pub start : (me : Node) (clock count : ℕ) (begun : Begun ServerState) → IsOpen begun.state → TellsFirst begun →
-      file_start me clock count (plain_begun begun) ≡ plain_step (start_row me clock count begun)
+  pub start : (me : Node) (clock count : ℕ) (begun : Begun ServerState) → IsOpen begun.state → file_start me clock count begun ≡ start_row me clock count begun
   -- whichever message began the step that was interrupted
   pub tells : (me : Node) (s : ServerState) (clock : ℕ) (d : Decision) → TellsFirst (begun_before s) × TellsFirst (begun_after me s clock d)
 
@@ -48,7 +46,7 @@ pub record OpenServersStayOpen : Type 0 where
   pub late : (me : Node) (s : ServerState) (clock : ℕ) (n : Node) (c : BackCall) → IsOpen s → IsOpen (back_timeout_row me s clock n c).state
   pub woken : (me : Node) (s : ServerState) (clock : ℕ) → IsOpen s → IsOpen (wake_row me s clock).state
   pub cut : (me : Node) (holds : Table ℕ) (s : ServerState) (clock : ℕ) (m : Received) → IsOpen s → IsOpen (begun_after me s clock (file_decides me holds s clock m)).state
-  pub started : (me : Node) (clock count : ℕ) (begun : LinedBegun ServerState) → IsOpen begun.state → IsOpen (file_start me clock count begun).state
+  pub started : (me : Node) (clock count : ℕ) (begun : Begun ServerState) → IsOpen begun.state → IsOpen (file_start me clock count begun).state
 
 -- ---- every server, whatever is held, out of service or elsewhere
 
@@ -104,5 +102,5 @@ pub record ClosedAreRefused : Type 0 where
 
 -- It begins again as the other does: only its lines are told besides.
 pub record StartsAlike : Type 0 where
-  pub state : (me : Node) (clock count : ℕ) (begun : Begun ServerState) → (file_start me clock count (plain_begun begun)).state ≡ (start_row me clock count begun).state
-  pub sent : (me : Node) (clock count : ℕ) (begun : Begun ServerState) → (file_start me clock count (plain_begun begun)).sent ≡ (start_row me clock count begun).sent
+  pub state : (me : Node) (clock count : ℕ) (begun : Begun ServerState) → (file_start me clock count begun).state ≡ (start_row me clock count begun).state
+  pub sent : (me : Node) (clock count : ℕ) (begun : Begun ServerState) → (file_start me clock count begun).sent ≡ (start_row me clock count begun).sent

@@ -14,6 +14,7 @@ use Rattle.afs_num.specs.declared.messages.Received.TheVariants.{Nothing, Unserv
 use Rattle.afs_num.specs.declared.types.Fid.{Fid}
 use Rattle.afs_num.specs.declared.types.Head.{Head}
 use Rattle.afs_num.specs.declared.types.Node.{Node}
+use Rattle.afs_history.specs.declared.lines.Line.{Line}
 use Rattle.afs_history.specs.declared.lines.Line.TheVariants as lines
 use Rattle.afs_shape.specs.Reading.{◌>>=◌}
 use Rattle.afs_ideal.specs.Operations.{op, the_user, volume_called, Caller}
@@ -25,10 +26,8 @@ use Rattle.afs_rows.specs.Callbacks.{expired, risen_turn, turned_in}
 use Rattle.afs_rows.specs.ServerRow.{code_of_unreadable, decided, drops, given_up_read, is_client, no_volume, not_served, refuses, repeats, revived, several, shows, sight_by, tells_boot, time_read, whole, Decision, Sight}
 use Rattle.afs_rows.specs.ServerSteps.{done, stepped}
 use Rattle.afs_rows.specs.States.{ServerState}
-use Rattle.afs_rows.specs.Steps.{Step}
+use Rattle.afs_rows.specs.Steps.{Begun, Step}
 use Rattle.afs_fold.specs.Effects.{vanished_lines}
-use Rattle.afs_fold.specs.ServerLines.{plain, plain_lines, ServerLine}
-use Rattle.afs_volrows.specs.LinedSteps.{with_lines, LinedBegun, LinedStep}
 
 -- ---- closed volumes
 
@@ -139,12 +138,9 @@ file_row me holds s clock place m =
 
 -- It begins again, in a cell of so many clients. The volumes with the flag of delete on salvage are gone. The lines of a step that was
 -- interrupted come first, then the restart, then the volumes that vanish, then the breaks that it owes.
-abbrev pub start_lines : Node → ℕ → ℕ → LinedBegun ServerState → List ServerLine
+abbrev pub start_lines : Node → ℕ → ℕ → Begun ServerState → List Line
 start_lines me clock count begun =
-    begun.before
-    ++ (plain (lines.Restart me (begun.state.lasting.boot + 1))
-    ∷ (vanished_lines me begun.state.lasting.volumes ++ plain_lines (risen_turn me clock count).lines))
+    begun.before (lines.Restart me (begun.state.lasting.boot + 1) ∷ (vanished_lines me begun.state.lasting.volumes ++ (risen_turn me clock count).lines))
 
-unfoldable pub file_start : Node → ℕ → ℕ → LinedBegun ServerState → LinedStep ServerState
-file_start me clock count begun =
-    with_lines (start_lines me clock count begun) (stepped me (revived begun.state) [] (risen_turn me clock count))
+unfoldable pub file_start : Node → ℕ → ℕ → Begun ServerState → Step ServerState
+file_start me clock count begun = stepped me (revived begun.state) (start_lines me clock count begun) (risen_turn me clock count)

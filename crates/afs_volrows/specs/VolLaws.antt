@@ -10,18 +10,17 @@ use Rattle.afs_num.specs.declared.records.RecordBody.TheVariants as bodies
 use Rattle.afs_num.specs.declared.types.Head.{Head}
 use Rattle.afs_num.specs.declared.types.Node.{Node}
 use Rattle.afs_breaks.specs.Promises.{has_break, Lists}
+use Rattle.afs_history.specs.declared.lines.Line.{Line}
 use Rattle.afs_history.specs.declared.lines.Line.TheVariants as lines
 use Rattle.afs_ideal.specs.Tables.{get, set, unset, AscendsFrom, Table}
 use Rattle.afs_records.specs.Durable.{has_room, or_zero, stamp_of, with_stamp, Durable, Stored}
 use Rattle.afs_rows.specs.Callbacks.{alls, expired, is_ready, numbers, owe_line, replies_of}
 use Rattle.afs_rows.specs.States.{durable_of, BackCall, Held, Lasting, Seat, ServerState}
-use Rattle.afs_rows.specs.Steps.{Step}
+use Rattle.afs_rows.specs.Steps.{Begun, Step}
 use Rattle.afs_fold.specs.Deeds.{can_take, done_by, has_volume}
 use Rattle.afs_fold.specs.Effects.{effect_of}
 use Rattle.afs_fold.specs.Fold.{folded}
-use Rattle.afs_fold.specs.ServerLines.{plain, plain_lines, ServerLine}
 use Rattle.afs_volrows.specs.FileRow.{file_row}
-use Rattle.afs_volrows.specs.LinedSteps.{LinedBegun, LinedStep}
 use Rattle.afs_volrows.specs.VolRow.{gave, holds_of, takes_out}
 use Rattle.afs_volrows.specs.VolStates.{NodeState, PieceCall, Transaction, VolState}
 use Rattle.afs_volrows.specs.VolSteps.{deed_done, deed_head, deed_lines, deed_record, dispatches, drops, from_of, is_of_client, is_waiting, node_back_timeout_row, node_begun_after, node_row, node_start_row, node_wake_row, owes_of, piece_timeout_row, released, repeats, replies_to, saves, tells_boot, vol_begun_after, vol_decides, withdraws_from, Deed, VolDecision}
@@ -70,25 +69,25 @@ DeedsAreFolded = (l : Lasting) (head : Head) (x : Deed) → can_take x.body (dur
 -- What its record tells is what its step tells of it, and what a restart tells behind a step that was interrupted.
 pub record DeedsAreTold : Type 0 where
   pub step : (me : Node) (l : Lasting) (head : Head) (x : Deed) → deed_lines me head x l ≡ effect_of me (deed_record head x) (durable_of l)
-  pub restart : (me : Node) (s : ServerState) (head : Head) (x : Deed) →
-      (vol_begun_after me s (saves head x)).before ≡ effect_of me (deed_record head x) (durable_of s.lasting)
+  pub restart : (me : Node) (s : ServerState) (head : Head) (x : Deed) (ls : List Line) →
+      (vol_begun_after me s (saves head x)).before ls ≡ effect_of me (deed_record head x) (durable_of s.lasting) ++ ls
 
 -- ---- what files see of it
 
 -- A saved call leaves what its deed leaves on the disk, withdraws promises on one volume or none, and tells what its record tells and then the
 -- breaks that it owes. The file server's callers stay.
-pub record ShowsDeed (me : Node) (s : NodeState) (clock place : ℕ) (head : Head) (x : Deed) (r : LinedStep NodeState) : Type 0 where
+pub record ShowsDeed (me : Node) (s : NodeState) (clock place : ℕ) (head : Head) (x : Deed) (r : Step NodeState) : Type 0 where
   pub lasting : r.state.file.lasting ≡ deed_done head x s.file.lasting
   pub seats : r.state.file.seats ≡ s.file.seats
   pub lists : r.state.file.backs.lists ≡ withdraws_from x.withdraws (expired clock s.file.backs).lists
-  pub lines : r.lines ≡ plain (lines.Given place) ∷ (effect_of me (deed_record head x) (durable_of s.file.lasting) ++ plain_lines (map (owe_line me) (owes_of x.withdraws (expired clock s.file.backs).lists)))
+  pub lines : r.lines ≡ lines.Given place ∷ (effect_of me (deed_record head x) (durable_of s.file.lasting) ++ map (owe_line me) (owes_of x.withdraws (expired clock s.file.backs).lists))
 
 abbrev pub DeedsAreShown : Type 0
 DeedsAreShown = (me : Node) (s : NodeState) (clock place : ℕ) (m : Received) (head : Head) (x : Deed) → is_of_client (from_of m) ≡ false → vol_decides me (durable_of s.file.lasting) s.vol m ≡ saves head x →
     ShowsDeed me s clock place head x (node_row me s clock place m)
 
 -- no file sees anything, but that promises and breaks expire
-pub record LeavesFiles (clock : ℕ) (s : ServerState) (r : LinedStep NodeState) : Type 0 where
+pub record LeavesFiles (clock : ℕ) (s : ServerState) (r : Step NodeState) : Type 0 where
   pub lasting : r.state.file.lasting ≡ s.lasting
   pub seats : r.state.file.seats ≡ s.seats
   pub lists : r.state.file.backs.lists ≡ (expired clock s.backs).lists
@@ -105,8 +104,8 @@ pub record OthersLeaveFiles : Type 0 where
 
 -- ---- a node whose callers are clients steps as its file server does, and its volume server rests
 
-abbrev pub resting : VolState → Step ServerState → LinedStep NodeState
-resting v s = record { state = record { file = s.state; vol = v }; lines = plain_lines s.lines; sent = s.sent }
+abbrev pub resting : VolState → Step ServerState → Step NodeState
+resting v s = record { state = record { file = s.state; vol = v }; lines = s.lines; sent = s.sent }
 
 abbrev pub ClientsLeaveVolumesAlone : Type 0
 ClientsLeaveVolumesAlone = (me : Node) (s : NodeState) (clock place : ℕ) (m : Received) → s.vol.held ≡ [] → is_of_client (from_of m) ≡ true →
@@ -150,7 +149,7 @@ pub record NodesStayStamped : Type 0 where
   pub back : (me : Node) (s : NodeState) (clock : ℕ) (n : Node) (c : BackCall) → IsStamped s → Follows s.file (node_back_timeout_row me s clock n c).state
   pub woken : (me : Node) (s : NodeState) (clock : ℕ) → IsStamped s → Follows s.file (node_wake_row me s clock).state
   pub cut : (me : Node) (s : NodeState) (clock : ℕ) (m : Received) → IsStamped s → (f : ℕ) → stamp_at s.file f ≤ stamp_at (node_begun_after me s clock m).state f
-  pub started : (me : Node) (clock count : ℕ) (begun : LinedBegun ServerState) → Follows begun.state (node_start_row me clock count begun).state
+  pub started : (me : Node) (clock count : ℕ) (begun : Begun ServerState) → Follows begun.state (node_start_row me clock count begun).state
 
 -- ---- transactions are apart: each on a volume of the disk, and no two on one
 
@@ -180,7 +179,7 @@ pub record NodesStayApart : Type 0 where
   pub late : (me : Node) (s : NodeState) (clock : ℕ) (n : Node) (c : PieceCall) → IsApart s → IsApart (piece_timeout_row me s clock n c).state
   pub back : (me : Node) (s : NodeState) (clock : ℕ) (n : Node) (c : BackCall) → IsApart s → IsApart (node_back_timeout_row me s clock n c).state
   pub woken : (me : Node) (s : NodeState) (clock : ℕ) → IsApart s → IsApart (node_wake_row me s clock).state
-  pub started : (me : Node) (clock count : ℕ) (begun : LinedBegun ServerState) → IsApart (node_start_row me clock count begun).state
+  pub started : (me : Node) (clock count : ℕ) (begun : Begun ServerState) → IsApart (node_start_row me clock count begun).state
 
 -- The volumes that are held are those of the transactions, each with its flags. They change by one where a transaction begins or ends, and by
 -- none where one is given bytes.
@@ -207,7 +206,7 @@ abbrev pub waits_of : Deed → Lists → List ℕ
 waits_of x l = numbers (owes_of x.withdraws l) ++ alls l.owed
 
 -- The reply to a saved call that waits for breaks doesn't go out in its step: each of these breaks is owed then, and the reply is held for it.
-pub record IsHeldBack (reply : Message) (n : ℕ) (r : LinedStep NodeState) : Type 0 where
+pub record IsHeldBack (reply : Message) (n : ℕ) (r : Step NodeState) : Type 0 where
   pub owed : has_break n r.state.file.backs.lists.owed ≡ true
   pub held : IsHeldFor reply n r.state.vol.held
 
@@ -216,7 +215,7 @@ FencesWait = (me : Node) (s : NodeState) (clock place : ℕ) (m : Received) (hea
     IsAmong n (waits_of x (expired clock s.file.backs).lists) → IsHeldBack x.reply n (node_row me s clock place m)
 
 -- a step of the node keeps what is held while its break is owed
-abbrev pub KeepsHeld : NodeState → LinedStep NodeState → Type 0
+abbrev pub KeepsHeld : NodeState → Step NodeState → Type 0
 KeepsHeld s r = (reply : Message) (n : ℕ) → IsHeldFor reply n s.vol.held → has_break n r.state.file.backs.lists.owed ≡ true → IsHeldFor reply n r.state.vol.held
 
 pub record HeldAreKept : Type 0 where
@@ -226,10 +225,10 @@ pub record HeldAreKept : Type 0 where
   pub woken : (me : Node) (s : NodeState) (clock : ℕ) → KeepsHeld s (node_wake_row me s clock)
 
 -- What was held goes out behind all else, where none of its breaks is owed, and is held no more.
-pub record HeldGoOut (v : VolState) (ls : List ServerLine) (after : Step ServerState) : Type 0 where
+pub record HeldGoOut (v : VolState) (ls : List Line) (after : Step ServerState) : Type 0 where
   pub sent : (released v ls after).sent ≡ after.sent ++ replies_of (filter (is_ready after.state.backs.lists.owed) v.held)
   pub ended : AllByRecursion (λ (h : Held). (n : ℕ) → IsAmong n h.waits → has_break n after.state.backs.lists.owed ≡ false) (filter (is_ready after.state.backs.lists.owed) v.held)
   pub left : (released v ls after).state.vol.held ≡ filter (is_waiting after.state.backs.lists.owed) v.held
 
 abbrev pub HeldGoOutLast : Type 0
-HeldGoOutLast = (v : VolState) (ls : List ServerLine) (after : Step ServerState) → HeldGoOut v ls after
+HeldGoOutLast = (v : VolState) (ls : List Line) (after : Step ServerState) → HeldGoOut v ls after

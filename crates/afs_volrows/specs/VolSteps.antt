@@ -22,6 +22,7 @@ use Rattle.afs_num.specs.declared.volume_calls.VolCall.{VolCall}
 use Rattle.afs_num.specs.declared.volume_calls.VolCall.TheVariants as calls
 use Rattle.afs_num.specs.declared.volume_calls.VolReply.{VolReply}
 use Rattle.afs_num.specs.declared.volume_calls.VolReply.TheVariants as replies
+use Rattle.afs_history.specs.declared.lines.Line.{Line}
 use Rattle.afs_history.specs.declared.lines.Line.TheVariants as lines
 use Rattle.afs_breaks.specs.declared.types.OwedBreak.{OwedBreak}
 use Rattle.afs_breaks.specs.Promises as lists
@@ -38,12 +39,10 @@ use Rattle.afs_rows.specs.Callbacks.{alls, expired, held_under, is_ready, is_sea
 use Rattle.afs_rows.specs.ServerRow.{bad_fields, begun_after, boot_told, device_calls, is_client, journal_with, key_of, not_served, refusal, replied, seat_for, seat_placed, Decision}
 use Rattle.afs_rows.specs.ServerSteps.{back_timeout_row, stepped, wake_row}
 use Rattle.afs_rows.specs.States.{durable_of, BackCall, Backs, Held, Lasting, Seat, ServerState}
-use Rattle.afs_rows.specs.Steps.{Step}
+use Rattle.afs_rows.specs.Steps.{begun_before, Begun, Step}
 use Rattle.afs_fold.specs.Deeds.{done_by}
 use Rattle.afs_fold.specs.Effects.{effect_by}
-use Rattle.afs_fold.specs.ServerLines.{plain, plain_lines, ServerLine}
 use Rattle.afs_volrows.specs.FileRow.{file_decides, file_row, file_start}
-use Rattle.afs_volrows.specs.LinedSteps.{nothing_before, plain_begun, LinedBegun, LinedStep}
 use Rattle.afs_volrows.specs.VolRow.{accepted, family_of, gives, holds_of, last_after, last_word, most_piece, no_more, old_stamp, refused, sends, stay, transactions_after, verdict, without_family, After, Dispatch, Plan, Verdict}
 use Rattle.afs_volrows.specs.VolStates.{fresh_vol, NodeState, PieceCall, Sending, Transaction, VolState}
 
@@ -216,7 +215,7 @@ pub record VolTurn : Type 0 where
   pub lasting : Lasting
   pub vol : VolState
   pub backs : Backs
-  pub lines : List ServerLine
+  pub lines : List Line
   pub sent : List Message
 
 abbrev pub vol_rests : Lasting → VolState → Backs → VolTurn
@@ -226,7 +225,7 @@ abbrev pub held_vol : Message → List ℕ → Bool → Held
 held_vol reply waits again = record { reply = reply; waits = waits; again = again }
 
 -- a reply goes out at once where it waits for nothing
-abbrev pub vol_answers : Lasting → VolState → Backs → List ServerLine → Message → List ℕ → Bool → VolTurn
+abbrev pub vol_answers : Lasting → VolState → Backs → List Line → Message → List ℕ → Bool → VolTurn
 vol_answers l v b ls reply [] again = record { lasting = l; vol = v; backs = b; lines = ls; sent = reply ∷ [] }
 vol_answers l v b ls reply (k ∷ ks) again = record { lasting = l; vol = record v { held = v.held ++ held_vol reply (k ∷ ks) again ∷ [] }; backs = b; lines = ls; sent = [] }
 
@@ -258,7 +257,7 @@ vol_lasting head x l e = record l {
 abbrev pub deed_done : Head → Deed → Lasting → Lasting
 deed_done head x l = vol_lasting head x l (with_stamp (deed_head head x) (done_by x.body (durable_of l)))
 
-abbrev pub deed_lines : Node → Head → Deed → Lasting → List ServerLine
+abbrev pub deed_lines : Node → Head → Deed → Lasting → List Line
 deed_lines me head x l = effect_by me (deed_head head x) x.body (durable_of l)
 
 -- the server's own calls to other servers: one piece at a time, the dumps one after the other
@@ -312,7 +311,7 @@ vol_turn me l v b (replies_to head reply ts last) = vol_answers l (vol_seated he
 vol_turn me l v b (dispatches head x) = dispatched me l v b head x
 vol_turn me l v b (saves head x) =
     vol_answers (deed_done head x l) (vol_seated head x.reply (with_transactions x.transactions x.last v)) (record b { lists = withdraws_from x.withdraws b.lists })
-    (deed_lines me head x l ++ plain_lines (map (owe_line me) (owes_of x.withdraws b.lists))) x.reply (numbers (owes_of x.withdraws b.lists) ++ alls b.lists.owed) false
+    (deed_lines me head x l ++ map (owe_line me) (owes_of x.withdraws b.lists)) x.reply (numbers (owes_of x.withdraws b.lists) ++ alls b.lists.owed) false
 
 -- ---- answers to its own calls
 
@@ -325,7 +324,7 @@ abbrev pub forward_reply : ℕ → Head → ℤ → Message
 forward_reply boot head code = if is_number code 0 then replied boot head (carried.Reply (tell.Volume replies.Forward)) else refusal boot head code
 
 -- The dump has gone, or is given up: its reply goes out, and is kept where the call is still its caller's last one; then the next dump goes.
-abbrev pub ends_sending : Node → Lasting → VolState → Backs → List ServerLine → Node → List Sending → Sending → ℤ → VolTurn
+abbrev pub ends_sending : Node → Lasting → VolState → Backs → List Line → Node → List Sending → Sending → ℤ → VolTurn
 ends_sending me l v b ls n xs x code = next_piece me l.boot n (record {
   lasting = l;
   vol = record v { sendings = put_at n xs v.sendings; calls = put_at n None v.calls; seats = finished (key_of x.head) (forward_reply l.boot x.head code) v.seats };
@@ -397,10 +396,10 @@ vol_timed me l v b n c (x ∷ xs) =
       lasting = l;
       vol = record v { calls = put_at n (Some (record c { tries = c.tries + 1 })) v.calls };
       backs = b;
-      lines = plain (timeout_line me l.boot n c.number (c.tries + 1)) ∷ [];
+      lines = timeout_line me l.boot n c.number (c.tries + 1) ∷ [];
       sent = piece_message me l.boot n (v.known n) c.number x ∷ [];
     }
-    else ends_sending me l v b (plain (timeout_line me l.boot n c.number last_timeout) ∷ []) n xs x given_up
+    else ends_sending me l v b (timeout_line me l.boot n c.number last_timeout ∷ []) n xs x given_up
 
 -- ---- the end of each step
 
@@ -408,7 +407,7 @@ vol_timed me l v b n c (x ∷ xs) =
 abbrev pub is_waiting : List OwedBreak → Held → Bool
 is_waiting os h = not (is_ready os h)
 
-abbrev pub released : VolState → List ServerLine → Step ServerState → LinedStep NodeState
+abbrev pub released : VolState → List Line → Step ServerState → Step NodeState
 released v ls s = record {
   state = record { file = s.state; vol = record v { held = filter (is_waiting s.state.backs.lists.owed) v.held } };
   lines = ls;
@@ -416,11 +415,11 @@ released v ls s = record {
 }
 
 -- the file server's step
-abbrev pub file_stepped : VolState → Step ServerState → LinedStep NodeState
-file_stepped v s = released v (plain_lines s.lines) s
+abbrev pub file_stepped : VolState → Step ServerState → Step NodeState
+file_stepped v s = released v s.lines s
 
 -- what the volume server did, and then what the file server does with promises
-abbrev pub vol_stepped : Node → ServerState → List ServerLine → VolTurn → LinedStep NodeState
+abbrev pub vol_stepped : Node → ServerState → List Line → VolTurn → Step NodeState
 vol_stepped me s ls t =
     released t.vol (ls ++ t.lines) (stepped me (record s { lasting = t.lasting }) [] (record { backs = t.backs; lines = []; sent = t.sent; outs = [] }))
 
@@ -435,49 +434,49 @@ abbrev pub is_of_client : Option Node → Bool
 is_of_client None = true
 is_of_client (Some n) = is_client n
 
-abbrev pub vol_row : Node → NodeState → ℕ → ℕ → Received → LinedStep NodeState
+abbrev pub vol_row : Node → NodeState → ℕ → ℕ → Received → Step NodeState
 vol_row me s clock place m =
-    vol_stepped me s.file (plain (lines.Given place) ∷ []) (vol_turned me s.file.lasting s.vol (expired clock s.file.backs) (vol_decides me (durable_of s.file.lasting) s.vol m) m)
+    vol_stepped me s.file (lines.Given place ∷ []) (vol_turned me s.file.lasting s.vol (expired clock s.file.backs) (vol_decides me (durable_of s.file.lasting) s.vol m) m)
 
 -- what the file server decides beside the volume server
 abbrev pub node_file_decides : Node → NodeState → ℕ → Received → Decision
 node_file_decides me s clock m = file_decides me (holds_of s.vol.transactions) s.file clock m
 
 -- the node, given the message of this place
-unfoldable pub node_row : Node → NodeState → ℕ → ℕ → Received → LinedStep NodeState
+unfoldable pub node_row : Node → NodeState → ℕ → ℕ → Received → Step NodeState
 node_row me s clock place m =
     if is_of_client (from_of m) then file_stepped s.vol (file_row me (holds_of s.vol.transactions) s.file clock place m) else vol_row me s clock place m
 
 -- its unanswered call to another server is timed out
-unfoldable pub piece_timeout_row : Node → NodeState → ℕ → Node → PieceCall → LinedStep NodeState
+unfoldable pub piece_timeout_row : Node → NodeState → ℕ → Node → PieceCall → Step NodeState
 piece_timeout_row me s clock n c = vol_stepped me s.file [] (vol_timed me s.file.lasting s.vol (expired clock s.file.backs) n c (s.vol.sendings n))
 
 -- and its unanswered call to a client
-unfoldable pub node_back_timeout_row : Node → NodeState → ℕ → Node → BackCall → LinedStep NodeState
+unfoldable pub node_back_timeout_row : Node → NodeState → ℕ → Node → BackCall → Step NodeState
 node_back_timeout_row me s clock n c = file_stepped s.vol (back_timeout_row me s.file clock n c)
 
 -- time has passed
-unfoldable pub node_wake_row : Node → NodeState → ℕ → LinedStep NodeState
+unfoldable pub node_wake_row : Node → NodeState → ℕ → Step NodeState
 node_wake_row me s clock = file_stepped s.vol (wake_row me s.file clock)
 
 -- ---- a restart: both halves begin with the kept replies of the disk
 
-abbrev pub risen : LinedStep ServerState → List Seat → LinedStep NodeState
+abbrev pub risen : Step ServerState → List Seat → Step NodeState
 risen s kept = record { state = record { file = s.state; vol = fresh_vol kept }; lines = s.lines; sent = s.sent }
 
-unfoldable pub node_start_row : Node → ℕ → ℕ → LinedBegun ServerState → LinedStep NodeState
+unfoldable pub node_start_row : Node → ℕ → ℕ → Begun ServerState → Step NodeState
 node_start_row me clock count begun = risen (file_start me clock count begun) begun.state.lasting.kept
 
 -- ---- a step that its disk ended: its effect is told by the restart
 
-abbrev pub vol_begun_after : Node → ServerState → VolDecision → LinedBegun ServerState
-vol_begun_after me s (saves head x) = record { state = record s { lasting = deed_done head x s.lasting }; before = deed_lines me head x s.lasting }
-vol_begun_after me s d = nothing_before s
+abbrev pub vol_begun_after : Node → ServerState → VolDecision → Begun ServerState
+vol_begun_after me s (saves head x) = record { state = record s { lasting = deed_done head x s.lasting }; before = λ ls. deed_lines me head x s.lasting ++ ls }
+vol_begun_after me s d = begun_before s
 
 -- what a restart begins with behind a step whose record is whole on the disk
-abbrev pub node_begun_after : Node → NodeState → ℕ → Received → LinedBegun ServerState
+abbrev pub node_begun_after : Node → NodeState → ℕ → Received → Begun ServerState
 node_begun_after me s clock m =
-    if is_of_client (from_of m) then plain_begun (begun_after me s.file clock (node_file_decides me s clock m))
+    if is_of_client (from_of m) then begun_after me s.file clock (node_file_decides me s clock m)
     else vol_begun_after me s.file (vol_decides me (durable_of s.file.lasting) s.vol m)
 
 -- the device calls of a step: those that its record takes, and none where it has none
