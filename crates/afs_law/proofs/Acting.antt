@@ -14,7 +14,7 @@ use Rattle.afs_law.proofs.Basics.{Each, IfCall, found-cached-fid, same_fid-true,
 use Rattle.afs_law.proofs.Calling.{AreReplies, IsAnswer, kept_answer, uncalled_any, IsUncalled}
 use Rattle.afs_history.specs.declared.acts.Operand.{Operand}
 use Rattle.afs_law.proofs.Firm.{IsFirm, IsSentBy}
-use Rattle.afs_law.specs.Legal.{IsInPlace, IsNeeded, IsNeededFrom, IsRefusedWith, IsNowhere}
+use Rattle.afs_law.specs.Legal.{IsInPlace, IsNeeded, IsNeededFrom, IsRefusedWith, IsNowhere, IsOperandOf, TellsEntry}
 use Rattle.afs_law.proofs.Seated.{AreSeated, code_half, kept_from, seated}
 use Rattle.afs_law.specs.Parts.{EachLine}
 use Rattle.afs_law.specs.Past.{HasCode, has_begun, has_given, lines_of, onto, running, called_key}
@@ -50,8 +50,8 @@ use Rattle.afs_num.specs.declared.types.Head.{Head}
 use Rattle.afs_num.specs.declared.types.Key.{Key}
 use Rattle.afs_num.specs.declared.types.Node.{Node}
 use Rattle.afs_num.specs.declared.types.Node.TheVariants.{Client, Loc}
-use Rattle.afs_rows.specs.ClientRow.{knows, boot_of, with_boot, question, Look, Walked, admits_call, asking, awaits, begin_row, begins_by, behind_batch, body_seen, body_told, breaks, call_message, call_of, callee_by, calls_again, calls_step, client_row, counts, dead_code, drop_line, dropped, dropped_after, ends_step, entries_told, entry_told, find_cached, gift_of, given, given_up_in, gives_by, goes_by, hears, ignores, in_order, is_awaited, is_busy_code, is_older, is_spent, is_trusted, look_at, looked, most_busy, most_reads, put_entries, put_entry, read_lines, reborn, refuses, replies_step, runs_carried, shown_by, status_look, status_told, stays, takes, takes_bulk, takes_bytes, takes_data, takes_entries, takes_entry, takes_given, takes_list, takes_plain, takes_rights, takes_set, takes_shown, takes_status, takes_stored, timeout_line, timeout_row, told_step, trusted_in, untrusted_in, used_first, walked, walked_at, walked_by, walked_with, walks_on, whole, with_statuses, act_by, act_of, act_sought, asks_where, entry_in, has_location, is_gone_code, located, located_by, located_on, most_moved, moved_on, no_entry_code, put_location, refuses_for_good, seek_message, seek_timeout_row, seeking_for, seeks_again, seeks_step, sought_by, sought_ends, stands_for, volume_asked, answers_step, callee_of}
-use Rattle.afs_rows.specs.Going.{ClientState, Going, Need, answers, began, gives_back, next, reads, reads_status, with_read, Homes, Left, Seek, filled, homes_of, known_or, locates, operand_in, volume_at, no_entry, act_needs, operands_of, is_home}
+use Rattle.afs_rows.specs.ClientRow.{knows, boot_of, with_boot, question, Look, Walked, admits_call, asking, awaits, begin_row, begins_by, behind_batch, body_seen, body_told, breaks, call_message, call_of, callee_by, calls_again, calls_step, client_row, counts, dead_code, drop_line, dropped, dropped_after, ends_step, entries_told, entry_told, find_cached, gift_of, given, given_up_in, gives_by, goes_by, hears, ignores, in_order, is_awaited, is_busy_code, is_older, is_spent, is_trusted, look_at, looked, most_busy, most_reads, put_entries, put_entry, read_lines, reborn, refuses, replies_step, runs_carried, shown_by, status_look, status_told, stays, takes, takes_bulk, takes_bytes, takes_data, takes_entries, takes_entry, takes_given, takes_list, takes_plain, takes_rights, takes_set, takes_shown, takes_status, takes_stored, timeout_line, timeout_row, told_step, trusted_in, untrusted_in, used_first, walked, walked_at, walked_by, walked_with, walks_on, whole, with_statuses, act_by, act_of, act_sought, asks_where, entry_in, has_location, is_gone_code, located, located_by, located_on, most_moved, moved_on, no_entry_code, put_location, refuses_for_good, seek_message, seek_timeout_row, seeking_for, seeks_again, seeks_step, sought_by, sought_ends, stands_for, volume_asked, answers_step, callee_of, call_by}
+use Rattle.afs_rows.specs.Going.{ClientState, Going, Need, answers, began, gives_back, next, reads, reads_status, with_read, Homes, Left, Seek, filled, homes_of, known_or, locates, operand_in, volume_at, no_entry, act_needs, operands_of, is_home, call_for}
 use Rattle.afs_num.specs.declared.location_calls.LocCall.{LocCall}
 use Rattle.afs_num.specs.declared.location_calls.LocEntry.{LocEntry}
 use Rattle.afs_rows.specs.Runs.{Entry, locations}
@@ -201,6 +201,7 @@ pub record SeeksNow (j : ℕ) (x : Who) (k : Seek) (s : Step ClientState) : Type
   pub tries : s.state.tries ≡ 0
   pub above : (s.state.epoch ≡ x.epoch) × (s.state.last ≡ x.last + 1)
   pub gone : (left : Left) → k.left ≡ Some left → is_gone_code left.code ≡ true
+  pub its : (left : Left) → k.left ≡ Some left → IsOperandOf k.act k.operand
   pub sent : s.sent ≡ seek_message (Client j) s.state k.operand ∷ []
   pub needs : k.left ≡ None → next k.act ≡ locates k.operand
   pub asks : k.act.act ≡ acts.GiveUp → ⊥
@@ -429,14 +430,14 @@ one_of_act true a o is e = let no : None ≡ Some o = sym (ap (λ (x : Act). (op
 one_of_act false a o is e = let no : None ≡ Some o = sym (ap (λ (x : Act). (operands_of x).0) e) ∙ is in absurd cc
 
 -- it asks where a volume is
-seeks_acts : (j : ℕ) (gs : List Gift) (c : ClientState) (k : Seek) (cache : List CacheEntry) (front : List Line → List Line) → ((left : Left) → k.left ≡ Some left → is_gone_code left.code ≡ true) → (k.left ≡ None → next k.act ≡ locates k.operand) → (k.act.act ≡ acts.GiveUp → ⊥) → Front j c.table (act_of c) k.act front → Acts j (who_at c) gs (seeks_step (Client j) c k cache front)
-seeks_acts j gs c k cache front gone needs asks f = record {
+seeks_acts : (j : ℕ) (gs : List Gift) (c : ClientState) (k : Seek) (cache : List CacheEntry) (front : List Line → List Line) → ((left : Left) → k.left ≡ Some left → is_gone_code left.code ≡ true) → ((left : Left) → k.left ≡ Some left → IsOperandOf k.act k.operand) → (k.left ≡ None → next k.act ≡ locates k.operand) → (k.act.act ≡ acts.GiveUp → ⊥) → Front j c.table (act_of c) k.act front → Acts j (who_at c) gs (seeks_step (Client j) c k cache front)
+seeks_acts j gs c k cache front gone its needs asks f = record {
   user = refl;
   table = refl;
   of = f.of [] refl;
   runs = λ S t o r. let a : Comes j k.act S o front = f.comes S t o r in ap (running S (Client j)) (a.on []) ∙ a.runs;
   goes = inr (inr (record { act = refl; sent = ((refl, (refl, asks_lookup k.operand)), tt); how = inr (refl, (refl, (k.operand, refl))) }));
-  seeks = λ o e. let same : k ≡ o = some_of k o e in inr (record { running = refl; callee = refl; tries = refl; above = (refl, refl); gone = subst (λ (q : Seek). (left : Left) → q.left ≡ Some left → is_gone_code left.code ≡ true) same gone; sent = ap (λ (q : Seek). seek_message (Client j) (seeking_for c k cache) q.operand ∷ []) same; needs = subst (λ (q : Seek). q.left ≡ None → next q.act ≡ locates q.operand) same needs; asks = subst (λ (q : Seek). q.act.act ≡ acts.GiveUp → ⊥) same asks });
+  seeks = λ o e. let same : k ≡ o = some_of k o e in inr (record { running = refl; callee = refl; tries = refl; above = (refl, refl); gone = subst (λ (q : Seek). (left : Left) → q.left ≡ Some left → is_gone_code left.code ≡ true) same gone; its = subst (λ (q : Seek). (left : Left) → q.left ≡ Some left → IsOperandOf q.act q.operand) same its; sent = ap (λ (q : Seek). seek_message (Client j) (seeking_for c k cache) q.operand ∷ []) same; needs = subst (λ (q : Seek). q.left ≡ None → next q.act ≡ locates q.operand) same needs; asks = subst (λ (q : Seek). q.act.act ≡ acts.GiveUp → ⊥) same asks });
   each = λ S past t r. f.each S past [] t r (refl, refl) (λ own q. tt);
   seats = λ k. k;
   keys = (own_seek j (seeking_for c k cache) k refl, tt);
@@ -445,7 +446,7 @@ seeks_acts j gs c k cache front gone needs asks f = record {
 
 goes_acts : (j : ℕ) (gs : List Gift) (c : ClientState) (front : List Line → List Line) (w : Walked) (need : Need) → next w.act ≡ need → Front j c.table (act_of c) w.act (λ ls. front (looked (Client j) w.looks ls)) → Acts j (who_at c) gs (goes_by (Client j) c front w need)
 goes_acts j gs c front w (answers n) is f = ends_acts j gs c w.cache (λ ls. front (looked (Client j) w.looks ls)) _ w.act f
-goes_acts j gs c front w (locates o) is f = seeks_acts j gs c (record { act = w.act; operand = o; left = None }) w.cache (λ ls. front (looked (Client j) w.looks ls)) (λ left z. absurd cc) (λ z. is) (locates_not w.act o is) f
+goes_acts j gs c front w (locates o) is f = seeks_acts j gs c (record { act = w.act; operand = o; left = None }) w.cache (λ ls. front (looked (Client j) w.looks ls)) (λ left z. absurd cc) (λ left z. absurd cc) (λ z. is) (locates_not w.act o is) f
 goes_acts j gs c front w need is f = calls_acts j gs (record c { cache = w.cache }) w.act (λ ls. front (looked (Client j) w.looks ls)) f
 
 walks_acts : (j : ℕ) (gs : List Gift) (c : ClientState) (clock : ℕ) (front : List Line → List Line) (act : Going) (cache : List CacheEntry) → Front j c.table (act_of c) act front → Acts j (who_at c) gs (walks_on (Client j) c clock front act cache)
@@ -566,12 +567,16 @@ takes_acts j gs c clock place act call (replies.BulkStatus statuses callbacks sy
 takes_acts j gs c clock place act call replies.GiveUpCallBacks r = given_back_acts j gs c place act call r
 takes_acts j gs c clock place act call reply r = plain_acts j gs c place act call r
 
-gone_acts : (j : ℕ) (gs : List Gift) (c : ClientState) (place : ℕ) (act : Going) (code : Code) (o : Option Operand) → is_gone_code code ≡ true → ((a : Operand) → o ≡ Some a → act.act ≡ acts.GiveUp → ⊥) → c.running ≡ Some act → Acts j (who_at c) gs (asks_where (Client j) c place act code o)
-gone_acts j gs c place act code None e w r = ends_acts j gs c c.cache (given place) code act (on_given j c place act r)
-gone_acts j gs c place act code (Some o) e w r = seeks_acts j gs (record c { moved = c.moved + 1 }) (record { act = act; operand = o; left = Some (record { server = c.callee; code = code }) }) c.cache (given place) (λ left z. subst (λ (l : Left). is_gone_code l.code ≡ true) (some_of (record { server = c.callee; code = code }) left z) e) (λ z. absurd cc) (w o refl) (on_given j c place act r)
+volume_same : (gs : List Gift) (need : Need) → volume_asked (call_for need) ≡ volume_asked (call_by gs need)
+volume_same gs gives_back = refl
+volume_same gs need = refl
+
+gone_acts : (j : ℕ) (gs : List Gift) (c : ClientState) (place : ℕ) (act : Going) (code : Code) (o : Option Operand) → is_gone_code code ≡ true → ((a : Operand) → o ≡ Some a → IsOperandOf act a) → ((a : Operand) → o ≡ Some a → act.act ≡ acts.GiveUp → ⊥) → c.running ≡ Some act → Acts j (who_at c) gs (asks_where (Client j) c place act code o)
+gone_acts j gs c place act code None e i w r = ends_acts j gs c c.cache (given place) code act (on_given j c place act r)
+gone_acts j gs c place act code (Some o) e i w r = seeks_acts j gs (record c { moved = c.moved + 1 }) (record { act = act; operand = o; left = Some (record { server = c.callee; code = code }) }) c.cache (given place) (λ left z. subst (λ (l : Left). is_gone_code l.code ≡ true) (some_of (record { server = c.callee; code = code }) left z) e) (λ left z. i o refl) (λ z. absurd cc) (w o refl) (on_given j c place act r)
 
 for_good_by : (t : Bool) (j : ℕ) (gs : List Gift) (c : ClientState) (place : ℕ) (act : Going) (code : Code) → (is_gone_code code && nat_lt c.moved most_moved) ≡ t → c.running ≡ Some act → Acts j (who_at c) gs (cond t (asks_where (Client j) c place act code (operand_in act (volume_asked (call_of c act)))) (answers_step (Client j) c place code))
-for_good_by true j gs c place act code e r = gone_acts j gs c place act code (operand_in act (volume_asked (call_of c act))) (both (is_gone_code code) (nat_lt c.moved most_moved) e).0 (λ a is. one_of_act (is_home act.homes.second (volume_asked (call_of c act)) && not (is_home act.homes.first (volume_asked (call_of c act)))) act.act a is) r
+for_good_by true j gs c place act code e r = gone_acts j gs c place act code (operand_in act (volume_asked (call_of c act))) (both (is_gone_code code) (nat_lt c.moved most_moved) e).0 (λ a is. ap (operand_in act) (volume_same c.gifts (next act)) ∙ is) (λ a is. one_of_act (is_home act.homes.second (volume_asked (call_of c act)) && not (is_home act.homes.first (volume_asked (call_of c act)))) act.act a is) r
 for_good_by false j gs c place act code e r = ends_acts j gs c c.cache (given place) code act (on_given j c place act r)
 
 for_good_acts : (j : ℕ) (gs : List Gift) (c : ClientState) (place : ℕ) (act : Going) (code : Code) → c.running ≡ Some act → Acts j (who_at c) gs (refuses_for_good (Client j) c place act code)
@@ -678,46 +683,58 @@ pub record IsPlaced (S : Script) (c : ClientState) (k : Seek) : Type 0 where
 -- the act is answered: the database has no such volume, for who knows none; it refuses who left a server; or that server is the one
 -- that it knows
 abbrev pub IsEnd : Seek → Carried → Code → Type 0
-IsEnd k x code = ((k.left ≡ None) × (IsNowhere code.0 x × (code.0 ≡ pos no_entry))) ⊎ (((left : Left) × ((k.left ≡ Some left) × (IsRefusedWith code.0 x × (code.0 ≡ pos no_entry)))) ⊎ ((left : Left) × ((k.left ≡ Some left) × (code ≡ left.code))))
+IsEnd k x code = ((k.left ≡ None) × (IsNowhere code.0 x × (code.0 ≡ pos no_entry))) ⊎ (((left : Left) × ((k.left ≡ Some left) × (IsRefusedWith code.0 x × (code.0 ≡ pos no_entry)))) ⊎ ((left : Left) × ((k.left ≡ Some left) × ((code ≡ left.code) × TellsEntry x))))
 
 -- what comes of a message to it
 pub data Quietly (j : ℕ) (c : ClientState) (place : ℕ) (k : Seek) (head : Head) (x : Carried) (s : Step ClientState) : Type 0 where
   ends : (code : Code) → IsEnd k x code → HasCode x → s ≡ sought_ends (Client j) c (given place) code → Quietly j c place k head x s
-  ignored : s ≡ ignores c place → Quietly j c place k head x s
-  again : s ≡ seeks_again (Client j) c place k head.boot → Quietly j c place k head x s
+  ignored : (HasCode x → ⊥) → s ≡ ignores c place → Quietly j c place k head x s
+  again : (HasCode x → ⊥) → s ≡ seeks_again (Client j) c place k head.boot → Quietly j c place k head x s
 
 put_there : (t : Bool) (l : Location) (ls : List Location) → has_location l ls ≡ t → t ≡ true → put_location l ls ≡ ls
 put_there t l ls e f = ap (λ (b : Bool). cond b ls (filter (λ k. not (stands_for l k)) ls ++ l ∷ [])) (e ∙ f)
 
-located_quiet : (S : Script) (j : ℕ) (c : ClientState) (clock place : ℕ) (k : Seek) (head : Head) (x : Carried) (l : Location) (o : Option Left) → k.left ≡ o → IsPlaced S c k → HasCode x → IsNowhere no_entry_code.0 x → has_location l (locations S) ≡ true → Quietly j c place k head x (located (Client j) c clock place k l o)
-located_quiet S j c clock place k head x l None left p code none there =
+located_quiet : (S : Script) (j : ℕ) (c : ClientState) (clock place : ℕ) (k : Seek) (head : Head) (x : Carried) (l : Location) (o : Option Left) → k.left ≡ o → IsPlaced S c k → HasCode x → TellsEntry x → IsNowhere no_entry_code.0 x → has_location l (locations S) ≡ true → Quietly j c place k head x (located (Client j) c clock place k l o)
+located_quiet S j c clock place k head x l None left p code tells none there =
     let same : put_location l c.table ≡ c.table = put_there (has_location l c.table) l c.table refl (ap (has_location l) p.table ∙ there) in
     ends no_entry_code (inl (left, (none, refl))) code
     (ap (λ (t : List Location). located_on (Client j) (record c { table = t }) clock place k.act (volume_at t k.operand)) same
     ∙ ap (located_on (Client j) c clock place k.act) (ap (λ (t : List Location). volume_at t k.operand) p.table ∙ p.unknown left))
-located_quiet S j c clock place k head x l (Some left) is p code none there =
-    ends left.code (inr (inr (left, (is, refl)))) code (ap (λ (b : Bool). cond b (sought_ends (Client j) c (given place) left.code) (moved_on (Client j) (knows l c) place k.act left (volume_at (knows l c).table k.operand))) (ap (has_location l) p.table ∙ there))
+located_quiet S j c clock place k head x l (Some left) is p code tells none there =
+    ends left.code (inr (inr (left, (is, (refl, tells))))) code (ap (λ (b : Bool). cond b (sought_ends (Client j) c (given place) left.code) (moved_on (Client j) (knows l c) place k.act left (volume_at (knows l c).table k.operand))) (ap (has_location l) p.table ∙ there))
 
-entry_quiet : (S : Script) (j : ℕ) (c : ClientState) (clock place : ℕ) (k : Seek) (head : Head) (x : Carried) (o : Option LocEntry) → IsPlaced S c k → HasCode x → IsNowhere no_entry_code.0 x → ((e : LocEntry) → o ≡ Some e → has_location e (locations S) ≡ true) → Quietly j c place k head x (located_by (Client j) c clock place k o)
-entry_quiet S j c clock place k head x None p code none w = ignored refl
-entry_quiet S j c clock place k head x (Some e) p code none w = located_quiet S j c clock place k head x e k.left refl p code none (w e refl)
+entry_quiet : (S : Script) (j : ℕ) (c : ClientState) (clock place : ℕ) (k : Seek) (head : Head) (x : Carried) (o : Option LocEntry) → IsPlaced S c k → HasCode x → TellsEntry x → IsNowhere no_entry_code.0 x → (e : LocEntry) × ((o ≡ Some e) × (has_location e (locations S) ≡ true)) → Quietly j c place k head x (located_by (Client j) c clock place k o)
+entry_quiet S j c clock place k head x None p code tells none w = (let no_ : None ≡ Some w.0 = w.1.0 in absurd cc)
+entry_quiet S j c clock place k head x (Some e) p code tells none w = located_quiet S j c clock place k head x e k.left refl p code tells none (subst (λ (y : LocEntry). has_location y (locations S) ≡ true) (some_of w.0 e (sym w.1.0)) w.1.1)
 
 refused_end : (k : Seek) (code : Code) (o : Option Left) → k.left ≡ o → code.0 ≡ pos no_entry → IsEnd k (carried.Refusal code) code
 refused_end k code None e some = inl (e, (refl, some))
 refused_end k code (Some left) e some = inr (inl (left, (e, (refl, some))))
 
 pub sought_quiet : (S : Script) (j : ℕ) (c : ClientState) (clock place : ℕ) (k : Seek) (head : Head) (x : Carried) → IsPlaced S c k → IsToldIn S x → Quietly j c place k head x (sought_by (Client j) c clock place k head x)
-sought_quiet S j c clock place k head (carried.Call user call) p w = ignored refl
+sought_quiet S j c clock place k head (carried.Call user call) p w = ignored (λ x. x) refl
 sought_quiet S j c clock place k head (carried.Refusal code) p w = ends code (refused_end k code k.left refl w) tt refl
-sought_quiet S j c clock place k head (carried.Reply (tell.File reply)) p w = ignored refl
-sought_quiet S j c clock place k head (carried.Reply (tell.Volume reply)) p w = ignored refl
-sought_quiet S j c clock place k head (carried.Reply (tell.Location reply)) p w = entry_quiet S j c clock place k head (carried.Reply (tell.Location reply)) (entry_in reply) p tt tt w
-sought_quiet S j c clock place k head carried.Notice p w = again refl
+sought_quiet S j c clock place k head (carried.Reply (tell.File reply)) p w = absurd w
+sought_quiet S j c clock place k head (carried.Reply (tell.Volume reply)) p w = absurd w
+sought_quiet S j c clock place k head (carried.Reply (tell.Location reply)) p w = entry_quiet S j c clock place k head (carried.Reply (tell.Location reply)) (entry_in reply) p tt (w.0, w.1.0) tt w
+sought_quiet S j c clock place k head carried.Notice p w = again (λ x. x) refl
 
 pub by_quiet : (P : Step ClientState → Type 0) (j : ℕ) (c : ClientState) (place : ℕ) (k : Seek) (head : Head) (x : Carried) (s : Step ClientState) → Quietly j c place k head x s → ((code : Code) → IsEnd k x code → HasCode x → P (sought_ends (Client j) c (given place) code)) → P (ignores c place) → P (seeks_again (Client j) c place k head.boot) → P s
 by_quiet P j c place k head x s (ends code e h q) a b d = subst P (sym q) (a code e h)
-by_quiet P j c place k head x s (ignored q) a b d = subst P (sym q) b
-by_quiet P j c place k head x s (again q) a b d = subst P (sym q) d
+by_quiet P j c place k head x s (ignored mute q) a b d = subst P (sym q) b
+by_quiet P j c place k head x s (again mute q) a b d = subst P (sym q) d
+
+-- but for a notice, it leaves the boots that its client knows
+pub quiet_boots : (j : ℕ) (c : ClientState) (place : ℕ) (k : Seek) (head : Head) (x : Carried) (s : Step ClientState) → HasCode x → Quietly j c place k head x s → s.state.boots ≡ c.boots
+quiet_boots j c place k head x s has (ends code e h q) = ap (λ (t : Step ClientState). t.state.boots) q
+quiet_boots j c place k head x s has (ignored mute q) = absurd (mute has)
+quiet_boots j c place k head x s has (again mute q) = absurd (mute has)
+
+-- behind a reply or a refusal its act waits no longer
+pub quiet_over : (j : ℕ) (c : ClientState) (place : ℕ) (k : Seek) (head : Head) (x : Carried) (s : Step ClientState) → HasCode x → Quietly j c place k head x s → s.state.seeking ≡ None
+quiet_over j c place k head x s has (ends code e h q) = ap (λ (t : Step ClientState). t.state.seeking) q
+quiet_over j c place k head x s has (ignored mute q) = absurd (mute has)
+quiet_over j c place k head x s has (again mute q) = absurd (mute has)
 
 -- its front
 on_sought : (j : ℕ) (c : ClientState) (k : Seek) (front : List Line → List Line) → c.running ≡ None → c.seeking ≡ Some k → Front j c.table (Some k.act) k.act front → Front j c.table (act_of c) k.act front

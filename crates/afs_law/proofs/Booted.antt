@@ -52,35 +52,36 @@ use Rattle.std.proofs.Common.{suc, ◌≡◌, ◌⊎◌, ◌∙◌, ℕ, inl, in
 no_loc_server : IsServer Loc → ⊥
 no_loc_server x = let no : Loc ≡ Server x.0 = x.1 in absurd cc
 
-abbrev SameBoots : ClientState → ClientState → Type 0
-SameBoots c x = (q : Node) → IsServer q → boot_of q x.boots ≡ boot_of q c.boots
+-- of these nodes
+abbrev pub SameBoots : (Node → Type 0) → ClientState → ClientState → Type 0
+SameBoots P c x = (q : Node) → P q → boot_of q x.boots ≡ boot_of q c.boots
 
 -- what it is given is a notice that it awaits, and it takes the boot from that
-record Notes (n : ℕ) (c : ClientState) (m : Message) (x : ClientState) : Type 0 where
-  act : Going
-  runs : c.running ≡ Some act
-  its : is_awaited c act m.head ≡ true
-  is : m.carried ≡ carried.Notice
-  boots : x.boots ≡ with_boot c.callee m.head.boot c.boots
+pub record Notes (n : ℕ) (c : ClientState) (m : Message) (x : ClientState) : Type 0 where
+  pub act : Going
+  pub runs : c.running ≡ Some act
+  pub its : is_awaited c act m.head ≡ true
+  pub is : m.carried ≡ carried.Notice
+  pub boots : x.boots ≡ with_boot c.callee m.head.boot c.boots
 
 -- or it isn't, and it knows what it knew
-record NotesNone (c : ClientState) (m : Message) (x : ClientState) : Type 0 where
-  same : SameBoots c x
-  none : (act : Going) → c.running ≡ Some act → is_awaited c act m.head ≡ true → m.carried ≡ carried.Notice → ⊥
+pub record NotesNone (P : Node → Type 0) (c : ClientState) (m : Message) (x : ClientState) : Type 0 where
+  pub same : SameBoots P c x
+  pub none : (act : Going) → c.running ≡ Some act → is_awaited c act m.head ≡ true → m.carried ≡ carried.Notice → ⊥
 
-abbrev Hears : ℕ → ClientState → Message → ClientState → Type 0
-Hears n c m x = Notes n c m x ⊎ NotesNone c m x
+abbrev pub Hears : (Node → Type 0) → ℕ → ClientState → Message → ClientState → Type 0
+Hears P n c m x = Notes n c m x ⊎ NotesNone P c m x
 
-awaited_notice : (n clock place : ℕ) (c : ClientState) (act : Going) (m : Message) (t : Bool) → c.running ≡ Some act → m.carried ≡ carried.Notice → is_awaited c act m.head ≡ t → Hears n c m (cond t (counts (Client n) c clock place act m.head carried.Notice) (ignores c place)).state
-awaited_notice n clock place c act m true r is e = inl (record { act = act; runs = r; its = e; is = is; boots = refl })
-awaited_notice n clock place c act m false r is e = inr (record {
+awaited_notice : (P : Node → Type 0) (n clock place : ℕ) (c : ClientState) (act : Going) (m : Message) (t : Bool) → c.running ≡ Some act → m.carried ≡ carried.Notice → is_awaited c act m.head ≡ t → Hears P n c m (cond t (counts (Client n) c clock place act m.head carried.Notice) (ignores c place)).state
+awaited_notice P n clock place c act m true r is e = inl (record { act = act; runs = r; its = e; is = is; boots = refl })
+awaited_notice P n clock place c act m false r is e = inr (record {
   same = λ q server. refl;
   none = λ b s z k. yes_no (is_awaited c b m.head) z (subst (λ (a : Going). is_awaited c a m.head ≡ false) (some_of act b (sym r ∙ s)) e);
 })
 
-awaits_notice : (n clock place : ℕ) (c : ClientState) (m : Message) (o : Option Going) → c.running ≡ o → m.carried ≡ carried.Notice → Hears n c m (awaits (Client n) c clock place m.head carried.Notice o).state
-awaits_notice n clock place c m None r is = inr (record { same = λ q server. refl; none = λ b s z k. none_runs c.running b r s })
-awaits_notice n clock place c m (Some act) r is = awaited_notice n clock place c act m (is_awaited c act m.head) r is refl
+awaits_notice : (P : Node → Type 0) (n clock place : ℕ) (c : ClientState) (m : Message) (o : Option Going) → c.running ≡ o → m.carried ≡ carried.Notice → Hears P n c m (awaits (Client n) c clock place m.head carried.Notice o).state
+awaits_notice P n clock place c m None r is = inr (record { same = λ q server. refl; none = λ b s z k. none_runs c.running b r s })
+awaits_notice P n clock place c m (Some act) r is = awaited_notice P n clock place c act m (is_awaited c act m.head) r is refl
 
 notice_row : (n clock place : ℕ) (c : ClientState) (m : Message) → m.head.to ≡ Client n → m.carried ≡ carried.Notice → client_row (Client n) c clock place (Whole m) ≡ awaits (Client n) c clock place m.head carried.Notice c.running
 unfolding client_row
@@ -88,54 +89,54 @@ notice_row n clock place c m to is =
     ap (λ (t : Bool). cond t (hears (Client n) c clock place m.head m.carried) (ignores c place)) (ap (λ (q : Node). same_node q (Client n)) to ∙ same_node-refl (Client n)) ∙ ap (λ (x : Carried). hears (Client n) c clock place m.head x) is
 
 -- no other message tells a boot
-own_seats : (c : Cell) (past : List Entry) (n : ℕ) → Known c past → AreReplies any_told any_told (c.clients n).seats
+pub own_seats : (c : Cell) (past : List Entry) (n : ℕ) → Known c past → AreReplies any_told any_told (c.clients n).seats
 own_seats c past n K = replies_to (by_key (IsKnown K.keys.callees c.clients)) any_told any_told any_told (λ h x. tt) (λ h x. x) (c.clients n).seats (K.keys.replies n)
 
-abbrev IsOld : ClientState → Node → ℕ → Type 0
-IsOld c q b = IsServer q → b ≡ boot_of q c.boots
+abbrev pub IsOld : (Node → Type 0) → ClientState → Node → ℕ → Type 0
+IsOld P c q b = P q → b ≡ boot_of q c.boots
 
-other_boots : (c : Cell) (past : List Entry) (n place : ℕ) (m : Message) → Known c past → message_at c.sent place ≡ Some m → ((X : Type 0) → OfNotice X m.carried) → SameBoots (c.clients n) (client_row (Client n) (c.clients n) c.clock place (Whole m)).state
-other_boots c past n place m K at w q server =
+other_boots : (P : Node → Type 0) (c : Cell) (past : List Entry) (n place : ℕ) (m : Message) → Known c past → message_at c.sent place ≡ Some m → ((X : Type 0) → OfNotice X m.carried) → SameBoots P (c.clients n) (client_row (Client n) (c.clients n) c.clock place (Whole m)).state
+other_boots P c past n place m K at w q server =
     let x : ClientState = c.clients n in
-    (given_tame any_told any_told (IsOld x) n x c.clock place m (own_seats c past n K) (any_call c past x.epoch x.seats place m K.hears at) tt (w (IsOld x m.head.from m.head.boot))).boots (λ p own. refl) q server
+    (given_tame any_told any_told (IsOld P x) n x c.clock place m (own_seats c past n K) (any_call c past x.epoch x.seats place m K.hears at) tt (w (IsOld P x m.head.from m.head.boot))).boots (λ p own. refl) q server
 
-told_hears : (c : Cell) (past : List Entry) (n place : ℕ) (m : Message) (x : Carried) → Known c past → message_at c.sent place ≡ Some m → m.head.to ≡ Client n → m.carried ≡ x → Hears n (c.clients n) m (client_row (Client n) (c.clients n) c.clock place (Whole m)).state
-told_hears c past n place m carried.Notice K at to is = subst (λ (st : Step ClientState). Hears n (c.clients n) m st.state) (sym (notice_row n c.clock place (c.clients n) m to is)) (awaits_notice n c.clock place (c.clients n) m (c.clients n).running refl is)
-told_hears c past n place m (carried.Call user call) K at to is = inr (record { same = other_boots c past n place m K at (λ X. subst (OfNotice X) (sym is) tt); none = λ b r z k. (let no_ : carried.Call user call ≡ carried.Notice = sym is ∙ k in absurd cc) })
-told_hears c past n place m (carried.Refusal code) K at to is = inr (record { same = other_boots c past n place m K at (λ X. subst (OfNotice X) (sym is) tt); none = λ b r z k. (let no_ : carried.Refusal code ≡ carried.Notice = sym is ∙ k in absurd cc) })
-told_hears c past n place m (carried.Reply reply) K at to is = inr (record { same = other_boots c past n place m K at (λ X. subst (OfNotice X) (sym is) tt); none = λ b r z k. (let no_ : carried.Reply reply ≡ carried.Notice = sym is ∙ k in absurd cc) })
+pub told_hears : (P : Node → Type 0) (c : Cell) (past : List Entry) (n place : ℕ) (m : Message) (x : Carried) → Known c past → message_at c.sent place ≡ Some m → m.head.to ≡ Client n → m.carried ≡ x → Hears P n (c.clients n) m (client_row (Client n) (c.clients n) c.clock place (Whole m)).state
+told_hears P c past n place m carried.Notice K at to is = subst (λ (st : Step ClientState). Hears P n (c.clients n) m st.state) (sym (notice_row n c.clock place (c.clients n) m to is)) (awaits_notice P n c.clock place (c.clients n) m (c.clients n).running refl is)
+told_hears P c past n place m (carried.Call user call) K at to is = inr (record { same = other_boots P c past n place m K at (λ X. subst (OfNotice X) (sym is) tt); none = λ b r z k. (let no_ : carried.Call user call ≡ carried.Notice = sym is ∙ k in absurd cc) })
+told_hears P c past n place m (carried.Refusal code) K at to is = inr (record { same = other_boots P c past n place m K at (λ X. subst (OfNotice X) (sym is) tt); none = λ b r z k. (let no_ : carried.Refusal code ≡ carried.Notice = sym is ∙ k in absurd cc) })
+told_hears P c past n place m (carried.Reply reply) K at to is = inr (record { same = other_boots P c past n place m K at (λ X. subst (OfNotice X) (sym is) tt); none = λ b r z k. (let no_ : carried.Reply reply ≡ carried.Notice = sym is ∙ k in absurd cc) })
 
-begun_boots : (c : Cell) (past : List Entry) (n : ℕ) (act : Act) → Known c past → SameBoots (c.clients n) (begin_row (Client n) (c.clients n) c.clock act).state
-begun_boots c past n act K q server = (begins_tame any_told any_told (IsOld (c.clients n)) n (c.clients n) c.clock act (own_seats c past n K)).boots (λ p own. refl) q server
+pub begun_boots : (P : Node → Type 0) (c : Cell) (past : List Entry) (n : ℕ) (act : Act) → Known c past → SameBoots P (c.clients n) (begin_row (Client n) (c.clients n) c.clock act).state
+begun_boots P c past n act K q server = (begins_tame any_told any_told (IsOld P (c.clients n)) n (c.clients n) c.clock act (own_seats c past n K)).boots (λ p own. refl) q server
 
-waited_boots : (c : Cell) (past : List Entry) (n : ℕ) (act : Going) → Known c past → (c.clients n).running ≡ Some act → SameBoots (c.clients n) (timeout_row (Client n) (c.clients n) act).state
-waited_boots c past n act K r q server = (waits_tame any_told any_told (IsOld (c.clients n)) n (c.clients n) act r (own_seats c past n K)).boots (λ p own. refl) q server
+pub waited_boots : (P : Node → Type 0) (c : Cell) (past : List Entry) (n : ℕ) (act : Going) → Known c past → (c.clients n).running ≡ Some act → SameBoots P (c.clients n) (timeout_row (Client n) (c.clients n) act).state
+waited_boots P c past n act K r q server = (waits_tame any_told any_told (IsOld P (c.clients n)) n (c.clients n) act r (own_seats c past n K)).boots (λ p own. refl) q server
 
 -- the callee's boot is that, and no other changed
-boot_here : (callee q : Node) (boot : ℕ) (boots : List KnownBoot) → same_node callee q ≡ true → boot_of q (with_boot callee boot boots) ≡ boot
+pub boot_here : (callee q : Node) (boot : ℕ) (boots : List KnownBoot) → same_node callee q ≡ true → boot_of q (with_boot callee boot boots) ≡ boot
 boot_here callee q boot boots e =
     ap (λ (t : Bool). boot_or_first (cond t (Some (record { server = callee; boot = boot })) (find (λ (k : KnownBoot). same_node k.server q) (filter (λ (k : KnownBoot). not (same_node k.server callee)) boots)))) e
 
-boot_other : (callee q : Node) (boot : ℕ) (boots : List KnownBoot) → same_node callee q ≡ false → boot_of q (with_boot callee boot boots) ≡ boot_of q boots
+pub boot_other : (callee q : Node) (boot : ℕ) (boots : List KnownBoot) → same_node callee q ≡ false → boot_of q (with_boot callee boot boots) ≡ boot_of q boots
 boot_other callee q boot boots e =
     told_boot (λ (p : Node) (b : ℕ). same_node callee p ≡ false → b ≡ boot_of p boots) callee boot boots (same_node callee q) q refl (λ z. absurd (yes_no (same_node callee callee) (same_node-refl callee) z)) (λ z. refl) e
 
 -- ---- lines in which it doesn't crash
 
-crashed_alive : (c : Node) (ls : List Line) → has_crash_or_restart ls ≡ false → has_crashed c ls ≡ false
+pub crashed_alive : (c : Node) (ls : List Line) → has_crash_or_restart ls ≡ false → has_crashed c ls ≡ false
 crashed_alive c [] h = refl
 crashed_alive c (lines.Crash n ∷ ls) h = absurd cc
 crashed_alive c (lines.Restart n boot ∷ ls) h = absurd cc
 crashed_alive c (l ∷ ls) h = crashed_alive c ls h
 
-crashed_other : (i j : ℕ) (ls : List Line) → all_lines (is_of i) ls ≡ true → (i ≡ j → ⊥) → has_crashed (Client j) ls ≡ false
+pub crashed_other : (i j : ℕ) (ls : List Line) → all_lines (is_of i) ls ≡ true → (i ≡ j → ⊥) → has_crashed (Client j) ls ≡ false
 crashed_other i j [] h ne = refl
 crashed_other i j (lines.Crash n ∷ ls) h ne =
     let q = both (is_of i (lines.Crash n)) (all_lines (is_of i) ls) h in
     ap (λ (t : Bool). cond t true (has_crashed (Client j) ls)) (other_node n i j q.0 ne) ∙ crashed_other i j ls q.1 ne
 crashed_other i j (l ∷ ls) h ne = crashed_other i j ls (both (is_of i l) (all_lines (is_of i) ls) h).1 ne
 
-crashed_idle : (j : ℕ) (ls : List Line) → all_lines is_idle ls ≡ true → has_crashed (Client j) ls ≡ false
+pub crashed_idle : (j : ℕ) (ls : List Line) → all_lines is_idle ls ≡ true → has_crashed (Client j) ls ≡ false
 crashed_idle j [] h = refl
 crashed_idle j (lines.Crash n ∷ ls) h =
     let q = both (is_idle (lines.Crash n)) (all_lines is_idle ls) h in
@@ -157,7 +158,7 @@ AreBooted s c past = KnownAsked s c past × KnowsIn s c past
 abbrev IsUnnoted : Script → ℕ → Entry → List Entry → Type 0
 IsUnnoted s j e past = (q : Node) (b : ℕ) → IsServer q → IsNoted s (Client j) q b past e.lines → ⊥
 
-unnoted_knows : (s : Script) (j : ℕ) (x y : ClientState) (e : Entry) (past : List Entry) → IsUnnoted s j e past → has_crashed (Client j) e.lines ≡ false → SameBoots x y → Knows s j x past → Knows s j y (e ∷ past)
+unnoted_knows : (s : Script) (j : ℕ) (x y : ClientState) (e : Entry) (past : List Entry) → IsUnnoted s j e past → has_crashed (Client j) e.lines ≡ false → SameBoots IsServer x y → Knows s j x past → Knows s j y (e ∷ past)
 unnoted_knows s j x y e past none alive same h q server = inr ((λ b. none q b server), inr (alive, subst (λ (b : ℕ). KnowsBoot s (Client j) q b past) (sym (same q server)) (h q server)))
 
 ungiven_unnoted : (s : Script) (j : ℕ) (e : Entry) (past : List Entry) → has_given e.lines ≡ false → IsUnnoted s j e past
@@ -203,7 +204,7 @@ told_knows s c past n place m h at to =
     let given : given_message st.lines (sent_of past) ≡ Some m = (client_given c past n place m K.hears to at).given (sent_of past) ∙ (ap (λ (ms : List Message). message_at ms place) K.hears.told ∙ at) in
     let alive : has_crashed (Client n) st.lines ≡ false = crashed_alive (Client n) st.lines (told_alive (Client n) x c.clock place m) in
     let is_m : (q : Node) (b : ℕ) → (i : IsNoted s (Client n) q b past st.lines) → i.message ≡ m = λ q b i. some_of i.message m (sym i.given ∙ given) in
-    elim (told_hears c past n place m m.carried K at to refl) [
+    elim (told_hears IsServer c past n place m m.carried K at to refl) [
       | inl a ↦ λ q server. (let from : m.head.from ≡ x.callee = its_callee x a.act m.head a.its in
           here_by s n past e x st.state m q (same_node x.callee q) refl a from alive
           (λ b k same boot. record { act = a.act; runs = h.0.1.acts n ∙ runs_act x a.act a.runs; message = m; given = given; to = to; is = a.is; its = of_last_call s c past n a.act m.head h.0 a.runs to a.its; server' = from ∙ same; boot' = boot })
@@ -268,25 +269,25 @@ booted_moves s = record {
   ticked = λ c past n h d. idle_booted s c past (ticked c (suc n)) h refl (λ j e. absurd cc) refl tt d;
   begun = λ c past n act h r z0 d. (let x : ClientState = c.clients n in let st : Step ClientState = begin_row (Client n) x c.clock act in
       client_booted s c past n st _ h refl refl (begins_acts n x c.clock act r z0)
-      (unnoted_knows s n x st.state (of_client n st) past (ungiven_unnoted s n (of_client n st) past (begun_ungiven (Client n) x c.clock act)) (crashed_alive (Client n) st.lines (begun_alive (Client n) x c.clock act)) (begun_boots c past n act h.0.0) (h.1 n))
-      (begins_tame any_told any_told (IsOld x) n x c.clock act (own_seats c past n h.0.0)).sent d);
-  told = λ c past n place m h at to d. (let x : ClientState = c.clients n in let st : Step ClientState = client_row (Client n) x c.clock place (Whole m) in
+      (unnoted_knows s n x st.state (of_client n st) past (ungiven_unnoted s n (of_client n st) past (begun_ungiven (Client n) x c.clock act)) (crashed_alive (Client n) st.lines (begun_alive (Client n) x c.clock act)) (begun_boots IsServer c past n act h.0.0) (h.1 n))
+      (begins_tame any_told any_told (IsOld IsServer x) n x c.clock act (own_seats c past n h.0.0)).sent d);
+  told = λ c past n place m h at to un d. (let x : ClientState = c.clients n in let st : Step ClientState = client_row (Client n) x c.clock place (Whole m) in
       client_booted s c past n st _ h refl refl (given_acts (by_key (IsKnown h.0.0.keys.callees c.clients)) any_told n x c.clock place m (h.0.0.keys.replies n) (h.0.1.seats n)) (told_knows s c past n place m h at to) (client_given c past n place m h.0.0.hears to at).sent d);
   sought = λ c past n place m k h at to z e d. (let x : ClientState = c.clients n in let st : Step ClientState = sought_by (Client n) x c.clock place k m.head m.carried in
-      let t = sought_tame any_told any_told (IsOld x) n x c.clock place k m.head m.carried (λ b own. absurd (no_loc_server own)) (own_seats c past n h.0.0) in
+      let t = sought_tame any_told any_told (IsOld IsServer x) n x c.clock place k m.head m.carried (λ b own. absurd (no_loc_server own)) (own_seats c past n h.0.0) in
       client_booted s c past n st _ h refl refl (sought_acts_in s c past n place m k h.0.1 at z e)
       (unnoted_knows s n x st.state (of_client n st) past (λ q b server i. seek_noted s c past n k st.lines q b h.0 z i server) (crashed_alive (Client n) st.lines (quietly s c past n place m k (λ y. Alive y.lines) h.0.1 at z e (λ code. refl) refl refl)) (λ q server. t.boots (λ p own. refl) q server) (h.1 n))
       t.sent d);
   missed = λ c past n k h r z d. (let x : ClientState = c.clients n in let st : Step ClientState = seek_timeout_row (Client n) x k in
-      let t = missed_tame any_told any_told (IsOld x) n x k (own_seats c past n h.0.0) in
+      let t = missed_tame any_told any_told (IsOld IsServer x) n x k (own_seats c past n h.0.0) in
       client_booted s c past n st _ h refl refl (missed_acts n x k r z)
       (unnoted_knows s n x st.state (of_client n st) past (ungiven_unnoted s n (of_client n st) past (missed_ungiven (Client n) x k)) (crashed_alive (Client n) st.lines (missed_alive (Client n) x k)) (λ q server. t.boots (λ p own. refl) q server) (h.1 n))
       t.sent d);
   loc = λ c past l ls ms h st d. idle_booted s c past (loc_becomes c l ls ms) h refl (λ j e. absurd cc) (loc_idle ls st.lines) (loc_uncalled c l ls ms st) d;
   waited = λ c past n act h r d. (let x : ClientState = c.clients n in let st : Step ClientState = timeout_row (Client n) x act in
       client_booted s c past n st _ h refl refl (waits_acts n x act r)
-      (unnoted_knows s n x st.state (of_client n st) past (ungiven_unnoted s n (of_client n st) past (waited_ungiven (Client n) x act)) (crashed_alive (Client n) st.lines (waited_alive (Client n) x act)) (waited_boots c past n act h.0.0 r) (h.1 n))
-      (waits_tame any_told any_told (IsOld x) n x act r (own_seats c past n h.0.0)).sent d);
+      (unnoted_knows s n x st.state (of_client n st) past (ungiven_unnoted s n (of_client n st) past (waited_ungiven (Client n) x act)) (crashed_alive (Client n) st.lines (waited_alive (Client n) x act)) (waited_boots IsServer c past n act h.0.0 r) (h.1 n))
+      (waits_tame any_told any_told (IsOld IsServer x) n x act r (own_seats c past n h.0.0)).sent d);
   fallen = λ c past n h d. client_booted s c past n (record { state = reborn c.handed (c.clients n); lines = lines.Crash (Client n) ∷ []; sent = [] }) _ h refl refl (falls_acts n c.handed (c.clients n) (handed_same s c past (h.0.1) n)) (fallen_knows s c past n) tt d;
   risen = λ c past n h d. (let x : ClientState = c.clients n in let st : Step ClientState = record { state = x; lines = lines.Restart (Client n) x.epoch ∷ []; sent = [] } in
       client_booted s c past n st _ h refl refl (rises_acts n x) (unnoted_knows s n x x (of_client n st) past (ungiven_unnoted s n (of_client n st) past refl) refl (λ q server. refl) (h.1 n)) tt d);

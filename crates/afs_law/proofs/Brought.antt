@@ -840,7 +840,7 @@ brought_moves s = record {
   void = λ c past h. record { had = idle_had s c past (voided c).entry h refl; told = (tt, tt) };
   ticked = λ c past n h. record { had = idle_had s c past (ticked c (suc n)).entry h refl; told = (tt, tt) };
   begun = λ c past n act h r z. (let k = begun_carries s n c.clock (c.clients n) act past (now_at s c past n h) in record { had = client_done s c past n _ h (begins_acts n (c.clients n) c.clock act r z) k; told = k.told });
-  told = λ c past n place m h at to. (let k = told_carries s n c.clock place (c.clients n) m past (any_made s c past n place m h.0.0 at to) (now_at s c past n h) in record { had = client_done s c past n _ h (given_acts (by_key (IsKnown h.0.0.kept.0.0.0.0.0.keys.callees c.clients)) any_told n (c.clients n) c.clock place m (h.0.0.kept.0.0.0.0.0.keys.replies n) (h.0.0.kept.0.0.0.0.1.seats n)) k; told = k.told });
+  told = λ c past n place m h at to un. (let k = told_carries s n c.clock place (c.clients n) m past (any_made s c past n place m h.0.0 at to) (now_at s c past n h) in record { had = client_done s c past n _ h (given_acts (by_key (IsKnown h.0.0.kept.0.0.0.0.0.keys.callees c.clients)) any_told n (c.clients n) c.clock place m (h.0.0.kept.0.0.0.0.0.keys.replies n) (h.0.0.kept.0.0.0.0.1.seats n)) k; told = k.told });
   sought = λ c past n place m k h at to z e. (let k' = sought_carries s n (c.clients n) c.clock place k m past (placed_in s c past n k h.0.0.kept.0.0.0.0.1 z) (told_in s c past n place m k h.0.0.kept.0.0.0.0.1 at e) (now_at s c past n h) in record { had = client_done s c past n _ h (sought_acts_in s c past n place m k h.0.0.kept.0.0.0.0.1 at z e) k'; told = k'.told });
   missed = λ c past n k h r z. (let k' = missed_carries s n (c.clients n) k past (h.0.0.kept.0.0.0.0.1.seeks n k z).callee (now_at s c past n h) in record { had = client_done s c past n _ h (missed_acts n (c.clients n) k r z) k'; told = k'.told });
   loc = λ c past l ls ms h st. record { had = idle_had s c past (loc_becomes c l ls ms).entry h (loc_idle ls st.lines); told = idle_told s (actors.Node Loc) past [] ls (loc_idle ls st.lines) };

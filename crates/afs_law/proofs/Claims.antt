@@ -3,6 +3,7 @@ use Rattle.afs_rows.specs.ClientRow.{act_of}
 use Rattle.afs_law.proofs.Sending.{Posted, OwnStep, own_moves}
 use Rattle.afs_law.proofs.Questions.{AskStep, AroundNow, AreBy, seeks_moves, own_questions, IsOwnQuestion}
 use Rattle.afs_law.proofs.Truthful.{truthful_first, Truthful, truthful_kept}
+use Rattle.afs_law.proofs.Acquainted.{AcquaintedFacts, acquainted_first, acquainted_kept}
 use Rattle.afs_law.proofs.Due.{due_kept, due_first, DueFacts}
 use Rattle.afs_law.proofs.Listing.{IsSoundLoc}
 use Rattle.afs_history.specs.declared.scripts.Script.{Script}
@@ -113,10 +114,10 @@ claims s callees clients past (m ∷ ms) A h = (
 
 -- what is known of calls, of the boots to which they are sent, and of their numbers
 abbrev Claimed : Script → Cell → List Entry → Type 0
-Claimed s c past = HomedIn s c past × (KnownLearnt c past × (Numbered s c past × (AreBooted s c past × (Truthful s c past × DueFacts s c past))))
+Claimed s c past = HomedIn s c past × (KnownLearnt c past × (Numbered s c past × (AreBooted s c past × (Truthful s c past × (DueFacts s c past × AcquaintedFacts s c past)))))
 
 claimed_kept : (s : Script) → IsKept (Claimed s)
-claimed_kept s c past x so h = (homed_kept s c past x so h.0, (learnt_kept c past x so h.1.0, (numbered_kept s c past x so h.1.1.0, (booted_kept s c past x so h.1.1.1.0, (truthful_kept s c past x so h.1.1.1.1.0, due_kept s c past x so h.1.1.1.1.1)))))
+claimed_kept s c past x so h = (homed_kept s c past x so h.0, (learnt_kept c past x so h.1.0, (numbered_kept s c past x so h.1.1.0, (booted_kept s c past x so h.1.1.1.0, (truthful_kept s c past x so h.1.1.1.1.0, (due_kept s c past x so h.1.1.1.1.1.0, acquainted_kept s c past x so h.1.1.1.1.1.1))))))
 
 claims_behind : (s : Script) (c : Cell) (e : Entry) (past : List Entry) → Claimed s c (e ∷ past) → Each (IfCall (IsNow c.clients)) e.sent → Each (IfCall (TakesTurn (e ∷ past))) e.sent → Each (IfCall (KnowsIt s (e ∷ past))) e.sent → Each (IfSeek (IsOwnQuestion s (e ∷ past))) e.sent → EachSent (IsOwnCall s) (e ∷ past) e.sent
 claims_behind s c e past h now turns knows asks =
@@ -151,7 +152,7 @@ asks_by past (m ∷ ms) e h = (h.0.0, asks_by past ms e h.1)
 around_now : (s : Script) (c : Cell) (past : List Entry) → Claimed s c past → AroundNow s c past
 around_now s c past h =
     let K : KnownAsked s c past = h.0.0.0.0.0.0 in
-    record { asked = K; truthful = h.1.1.1.1.0; due = h.1.1.1.1.1; numbers = λ j. subst (IsNumbered j (c.clients j)) (sym K.0.hears.told) (h.1.1.0.1 j); epochs = h.1.1.0.0.1.1 }
+    record { asked = K; truthful = h.1.1.1.1.0; due = h.1.1.1.1.1.0; boots = λ j. (h.1.1.1.1.1.1.1 j).knows; numbers = λ j. subst (IsNumbered j (c.clients j)) (sym K.0.hears.told) (h.1.1.0.1 j); epochs = h.1.1.0.0.1.1 }
 
 claims_now : (s : Script) (c : Cell) (past : List Entry) (x : Input) → IsSoundLoc c.loc.state → Claimed s c past → EachSent (IsOwnCall s) ((moved c x).entry ∷ past) (moved c x).entry.sent
 claims_now s c past x so k =
@@ -163,4 +164,4 @@ claims_now s c past x so k =
 
 pub run_claims : CallsAreOwn
 run_claims s h end r =
-    run_each (Claimed s) (λ past e. EachSent (IsOwnCall s) (e ∷ past) e.sent) (claimed_kept s) (claims_now s) r.inputs s (set_up s ∷ []) h end (homed_first s, (learnt_first s, (numbered_first s, (booted_first s, (truthful_first s, due_first s))))) r.leads
+    run_each (Claimed s) (λ past e. EachSent (IsOwnCall s) (e ∷ past) e.sent) (claimed_kept s) (claims_now s) r.inputs s (set_up s ∷ []) h end (homed_first s, (learnt_first s, (numbered_first s, (booted_first s, (truthful_first s, (due_first s, acquainted_first s)))))) r.leads

@@ -22,7 +22,7 @@ use Rattle.afs_rows.specs.Going.{asked, locates, next}
 use Rattle.afs_history.specs.declared.acts.Operand.{Operand}
 use Rattle.afs_law.specs.Cells.{IsOfCell}
 use Rattle.afs_law.specs.Ideal.{change_in, set_up, user_of, call_under, callee_under}
-use Rattle.afs_law.specs.Legal.{Cause, GoodCode, HasChange, HasNothing, IsCaused, IsInPlace, IsOfClient, IsResult, IsTold as IsToldOf, answer_at, as_asked, WasRefused, IsGone, IsUnheardOf, MayAsk}
+use Rattle.afs_law.specs.Legal.{Cause, GoodCode, HasChange, HasNothing, IsCaused, IsInPlace, IsOfClient, IsResult, IsTold as IsToldOf, answer_at, as_asked, WasRefused, IsGone, IsOperandOf, IsUnheardOf, MayAsk}
 use Rattle.afs_law.specs.Parts.{EachEntry, EachLine}
 use Rattle.afs_law.specs.Past.{CalledSince, IsReply, Sends, answered_key, called_key, code_told, given_message, lines_of, sent_of}
 use Rattle.afs_law.specs.ServerParts.{IsCodeGood}
@@ -199,11 +199,11 @@ refused_by s c past own j act code h q =
     }
 
 gone_by : (s : Script) (c : Cell) (past : List Entry) (own : List Line) (j : ℕ) (act : Going) (code : ℤ) → Truthful s c past → IsLeft s (Client j) act code past own → IsGone s (Client j) act code past own
-gone_by s c past own j act code h q = record { left = q.left; is = q.is; refused = refused_by s c past own j act q.left h q.replied; operand = q.operand; heard = q.heard }
+gone_by s c past own j act code h q = record { left = q.left; is = q.is; refused = refused_by s c past own j act q.left h q.replied; operand = q.operand; its = q.its; heard = q.heard }
 
-pub may_ask : (s : Script) (c : Cell) (past : List Entry) (own : List Line) (j : ℕ) (act : Going) (o : Operand) → Truthful s c past → (next act ≡ locates o) ⊎ ((left : ℤ) × WasReplied s (Client j) act left past) → MayAsk s (Client j) act o past own
+pub may_ask : (s : Script) (c : Cell) (past : List Entry) (own : List Line) (j : ℕ) (act : Going) (o : Operand) → Truthful s c past → (next act ≡ locates o) ⊎ ((left : ℤ) × (WasReplied s (Client j) act left past × IsOperandOf act o)) → MayAsk s (Client j) act o past own
 may_ask s c past own j act o h (inl needs) = inl needs
-may_ask s c past own j act o h (inr q) = inr (q.0, refused_by s c past own j act q.0 h q.1)
+may_ask s c past own j act o h (inr q) = inr (q.0, (refused_by s c past own j act q.0 h q.1.0, q.1.1))
 
 unheard_by : (s : Script) (c : Cell) (past : List Entry) (own : List Line) (j : ℕ) (act : Going) (code : ℤ) → Truthful s c past → IsUntold s (Client j) act code past own → IsUnheardOf s (Client j) act code past own
 unheard_by s c past own j act code h q = record { is = q.is; epoch = q.epoch; number = q.number; third = q.third; before = q.before; operand = q.operand; called = q.called; why = may_ask s c past own j act q.operand h q.why }

@@ -99,7 +99,7 @@ counted_moves s = record {
   void = λ c past h. idle_counted s c past (voided c).entry h.1 refl;
   ticked = λ c past n h. idle_counted s c past (ticked c (suc n)).entry h.1 refl;
   begun = λ c past n act h r z0. (let a = begins_acts n (c.clients n) c.clock act r z0 in client_counted s c past n _ h a (begins_follow n (c.clients n) c.clock act (h.0.0.0.0.1 n).0 r) (none_counts n (c.clients n) (begin_row (Client n) (c.clients n) c.clock act) (begun_times s c past n act h.0.0 a)));
-  told = λ c past n place m h at to. (let a = given_acts (by_key (IsKnown h.0.0.0.0.0.0.0.0.keys.callees c.clients)) any_told n (c.clients n) c.clock place m (h.0.0.0.0.0.0.0.0.keys.replies n) (h.0.0.0.0.0.0.0.1.seats n) in
+  told = λ c past n place m h at to un. (let a = given_acts (by_key (IsKnown h.0.0.0.0.0.0.0.0.keys.callees c.clients)) any_told n (c.clients n) c.clock place m (h.0.0.0.0.0.0.0.0.keys.replies n) (h.0.0.0.0.0.0.0.1.seats n) in
       client_counted s c past n _ h a (given_follow n (c.clients n) c.clock place m (h.0.0.0.0.1 n).0 (each_at (λ m. IsFirm m.head m.carried) c.sent place m at h.0.0.0.0.0.1)) (none_counts n (c.clients n) (client_row (Client n) (c.clients n) c.clock place (Whole m)) (told_times s c past n place m h.0.0 at to a)));
   sought = λ c past n place m k h at to z e. (let A : AskedIn s c past = h.0.0.0.0.0.0.0.1 in
       client_counted s c past n _ h (sought_acts_in s c past n place m k A at z e) (sought_follow s n (c.clients n) c.clock place k m.head m.carried (placed_in s c past n k A z) (told_in s c past n place m k A at e) (h.0.0.0.0.1 n).0) (none_counts n (c.clients n) (sought_by (Client n) (c.clients n) c.clock place k m.head m.carried) (sought_times s c past n place m k A at z e)));

@@ -33,7 +33,7 @@ use Rattle.afs_law.specs.Cells.{IsOfCell}
 use Rattle.afs_law.specs.ClientParts.{AnswersAreDue, IsDue, IsDueCode, IsUsed, WasReplied, IsReplied, IsLeft, IsGivenAtOnce, IsUntold}
 use Rattle.afs_law.specs.Grants.{is_promised}
 use Rattle.afs_law.specs.Ideal.{call_under, callee_under, set_up, user_of}
-use Rattle.afs_law.specs.Legal.{Brings, EndsAct, GoesOn, HasUsed, IsAtOnce, IsLastCall, IsOnItsWay, IsUse, has_read, HasHeard, IsUnlisted, IsUnheardOf, IsDone, IsDead}
+use Rattle.afs_law.specs.Legal.{Brings, EndsAct, GoesOn, HasUsed, IsAtOnce, IsLastCall, IsOnItsWay, IsUse, has_read, HasHeard, IsUnlisted, IsUnheardOf, IsDone, IsDead, IsOperandOf}
 use Rattle.afs_law.specs.Parts.{EachLine}
 use Rattle.afs_law.specs.Legal.{IsKind}
 use Rattle.afs_model.specs.FsRows.{call_number, reply_number}
@@ -55,6 +55,7 @@ use Rattle.afs_num.specs.declared.histories.ReadBody.{ReadBody}
 use Rattle.afs_num.specs.declared.histories.ReadBody.TheVariants as seen
 use Rattle.afs_num.specs.declared.histories.ReadSource.{ReadSource}
 use Rattle.afs_num.specs.declared.histories.ReadSource.TheVariants.{Cached, Fetched}
+use Rattle.afs_model.specs.CellRows as cell_rows
 use Rattle.afs_num.specs.declared.messages.Call.TheVariants as ask
 use Rattle.afs_num.specs.declared.messages.Carried.{Carried}
 use Rattle.afs_num.specs.declared.messages.Carried.TheVariants as carried
@@ -575,7 +576,7 @@ ours_moves s = record {
   void = λ c past h. h.1.0;
   ticked = λ c past n h. h.1.0;
   begun = λ c past n act h r z. client_ours s c past n _ h.1.0 (λ z. begins_our n c.clock (c.clients n) act (near_now s c past n h.0 z) (h.1.0 z n));
-  told = λ c past n place m h at to. client_ours s c past n _ h.1.0 (λ z. given_our n c.clock place (c.clients n) m (near_now s c past n h.0 z) (h.1.0 z n));
+  told = λ c past n place m h at to un. client_ours s c past n _ h.1.0 (λ z. given_our n c.clock place (c.clients n) m (near_now s c past n h.0 z) (h.1.0 z n));
   sought = λ c past n place m k h at to z e. client_ours s c past n _ h.1.0 (λ y. sought_our s n c.clock place (c.clients n) k m (placed_in s c past n k h.0.0.0.0.0.1 z) (told_in s c past n place m k h.0.0.0.0.0.1 at e) (h.1.0 y n));
   missed = λ c past n k h r z. client_ours s c past n _ h.1.0 (λ y. missed_our n (c.clients n) k (h.1.0 y n));
   loc = λ c past l ls ms h st. h.1.0;
@@ -685,7 +686,7 @@ left_moves s = record {
   void = λ c past h. idle_left s c past (voided c).entry h.1.1.1 refl;
   ticked = λ c past n h. idle_left s c past (ticked c (suc n)).entry h.1.1.1 refl;
   begun = λ c past n act h r z. client_left s c past n _ h.1.1.1 (begins_acts n (c.clients n) c.clock act r z) (λ k left y f. absurd (begins_none n c.clock (c.clients n) act k left y f));
-  told = λ c past n place m h at to. client_left s c past n _ h.1.1.1 (given_acts (by_key (IsKnown h.0.0.0.0.0.0.keys.callees c.clients)) any_told n (c.clients n) c.clock place m (h.0.0.0.0.0.0.keys.replies n) (h.0.0.0.0.0.1.seats n)) (told_leaves s c past n place m h at to);
+  told = λ c past n place m h at to un. client_left s c past n _ h.1.1.1 (given_acts (by_key (IsKnown h.0.0.0.0.0.0.keys.callees c.clients)) any_told n (c.clients n) c.clock place m (h.0.0.0.0.0.0.keys.replies n) (h.0.0.0.0.0.1.seats n)) (told_leaves s c past n place m h at to);
   sought = λ c past n place m k h at to z e. client_left s c past n _ h.1.1.1 (sought_acts_in s c past n place m k h.0.0.0.0.0.1 at z e) (λ j left y f. inl (sought_last s n (c.clients n) c.clock place k m.head m.carried (placed_in s c past n k h.0.0.0.0.0.1 z) (told_in s c past n place m k h.0.0.0.0.0.1 at e)));
   missed = λ c past n k h r z. client_left s c past n _ h.1.1.1 (missed_acts n (c.clients n) k r z) (λ j left y f. inl (missed_last n (c.clients n) k));
   waited = λ c past n act h r. client_left s c past n _ h.1.1.1 (waits_acts n (c.clients n) act r) (λ k left y f. inl (waits_last n (c.clients n) act));
@@ -724,11 +725,11 @@ key_is j head e n to epoch number = ap (λ (m : Node). a_key m head.epoch head.n
 abbrev SoughtCause : Script → ℕ → Seek → List Entry → Code → List Line → Type 0
 SoughtCause s n k past code own = IsReplied s (Client n) k.act code.0 past own ⊎ (IsDone s (Client n) k.act code.0 past own ⊎ (IsDead s (Client n) k.act code.0 past own ⊎ (IsGivenAtOnce s (Client n) k.act code.0 own ⊎ (IsUnlisted s (Client n) k.act code.0 past own ⊎ (IsUntold s (Client n) k.act code.0 past own ⊎ IsLeft s (Client n) k.act code.0 past own)))))
 
-sought_cause : (s : Script) (n : ℕ) (k : Seek) (past : List Entry) (code : Code) → (k.left ≡ None → volume_at (locations s) k.operand ≡ None) → (k.left ≡ None → next k.act ≡ locates k.operand) → ((left : Left) → k.left ≡ Some left → WasReplied s (Client n) k.act left.code.0 past)
+sought_cause : (s : Script) (n : ℕ) (k : Seek) (past : List Entry) (code : Code) → (k.left ≡ None → volume_at (locations s) k.operand ≡ None) → (k.left ≡ None → next k.act ≡ locates k.operand) → ((left : Left) → k.left ≡ Some left → WasReplied s (Client n) k.act left.code.0 past) → ((left : Left) → k.left ≡ Some left → IsOperandOf k.act k.operand)
     → (own : List Line) (heard : HasHeard s (Client n) k.operand past own) → sought.IsEnd k heard.reply.carried code → SoughtCause s n k past code own
-sought_cause s n k past code unknown needs left own heard (inl a) = inr (inr (inr (inr (inl (record { operand = k.operand; needs = needs a.0; heard = heard; is = a.1.1; none = unknown a.0; told = a.1.0 })))))
-sought_cause s n k past code unknown needs left own heard (inr (inl a)) = inr (inr (inr (inr (inr (inr (record { left = a.0.code.0; replied = left a.0 a.1.0; operand = k.operand; heard = heard; is = inr (a.1.1.1, a.1.1.0) }))))))
-sought_cause s n k past code unknown needs left own heard (inr (inr a)) = inr (inr (inr (inr (inr (inr (record { left = a.0.code.0; replied = left a.0 a.1.0; operand = k.operand; heard = heard; is = inl (ap (λ (d : Code). d.0) a.1.1) }))))))
+sought_cause s n k past code unknown needs left its own heard (inl a) = inr (inr (inr (inr (inl (record { operand = k.operand; needs = needs a.0; heard = heard; is = a.1.1; none = unknown a.0; told = a.1.0 })))))
+sought_cause s n k past code unknown needs left its own heard (inr (inl a)) = inr (inr (inr (inr (inr (inr (record { left = a.0.code.0; replied = left a.0 a.1.0; operand = k.operand; its = its a.0 a.1.0; heard = heard; is = inr (a.1.1.1, a.1.1.0) }))))))
+sought_cause s n k past code unknown needs left its own heard (inr (inr a)) = inr (inr (inr (inr (inr (inr (record { left = a.0.code.0; replied = left a.0 a.1.0; operand = k.operand; its = its a.0 a.1.0; heard = heard; is = inl (ap (λ (d : Code). d.0) a.1.1.0, a.1.1.1) }))))))
 
 sought_due : (s : Script) (c : Cell) (past : List Entry) (n place : ℕ) (m : Message) (k : Seek) → GivenWaits s c past → LeftIn s c past → message_at c.sent place ≡ Some m → m.head.to ≡ Client n → (c.clients n).seeking ≡ Some k → is_sought (Client n) (c.clients n) k m.head m.carried ≡ true → Due s n past [] (sought_by (Client n) (c.clients n) c.clock place k m.head m.carried).lines
 sought_due s c past n place m k h LF at to z e =
@@ -747,6 +748,7 @@ sought_due s c past n place m k h LF at to z e =
       from = same_node-true m.head.from Loc u.0;
       to = to;
       before = refl;
+      opcode = eqb-true m.head.opcode (cell_rows.call_number (ask.Location (question k.operand))) w.1;
       called = subst (λ (y : Key). AskedSince y (user_at s n) (question k.operand) past) key q.asked;
       last = its_last h.0.0.0.0.0.keys.callees c.clients n (answered_key m.head) (sent_of past) (sym key) (subst (Each (IfCall (KnownBy h.0.0.0.0.0.keys.callees c.clients))) (sym h.0.0.0.0.0.hears.told) h.0.0.0.0.0.keys.calls) (subst (Each (IfSeek (IsUpToLast c.clients))) (sym h.0.0.0.0.0.hears.told) A.upto);
     } in
@@ -758,7 +760,7 @@ sought_due s c past n place m k h LF at to z e =
         record {
           act = k.act;
           runs = runs;
-          cause = sought_cause s n k past code (placed_in s c past n k A z).unknown q.needs (λ left. LF n k left z) (lines.Given place ∷ []) (heard has) y;
+          cause = sought_cause s n k past code (placed_in s c past n k A z).unknown q.needs (λ left. LF n k left z) q.its (lines.Given place ∷ []) (heard has) y;
         },
         tt,
       ),
@@ -766,9 +768,9 @@ sought_due s c past n place m k h LF at to z e =
     (tt, tt) (tt, tt)
 
 -- or it is timed out
-pub asked_why : (s : Script) (n : ℕ) (k : Seek) (past : List Entry) (o : Option Left) → k.left ≡ o → (k.left ≡ None → next k.act ≡ locates k.operand) → ((left : Left) → k.left ≡ Some left → WasReplied s (Client n) k.act left.code.0 past) → (next k.act ≡ locates k.operand) ⊎ ((left : ℤ) × WasReplied s (Client n) k.act left past)
-asked_why s n k past None e needs left = inl (needs e)
-asked_why s n k past (Some l) e needs left = inr (l.code.0, left l e)
+pub asked_why : (s : Script) (n : ℕ) (k : Seek) (past : List Entry) (o : Option Left) → k.left ≡ o → (k.left ≡ None → next k.act ≡ locates k.operand) → ((left : Left) → k.left ≡ Some left → WasReplied s (Client n) k.act left.code.0 past) → ((left : Left) → k.left ≡ Some left → IsOperandOf k.act k.operand) → (next k.act ≡ locates k.operand) ⊎ ((left : ℤ) × (WasReplied s (Client n) k.act left past × IsOperandOf k.act k.operand))
+asked_why s n k past None e needs left its = inl (needs e)
+asked_why s n k past (Some l) e needs left its = inr (l.code.0, (left l e, its l e))
 
 missed_due : (s : Script) (c : Cell) (past : List Entry) (n : ℕ) (k : Seek) (t : Bool) → AskedIn s c past → LeftIn s c past → (c.clients n).seeking ≡ Some k → nat_lt (c.clients n).tries 2 ≡ t → Due s n past [] (cond t (seeks_on (Client n) (c.clients n) k) (sought_ends (Client n) (c.clients n) (λ ls. timeout_line (Client n) (c.clients n) 3 ∷ ls) dead_code)).lines
 missed_due s c past n k true A LF z e = (tt, tt)
@@ -788,7 +790,7 @@ missed_due s c past n k false A LF z e =
             before = refl;
             operand = k.operand;
             called = q.asked;
-            why = asked_why s n k past k.left refl q.needs (λ left. LF n k left z);
+            why = asked_why s n k past k.left refl q.needs (λ left. LF n k left z) q.its;
           }))))));
         },
         tt,
@@ -800,7 +802,7 @@ due_moves s = record {
   void = λ c past h. (tt, tt);
   ticked = λ c past n h. (tt, tt);
   begun = λ c past n act h r z. begins_due s n c.clock (c.clients n) act past (λ z. h.1.0 z n) (h.0.0.0.0.0.1.table n);
-  told = λ c past n place m h at to. told_due s n c.clock place (c.clients n) m past (waiting_for s c past n place m h.0 h.1.1.0 at to);
+  told = λ c past n place m h at to un. told_due s n c.clock place (c.clients n) m past (waiting_for s c past n place m h.0 h.1.1.0 at to);
   sought = λ c past n place m k h at to z e. sought_due s c past n place m k h.0 h.1.1.1 at to z e;
   missed = λ c past n k h r z. missed_due s c past n k (nat_lt (c.clients n).tries 2) h.0.0.0.0.0.1 h.1.1.1 z refl;
   loc = λ c past l ls ms h st. idle_due s (actors.Node Loc) past [] ls (loc_idle ls st.lines);

@@ -12,7 +12,7 @@ use Rattle.afs_law.proofs.Delivered.{begun_ungiven, waited_ungiven, sought_given
 use Rattle.afs_law.proofs.Hearing.{client_given}
 use Rattle.afs_law.proofs.KeysOnce.{IsKnown, any_told, by_key}
 use Rattle.afs_law.proofs.Lives.{Alive, begun_alive, client_apart, not_node, same_epoch, told_alive, waited_alive, missed_alive}
-use Rattle.afs_law.proofs.Moving.{EachMove, IsKept, each_moved}
+use Rattle.afs_law.proofs.Moving.{EachMove, IsUnsought, IsKept, each_moved}
 use Rattle.afs_law.proofs.Placing.{Placed, PlacedStep, placed_first, placed_kept, placed_moves}
 use Rattle.afs_law.proofs.SettingUp.{AreVersions, all_versions}
 use Rattle.afs_law.proofs.Using.{none_given}
@@ -398,11 +398,11 @@ told_good c past n place m h given k r =
 
 -- ---- every step
 
-told_handles : (s : Script) (c : Cell) (past : List Entry) (n place : ℕ) (m : Message) → Served s c past → message_at c.sent place ≡ Some m → m.head.to ≡ Client n → Handles c past (client_moves c n (client_row (Client n) (c.clients n) c.clock place (Whole m)))
-told_handles s c past n place m h at to =
+told_handles : (s : Script) (c : Cell) (past : List Entry) (n place : ℕ) (m : Message) → Served s c past → message_at c.sent place ≡ Some m → m.head.to ≡ Client n → IsUnsought n (c.clients n) m → Handles c past (client_moves c n (client_row (Client n) (c.clients n) c.clock place (Whole m)))
+told_handles s c past n place m h at to un =
     let x : ClientState = c.clients n in
     let st : Step ClientState = client_row (Client n) x c.clock place (Whole m) in
-    let p : EachLine (IsInPlace s) (actors.Node (Client n)) past [] st.lines = (placed_moves s).told c past n place m h.0 at to in
+    let p : EachLine (IsInPlace s) (actors.Node (Client n)) past [] st.lines = (placed_moves s).told c past n place m h.0 at to un in
     let alive : Alive st.lines = told_alive (Client n) x c.clock place m in
     let a : Acts n (who_at x) x.gifts st = given_acts (by_key (IsKnown h.0.0.0.keys.callees c.clients)) any_told n x c.clock place m (h.0.0.0.keys.replies n) (h.0.0.1.seats n) in
     let same : st.state.epoch ≡ x.epoch = same_epoch n x st a alive in
@@ -469,7 +469,7 @@ handled_moves s = (let q : EachMove (Placed s) (PlacedStep s) = placed_moves s i
   ticked = λ c past n h. besides_handles s c past (ticked c (suc n)) h (q.ticked c past n h.0) (λ j e. absurd cc) refl;
   begun = λ c past n act h r z0. quiet_handles s c past n (begin_row (Client n) (c.clients n) c.clock act) h (q.begun c past n act h.0 r z0) (begun_alive (Client n) (c.clients n) c.clock act) (begins_acts n (c.clients n) c.clock act r z0) (begun_seats (Client n) (c.clients n) c.clock act)
       (none_given (begin_row (Client n) (c.clients n) c.clock act).lines (sent_of past) (begun_ungiven (Client n) (c.clients n) c.clock act));
-  told = λ c past n place m h at to. told_handles s c past n place m h at to;
+  told = λ c past n place m h at to un. told_handles s c past n place m h at to un;
   sought = λ c past n place m k h at to z e. sought_handles s c past n place m k h at to z e;
   missed = λ c past n k h r z. quiet_handles s c past n (seek_timeout_row (Client n) (c.clients n) k) h (q.missed c past n k h.0 r z) (missed_alive (Client n) (c.clients n) k) (missed_acts n (c.clients n) k r z) (missed_seats (Client n) (c.clients n) k)
       (none_given (seek_timeout_row (Client n) (c.clients n) k).lines (sent_of past) (missed_ungiven (Client n) (c.clients n) k));

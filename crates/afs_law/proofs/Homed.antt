@@ -369,7 +369,7 @@ home_moves s = record {
   void = λ c past h. h.1;
   ticked = λ c past n h. h.1;
   begun = λ c past n act h r z0. client_home s c past n _ h.1 (begins_follow n (c.clients n) c.clock act (h.0.0.1 n).0 r) (begins_home (IsAt s) n c.clock (c.clients n) act (h.1 n).homed);
-  told = λ c past n place m h at to. client_home s c past n _ h.1 (given_follow n (c.clients n) c.clock place m (h.0.0.1 n).0 (each_at (λ m. IsFirm m.head m.carried) c.sent place m at h.0.0.0.1)) (given_home (IsAt s) n c.clock place (c.clients n) m (asks_home s c past n h.0) (h.1 n).homed);
+  told = λ c past n place m h at to un. client_home s c past n _ h.1 (given_follow n (c.clients n) c.clock place m (h.0.0.1 n).0 (each_at (λ m. IsFirm m.head m.carried) c.sent place m at h.0.0.0.1)) (given_home (IsAt s) n c.clock place (c.clients n) m (asks_home s c past n h.0) (h.1 n).homed);
   sought = λ c past n place m k h at to z e. (let A : AskedIn s c past = h.0.0.0.0.0.1 in
       client_home s c past n _ h.1 (sought_follow s n (c.clients n) c.clock place k m.head m.carried (placed_in s c past n k A z) (told_in s c past n place m k A at e) (h.0.0.1 n).0)
       (quietly s c past n place m k (λ st. Homed (IsAt s) st.state) A at z e (λ code. same_homed (IsAt s) (c.clients n) _ (h.1 n).homed refl refl (h.1 n).homed.cache) (h.1 n).homed (same_homed (IsAt s) (c.clients n) _ (h.1 n).homed refl refl (h.1 n).homed.cache)));

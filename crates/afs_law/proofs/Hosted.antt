@@ -317,7 +317,7 @@ hosted_moves s = (let q : EachMove (Placed s) (PlacedStep s) = placed_moves s in
   void = λ c past h. besides_hosts s c past (voided c) h (q.void c past h.0) (λ i e. absurd cc) refl;
   ticked = λ c past n h. besides_hosts s c past (ticked c (suc n)) h (q.ticked c past n h.0) (λ i e. absurd cc) refl;
   begun = λ c past n act h r z0. besides_hosts s c past (client_moves c n (begin_row (Client n) (c.clients n) c.clock act)) h (q.begun c past n act h.0 r z0) (λ i e. absurd cc) refl;
-  told = λ c past n place m h at to. besides_hosts s c past (client_moves c n (client_row (Client n) (c.clients n) c.clock place (Whole m))) h (q.told c past n place m h.0 at to) (λ i e. absurd cc) refl;
+  told = λ c past n place m h at to un. besides_hosts s c past (client_moves c n (client_row (Client n) (c.clients n) c.clock place (Whole m))) h (q.told c past n place m h.0 at to un) (λ i e. absurd cc) refl;
   sought = λ c past n place m k h at to z e. besides_hosts s c past (client_moves c n (sought_by (Client n) (c.clients n) c.clock place k m.head m.carried)) h (q.sought c past n place m k h.0 at to z e) (λ i e'. absurd cc) refl;
   missed = λ c past n k h r z. besides_hosts s c past (client_moves c n (seek_timeout_row (Client n) (c.clients n) k)) h (q.missed c past n k h.0 r z) (λ i e'. absurd cc) refl;
   loc = λ c past l ls ms h st. besides_hosts s c past (loc_becomes c l ls ms) h (q.loc c past l ls ms h.0 st) (λ i e'. absurd cc) refl;

@@ -294,7 +294,7 @@ learnt_moves = record {
   void = λ c past h. still_learnt c (voided c).entry past h.1;
   ticked = λ c past n h. still_learnt c (ticked c (suc n)).entry past h.1;
   begun = λ c past n act h r z0. (let s : Step ClientState = begin_row (Client n) (c.clients n) c.clock act in let e : Entry = of_client n s in client_learnt c e past n None s h.1 (begins_tame any_told (Tells (e ∷ past)) (IsOf (e ∷ past)) n (c.clients n) c.clock act (own_replies c e past n h.1)));
-  told = λ c past n place m h at to. (let s : Step ClientState = client_row (Client n) (c.clients n) c.clock place (Whole m) in let e : Entry = of_client n s in client_learnt c e past n (Some place) s h.1 (given_learns c e past n place m h at to));
+  told = λ c past n place m h at to un. (let s : Step ClientState = client_row (Client n) (c.clients n) c.clock place (Whole m) in let e : Entry = of_client n s in client_learnt c e past n (Some place) s h.1 (given_learns c e past n place m h at to));
   sought = λ c past n place m k h at to z e. (let s : Step ClientState = sought_by (Client n) (c.clients n) c.clock place k m.head m.carried in let e : Entry = of_client n s in client_learnt c e past n (Some place) s h.1 (sought_tame any_told (Tells (e ∷ past)) (IsOf (e ∷ past)) n (c.clients n) c.clock place k m.head m.carried (λ b i q. absurd cc) (own_replies c e past n h.1)));
   missed = λ c past n k h r z. (let s : Step ClientState = seek_timeout_row (Client n) (c.clients n) k in let e : Entry = of_client n s in client_learnt c e past n None s h.1 (missed_tame any_told (Tells (e ∷ past)) (IsOf (e ∷ past)) n (c.clients n) k (own_replies c e past n h.1)));
   loc = λ c past l ls ms h st. loc_learnt c past l ls ms h.1 st;

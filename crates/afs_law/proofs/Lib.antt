@@ -42,6 +42,7 @@ pub mod Listing
 pub mod Moving
 pub mod Firm
 pub mod Seating
+pub mod Acquainted
 pub mod Acting
 pub mod Following
 pub mod Choosing

@@ -32,8 +32,8 @@ answered_by : (s x : LocState) (past : List Entry) (ms : List Message) (m : Mess
 answered_by s x past ms m events half given is answered = record { events = events; half = half; given = given; answered = answered ∙ ap (λ (y : LocState). loc_sent y (loc_decides y (Whole m))) is }
 
 row_by : (s : LocState) (c : Cell) (past : List Entry) (l : LocHost) (ls : List Line) (ms : List Message) → IsAtFall c.sent past s c.loc → IsLocStep c l ls ms → LivesLoc c.sent c.loc l ls ms → (m : Message) → given_message ls c.sent ≡ Some m → TellsStop ls ⊎ HasAnswered s past m ms
-row_by s c past l ls ms k st (loc_goes up on boot run caused (inl same)) m is = nothing_given (TellsStop ls ⊎ HasAnswered s past m ms) (given_message ls c.sent) m same.1 is
-row_by s c past l ls ms k st (loc_goes up on boot run caused (inr did)) m is =
+row_by s c past l ls ms k st (loc_goes up on boot run (inl same)) m is = nothing_given (TellsStop ls ⊎ HasAnswered s past m ms) (given_message ls c.sent) m same.1 is
+row_by s c past l ls ms k st (loc_goes up on boot run (inr did)) m is =
     inr (subst (λ (y : Message). HasAnswered s past y ms) (some_of did.0 m (sym did.1.1.on ∙ is)) (answered_by s c.loc.state past ms did.0 k.behind.events k.behind.half k.behind.given (k.behind.up up) did.1.1.answered))
 row_by s c past l ls ms k st (loc_falls fall up down state other stop none cut on) m is = inl stop
 row_by s c past l ls ms k st (loc_early fall down down' state are none) m is = idle_given (TellsStop ls ⊎ HasAnswered s past m ms) c l ls ms m fall st down is
@@ -63,7 +63,7 @@ row_moves s = record {
   void = λ c past h. of_nobody (start s).loc.state past _ refl;
   ticked = λ c past n h. of_clock (start s).loc.state past _ refl;
   begun = λ c past n act h r z. of_client (start s).loc.state past _ n refl;
-  told = λ c past n place m h at to. of_client (start s).loc.state past _ n refl;
+  told = λ c past n place m h at to un. of_client (start s).loc.state past _ n refl;
   sought = λ c past n place m k h at to z e. of_client (start s).loc.state past _ n refl;
   missed = λ c past n k h r z. of_client (start s).loc.state past _ n refl;
   loc = λ c past l ls ms h st. record {

@@ -148,7 +148,7 @@ stands a x b y g z before es was half p q r h =
     (subst (λ (o : Option ℕ). IsStepOf x o g before was es half) (sym q) (subst (λ (o : Option Message). IsStepOf x y o before was es half) (sym r) h))
 
 goes_by : (sent : List Message) (past : List Entry) (s : LocState) (h l : LocHost) (ls : List Line) (ms : List Message) → LivesLoc sent h l ls ms → (k : IsAtFall sent past s h) → Goes sent s h l ls k.behind.events k.behind.half
-goes_by sent past s h l ls ms (loc_goes up on boot run caused (inl same)) k = record {
+goes_by sent past s h l ls ms (loc_goes up on boot run (inl same)) k = record {
   events = k.behind.events;
   half = None;
   step = stands (boot_of h) (Some h.state.lasting.boot) (boot_of l) (Some l.state.lasting.boot) (given_message ls sent) None k.behind.events k.behind.events k.behind.half None (boot_when h None up) (boot_when l None on) same.1 (refl, refl);
@@ -158,7 +158,7 @@ goes_by sent past s h l ls ms (loc_goes up on boot run caused (inl same)) k = re
   up = λ e. same.0 ∙ k.behind.up up;
   cut = λ m clock hit e. (let no_ : None ≡ Some (in_step m clock hit) = sym on ∙ e in absurd cc);
 }
-goes_by sent past s h l ls ms (loc_goes up on boot run caused (inr did)) k =
+goes_by sent past s h l ls ms (loc_goes up on boot run (inr did)) k =
     let es : List LocEvent = k.behind.events ++ (is_given (Whole did.0) ∷ []) in
     let is : l.state ≡ loc_behind_all s es = did.1.1.left ∙ (ap (λ (x : LocState). loc_left x (loc_decides x (Whole did.0))) (k.behind.up up) ∙ sym (behind_more s k.behind.events (is_given (Whole did.0)))) in
     record {
@@ -320,7 +320,7 @@ fall_moves s = record {
   void = λ c past h. quiet_void c.sent past _ (start s).loc.state c.loc refl h.1;
   ticked = λ c past n h. quiet_tick c.sent past _ (start s).loc.state c.loc refl h.1;
   begun = λ c past n act h r z. by_client c.sent _ past _ (start s).loc.state c.loc n refl h.1;
-  told = λ c past n place m h at to. by_client c.sent _ past _ (start s).loc.state c.loc n refl h.1;
+  told = λ c past n place m h at to un. by_client c.sent _ past _ (start s).loc.state c.loc n refl h.1;
   sought = λ c past n place m k h at to z e. by_client c.sent _ past _ (start s).loc.state c.loc n refl h.1;
   missed = λ c past n k h r z. by_client c.sent _ past _ (start s).loc.state c.loc n refl h.1;
   loc = λ c past l ls ms h st. loc_events s c past l ls ms h st;

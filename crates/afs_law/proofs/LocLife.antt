@@ -13,6 +13,7 @@ use Rattle.afs_law.proofs.Listing.{IsBackTo, IsLocStep, LivesLoc, loc_early, loc
 use Rattle.afs_law.proofs.Loading.{onto_both}
 use Rattle.afs_law.proofs.LocLines.{all_deeds, are_deeds, deed_runs, is_deed, is_of_loc, loc_node}
 use Rattle.afs_law.proofs.Moving.{EachMove, IsKept, each_moved}
+use Rattle.afs_law.proofs.Origins.{given_numbered}
 use Rattle.afs_law.proofs.Placing.{Placed, PlacedStep, placed_first, placed_kept, placed_moves}
 use Rattle.afs_law.proofs.SettingUp.{all_versions}
 use Rattle.afs_law.proofs.Steps.{blow_line, loc_becomes, server_falls, server_moves, server_rises, server_set, server_stays}
@@ -144,7 +145,7 @@ pub record Life (l : LocHost) (ls : List Line) : Type 0 where
 
 -- what its lines tell is as it is
 abbrev Living : LocHost → List Line → List Line → List Message → Type 0
-Living l o ls ms = Life l (onto o ls) × (IsHostLived (server_boot Loc o) (last_written Loc o + 1) ls ms × (RisesAbove (last_boot Loc o) ls × DeedsAreCaused (server_boot Loc o) ls))
+Living l o ls ms = Life l (onto o ls) × (IsHostLived (server_boot Loc o) (last_written Loc o + 1) ls ms × RisesAbove (last_boot Loc o) ls)
 
 -- it falls
 record Falls (ls o : List Line) : Type 0 where
@@ -152,7 +153,6 @@ record Falls (ls o : List Line) : Type 0 where
   last : last_boot Loc (onto o ls) ≡ last_boot Loc o
   written : last_written Loc (onto o ls) ≡ last_written Loc o
   rises : (n : ℕ) → RisesAbove n ls
-  caused : (has_given ls ≡ true) ⊎ TellsNoDeed ls
 
 crash_falls : (n : Node) (o : List Line) → n ≡ Loc → server_boot Loc (lines.Crash n ∷ o) ≡ None
 crash_falls n o e = ap (λ (q : Node). server_boot Loc (lines.Crash q ∷ o)) e
@@ -161,8 +161,8 @@ fault_falls : (n : Node) (o : List Line) → n ≡ Loc → server_boot Loc (line
 fault_falls n o e = ap (λ (q : Node). server_boot Loc (lines.Fault q ∷ o)) e
 
 stop_falls : (ls o : List Line) (b : ℕ) → TellsStop ls → all_lines is_of_loc ls ≡ true → server_boot Loc o ≡ Some b → Falls ls o
-stop_falls (lines.Crash n ∷ []) o b t h up = record { none = crash_falls n o (loc_node n (both (same_node n Loc) true h).0); last = refl; written = refl; rises = λ k. tt; caused = inr tt }
-stop_falls (lines.Given place ∷ lines.Crash n ∷ []) o b t h up = record { none = crash_falls n (lines.Given place ∷ o) (loc_node n (both (same_node n Loc) true h).0); last = refl; written = refl; rises = λ k. tt; caused = inl refl }
+stop_falls (lines.Crash n ∷ []) o b t h up = record { none = crash_falls n o (loc_node n (both (same_node n Loc) true h).0); last = refl; written = refl; rises = λ k. tt }
+stop_falls (lines.Given place ∷ lines.Crash n ∷ []) o b t h up = record { none = crash_falls n (lines.Given place ∷ o) (loc_node n (both (same_node n Loc) true h).0); last = refl; written = refl; rises = λ k. tt }
 stop_falls (lines.Given place ∷ lines.Fault n ∷ []) o b t h up =
     let me : n ≡ Loc = loc_node n (both (same_node n Loc) true h).0 in
     record {
@@ -170,7 +170,6 @@ stop_falls (lines.Given place ∷ lines.Fault n ∷ []) o b t h up =
       last = refl;
       written = ap (λ (q : Node). last_written Loc (lines.Fault q ∷ lines.Given place ∷ o)) me ∙ ap (λ (x : Option ℕ). written_at x (last_written Loc o)) up;
       rises = λ k. tt;
-      caused = inl refl;
     }
 stop_falls ls o b t h up = absurd t
 
@@ -199,12 +198,12 @@ behind h l o ls ms after fall x down are k life start rises =
       subst (Life l) (sym (onto_both o F.front (x ∷ []))) (life (onto o F.front) (A.boot ∙ none) A.last A.written),
       (
         subst (λ (b : Option ℕ). IsHostLived b (last_written Loc o + 1) (F.front ++ (x ∷ [])) ms) (sym none) (start_front (last_written Loc o + 1) F.front (x ∷ []) ms F.deeds start),
-        (rises_front (last_boot Loc o) F.front (x ∷ []) F.deeds rises, subst (λ (b : Option ℕ). DeedsAreCaused b (F.front ++ (x ∷ []))) (sym none) tt),
+        rises_front (last_boot Loc o) F.front (x ∷ []) F.deeds rises,
       ),
     )
 
 life_by : (sent : List Message) (h l : LocHost) (o ls : List Line) (ms : List Message) → all_lines is_of_loc ls ≡ true → LivesLoc sent h l ls ms → Life h o → Living l o ls ms
-life_by sent h l o ls ms of (loc_goes up on boot run caused did) k =
+life_by sent h l o ls ms of (loc_goes up on boot run did) k =
     let q : Alike (onto o ls) o = running_alike ls o run in
     let was : server_boot Loc o ≡ Some h.state.lasting.boot = k.now ∙ ap (λ (d : Option Fall). up_boot d h.state.lasting.boot) up in
     let low : h.state.lasting.boot ≤ last_written Loc o = subst (λ (d : Option Fall). reached h.state.lasting.boot d ≤ last_written Loc o) up k.written in (
@@ -213,7 +212,7 @@ life_by sent h l o ls ms of (loc_goes up on boot run caused did) k =
         last = subst (λ (n : ℕ). n ≤ l.state.lasting.boot) (sym q.last) (subst (λ (n : ℕ). last_boot Loc o ≤ n) (sym boot) k.last);
         written = subst (λ (n : ℕ). reached l.state.lasting.boot l.down ≤ n) (sym q.written) (subst (λ (d : Option Fall). reached l.state.lasting.boot d ≤ last_written Loc o) (sym on) (subst (λ (n : ℕ). n ≤ last_written Loc o) (sym boot) low));
       },
-      (subst (λ (b : Option ℕ). IsHostLived b (last_written Loc o + 1) ls ms) (sym was) (inl (goes_on ls run)), (running_rises (last_boot Loc o) ls run, subst (λ (b : Option ℕ). DeedsAreCaused b ls) (sym was) caused)),
+      (subst (λ (b : Option ℕ). IsHostLived b (last_written Loc o + 1) ls ms) (sym was) (inl (goes_on ls run)), running_rises (last_boot Loc o) ls run),
     )
 life_by sent h l o ls ms of (loc_falls fall up down state other stop none cut on) k =
     let boot : l.state.lasting.boot ≡ h.state.lasting.boot = boot_is state in
@@ -226,7 +225,7 @@ life_by sent h l o ls ms of (loc_falls fall up down state other stop none cut on
         written = subst (λ (n : ℕ). reached l.state.lasting.boot l.down ≤ n) (sym F.written) (subst (λ (d : Option Fall). reached l.state.lasting.boot d ≤ last_written Loc o) (sym down)
             (subst (λ (n : ℕ). n ≤ last_written Loc o) (sym (reached_fall l.state.lasting.boot fall other ∙ boot)) low));
       },
-      (subst (λ (b : Option ℕ). IsHostLived b (last_written Loc o + 1) ls ms) (sym was) (inr (stop, none)), (F.rises (last_boot Loc o), subst (λ (b : Option ℕ). DeedsAreCaused b ls) (sym was) F.caused)),
+      (subst (λ (b : Option ℕ). IsHostLived b (last_written Loc o + 1) ls ms) (sym was) (inr (stop, none)), F.rises (last_boot Loc o)),
     )
 life_by sent h l o ls ms of (loc_early fall down down' state are none) k =
     let boot : l.state.lasting.boot ≡ h.state.lasting.boot = boot_is state in
@@ -239,7 +238,7 @@ life_by sent h l o ls ms of (loc_early fall down down' state are none) k =
         last = subst (λ (n : ℕ). last_boot Loc o ≤ n) (sym boot) k.last;
         written = subst (λ (b : Option ℕ). reached l.state.lasting.boot l.down ≤ written_at b (last_written Loc o)) (sym none_) (omega (arith, v));
       },
-      (subst (λ (b : Option ℕ). IsHostLived b (last_written Loc o + 1) (lines.Fault Loc ∷ []) ms) (sym none_) (refl, none), (tt, subst (λ (b : Option ℕ). DeedsAreCaused b (lines.Fault Loc ∷ [])) (sym none_) tt)),
+      (subst (λ (b : Option ℕ). IsHostLived b (last_written Loc o + 1) (lines.Fault Loc ∷ []) ms) (sym none_) (refl, none), tt),
     )
 life_by sent h l o ls ms of (loc_midway after fall down down' state are none) k =
     let boot : l.state.lasting.boot ≡ (begun_from loc_kind h.state after fall).state.lasting.boot = boot_is state in
@@ -282,33 +281,33 @@ life_by sent h l o ls ms of (loc_rises after fall down on state are none) k =
 
 -- it sends while it is up
 sends_up : (sent : List Message) (h l : LocHost) (ls : List Line) (ms : List Message) → LivesLoc sent h l ls ms → (ms ≡ []) ⊎ ((l.down ≡ None) × (l.state.lasting.boot ≡ h.state.lasting.boot))
-sends_up sent h l ls ms (loc_goes up on boot run caused did) = inr (on, boot)
+sends_up sent h l ls ms (loc_goes up on boot run did) = inr (on, boot)
 sends_up sent h l ls ms (loc_falls fall up down state other stop none cut on) = inl none
 sends_up sent h l ls ms (loc_early fall down down' state are none) = inl none
 sends_up sent h l ls ms (loc_midway after fall down down' state are none) = inl none
 sends_up sent h l ls ms (loc_full after fall down down' state are none) = inl none
 sends_up sent h l ls ms (loc_rises after fall down on state are none) = inl none
 
-one_back : (ls : List Line) (b : ℕ) (k : Message) (ms : List Message) → server_boot Loc ls ≡ Some b → Each (IsBackTo k.head k.carried) ms → Each (IsUnderKey k.head) ms → AreAlone ms → Each (λ (m : Message). OfNotice (m.head.boot ≡ b) m.carried) ms → AllGoBack ls (Some k) ms
+one_back : (ls : List Line) (b : ℕ) (k : Message) (ms : List Message) → server_boot Loc ls ≡ Some b → Each (IsBackTo k.head k.carried) ms → Each (IsUnderKey k.head) ms → AreAlone ms → Each (λ (m : Message). m.head.boot ≡ b) ms → AllGoBack ls (Some k) ms
 one_back ls b k [] up h u a n = tt
-one_back ls b k (m ∷ []) up h u a n = ((h.0.1.1, h.0.0), ((h.0.1.0, u.0), λ e. up ∙ ap (λ (i : ℕ). Some i) (sym (subst (OfNotice (m.head.boot ≡ b)) e n.0))))
+one_back ls b k (m ∷ []) up h u a n = ((h.0.1.1, h.0.0), ((h.0.1.0, u.0), inl (up ∙ ap (λ (i : ℕ). Some i) (sym n.0))))
 one_back ls b k (m ∷ x ∷ ms) up h u a n = a
 
-goes_back : (ls : List Line) (b : ℕ) (given : Option Message) (ms : List Message) → server_boot Loc ls ≡ Some b → (given ≡ None → ms ≡ []) → ((m : Message) → given ≡ Some m → Each (IsBackTo m.head m.carried) ms) → ((m : Message) → given ≡ Some m → Each (IsUnderKey m.head) ms) → AreAlone ms → Each (λ (m : Message). OfNotice (m.head.boot ≡ b) m.carried) ms → AllGoBack ls given ms
+goes_back : (ls : List Line) (b : ℕ) (given : Option Message) (ms : List Message) → server_boot Loc ls ≡ Some b → (given ≡ None → ms ≡ []) → ((m : Message) → given ≡ Some m → Each (IsBackTo m.head m.carried) ms) → ((m : Message) → given ≡ Some m → Each (IsUnderKey m.head) ms) → AreAlone ms → Each (λ (m : Message). m.head.boot ≡ b) ms → AllGoBack ls given ms
 goes_back ls b None ms up none back keys a n = subst (AllGoBack ls None) (sym (none refl)) tt
 goes_back ls b (Some k) ms up none back keys a n = one_back ls b k ms up (back k refl) (keys k refl) a n
 
-all_back : (c : Cell) (past : List Entry) (l : LocHost) (ls : List Line) (ms : List Message) → sent_of past ≡ c.sent → IsLocStep c l ls ms → Life l (onto (lines_of past) ls) → AllGoBack (onto (lines_of past) ls) (given_message ls (sent_of past)) ms
-all_back c past l ls ms told st life = elim (sends_up c.sent c.loc l ls ms st.lives) [
+all_back : (c : Cell) (past : List Entry) (l : LocHost) (ls : List Line) (ms : List Message) → sent_of past ≡ c.sent → IsLocStep c l ls ms → Each (λ (m : Message). m.head.boot ≡ c.loc.state.lasting.boot) ms → Life l (onto (lines_of past) ls) → AllGoBack (onto (lines_of past) ls) (given_message ls (sent_of past)) ms
+all_back c past l ls ms told st now life = elim (sends_up c.sent c.loc l ls ms st.lives) [
   | inl none ↦ subst (AllGoBack (onto (lines_of past) ls) (given_message ls (sent_of past))) (sym none) tt
   | inr up ↦ subst (λ (o : Option Message). AllGoBack (onto (lines_of past) ls) o ms) (sym (st.given (sent_of past) ∙ ap (λ (all : List Message). placed st.place all) told))
-      (goes_back (onto (lines_of past) ls) c.loc.state.lasting.boot (placed st.place c.sent) ms (life.now ∙ (ap (λ (d : Option Fall). up_boot d l.state.lasting.boot) up.0 ∙ ap (λ (b : ℕ). Some b) up.1)) st.none st.back st.keys st.alone st.notices)
+      (goes_back (onto (lines_of past) ls) c.loc.state.lasting.boot (placed st.place c.sent) ms (life.now ∙ (ap (λ (d : Option Fall). up_boot d l.state.lasting.boot) up.0 ∙ ap (λ (b : ℕ). Some b) up.1)) st.none st.back st.keys st.alone now)
 ]
 
 -- ---- every step
 
 abbrev pub IsLocLived : Actor → List Entry → List Line → List Message → Type 0
-IsLocLived (actors.Node Loc) past ls sent = IsHostLived (server_boot Loc (lines_of past)) (last_written Loc (lines_of past) + 1) ls sent × ((RisesAbove (last_boot Loc (lines_of past)) ls × DeedsAreCaused (server_boot Loc (lines_of past)) ls) × AllGoBack (onto (lines_of past) ls) (given_message ls (sent_of past)) sent)
+IsLocLived (actors.Node Loc) past ls sent = IsHostLived (server_boot Loc (lines_of past)) (last_written Loc (lines_of past) + 1) ls sent × ((RisesAbove (last_boot Loc (lines_of past)) ls × DeedsAreCaused (server_boot Loc (lines_of past)) past ls sent) × AllGoBack (onto (lines_of past) ls) (given_message ls (sent_of past)) sent)
 IsLocLived who past ls sent = ⊤
 
 none_life : (who : Actor) (past : List Entry) (ls : List Line) (sent : List Message) → (who ≡ actors.Node Loc → ⊥) → IsLocLived who past ls sent
@@ -338,17 +337,23 @@ besides_life s c past m h p other same =
       });
     }
 
+-- what does nothing with locks and places needs no cause for it
+quiet_caused : (b : Option ℕ) (past : List Entry) (ls : List Line) (sent : List Message) → TellsNoDeed ls → DeedsAreCaused b past ls sent
+quiet_caused None past ls sent h = inl h
+quiet_caused (Some boot) past ls sent h = inl h
+
 pub loc_life : (s : Script) (c : Cell) (past : List Entry) (l : LocHost) (ls : List Line) (ms : List Message) → LifeFacts s c past → IsLocStep c l ls ms → LifeStep c past (loc_becomes c l ls ms)
 loc_life s c past l ls ms h st =
     let q : Living l (lines_of past) ls ms = life_by c.sent c.loc l (lines_of past) ls ms st.lines st.lives h.1 in
-    record { good = (q.1.0, (q.1.1, all_back c past l ls ms h.0.0.0.hears.told st q.0)); life = q.0 }
+    let quiet : TellsNoDeed ls = st.quiet s h.0.0.1.lists (λ m at. given_numbered s c past st.place m h.0.0.1 at) in
+    record { good = (q.1.0, ((q.1.1, quiet_caused (server_boot Loc (lines_of past)) past ls ms quiet), all_back c past l ls ms h.0.0.0.hears.told st (st.now s h.0.0.1.lists (λ m at. given_numbered s c past st.place m h.0.0.1 at)) q.0)); life = q.0 }
 
 life_moves : (s : Script) → EachMove (LifeFacts s) LifeStep
 life_moves s = (let q : EachMove (Placed s) (PlacedStep s) = placed_moves s in record {
   void = λ c past h. besides_life s c past (voided c) h (q.void c past h.0) (λ e. absurd cc) refl;
   ticked = λ c past n h. besides_life s c past (ticked c (suc n)) h (q.ticked c past n h.0) (λ e. absurd cc) refl;
   begun = λ c past n act h r z0. besides_life s c past (client_moves c n (begin_row (Client n) (c.clients n) c.clock act)) h (q.begun c past n act h.0 r z0) (λ e. absurd cc) refl;
-  told = λ c past n place m h at to. besides_life s c past (client_moves c n (client_row (Client n) (c.clients n) c.clock place (Whole m))) h (q.told c past n place m h.0 at to) (λ e. absurd cc) refl;
+  told = λ c past n place m h at to un. besides_life s c past (client_moves c n (client_row (Client n) (c.clients n) c.clock place (Whole m))) h (q.told c past n place m h.0 at to un) (λ e. absurd cc) refl;
   sought = λ c past n place m k h at to z e. besides_life s c past (client_moves c n (sought_by (Client n) (c.clients n) c.clock place k m.head m.carried)) h (q.sought c past n place m k h.0 at to z e) (λ e'. absurd cc) refl;
   missed = λ c past n k h r z. besides_life s c past (client_moves c n (seek_timeout_row (Client n) (c.clients n) k)) h (q.missed c past n k h.0 r z) (λ e. absurd cc) refl;
   loc = λ c past l ls ms h st. loc_life s c past l ls ms h st;

@@ -193,7 +193,7 @@ told_apart n k code a ne b = let same : n ≡ k = numbers n k (sym a ∙ b) in l
 pub not_sought : (s : Script) (c : Node) (act : Going) (code : ℤ) (past : List Entry) (own : List Line) (n : ℕ) → code ≡ pos n → nat_eq n 103 ≡ false → nat_eq n 111 ≡ false → nat_eq n no_entry ≡ false → IsUnlisted s c act code past own ⊎ (IsUnheardOf s c act code past own ⊎ IsGone s c act code past own) → ⊥
 not_sought s c act code past own n e a b d (inl x) = told_apart n no_entry code e d x.is
 not_sought s c act code past own n e a b d (inr (inl x)) = let z : pos n ≡ negsuc 0 = sym e ∙ x.is in absurd cc
-not_sought s c act code past own n e a b d (inr (inr x)) = elim x.is [ inl y ↦ elim x.refused.gone [ inl z ↦ told_apart n 103 code e a (y ∙ z) | inr z ↦ told_apart n 111 code e b (y ∙ z) ] | inr y ↦ told_apart n no_entry code e d y.0 ]
+not_sought s c act code past own n e a b d (inr (inr x)) = elim x.is [ inl y ↦ elim x.refused.gone [ inl z ↦ told_apart n 103 code e a (y.0 ∙ z) | inr z ↦ told_apart n 111 code e b (y.0 ∙ z) ] | inr y ↦ told_apart n no_entry code e d y.0 ]
 
 no_gone : (code : ℤ) → code ≡ pos 103 → code ≡ pos 0 → ⊥
 no_gone code a b = let e : pos 103 ≡ pos 0 = sym a ∙ b in absurd cc
@@ -247,7 +247,7 @@ made s c code past own act g runs is zero client =
               | inl x ↦ absurd (no_entry_zero code.0 x.is zero)
               | inr t ↦ elim t [
                 | inl x ↦ absurd (no_death code.0 x.is zero)
-                | inr x ↦ absurd (elim x.is [ inl a ↦ elim x.refused.gone [ inl b ↦ no_gone code.0 (a ∙ b) zero | inr b ↦ no_moved code.0 (a ∙ b) zero ] | inr a ↦ no_entry_zero code.0 a.0 zero ])
+                | inr x ↦ absurd (elim x.is [ inl a ↦ elim x.refused.gone [ inl b ↦ no_gone code.0 (a.0 ∙ b) zero | inr b ↦ no_moved code.0 (a.0 ∙ b) zero ] | inr a ↦ no_entry_zero code.0 a.0 zero ])
               ]
             ]
           ]

@@ -8,7 +8,8 @@ use Rattle.afs_num.specs.declared.types.Node.{Node}
 use Rattle.afs_num.specs.declared.types.Node.TheVariants.{Admin, Client, Loc, Server}
 use Rattle.afs_history.specs.declared.lines.Line.{Line}
 use Rattle.afs_rows.specs.ClientRow.{begin_row, client_row, timeout_row, act_by, act_of, is_sought, seek_timeout_row, sought_by, sought_or}
-use Rattle.afs_rows.specs.Going.{Going, Seek}
+use Rattle.afs_law.proofs.Basics.{some_of}
+use Rattle.afs_rows.specs.Going.{ClientState, Going, Seek}
 use Rattle.afs_law.proofs.Steps.{loc_becomes, blow_line, calls_at, server_falls, server_moves, server_rises, server_set, server_stays, falls_is, sets_is, stays_is}
 use Rattle.afs_rows.specs.Hosts as hosts
 use Rattle.afs_rows.specs.Hosts.{begun_from, crashed, ends, served, sets}
@@ -24,9 +25,13 @@ use Rattle.afs_law.proofs.Listing.{IsAskedOf, IsLocStep, IsSoundLoc, cut_loc, li
 use Rattle.afs_rows.specs.LocRow.{loc_can_start}
 use Rattle.afs_rows.specs.ServerSteps.{back_timeout_row, server_row, wake_row}
 use Rattle.afs_rows.specs.States.{BackCall}
-use Rattle.std.proofs.Common.{◌+◌, zero, suc, ◌≡◌, ℕ, Bool, true, false, cond, List, [], ◌∷◌, Option, Some, None, refl, sym, subst}
+use Rattle.std.proofs.Common.{◌+◌, zero, suc, ◌≡◌, ℕ, Bool, true, false, cond, List, [], ◌∷◌, Option, Some, None, refl, sym, subst, ◌∙◌}
 
 -- ---- every kind of step
+
+-- what a client is given is no answer for which its act waits at the location database
+abbrev pub IsUnsought : ℕ → ClientState → Message → Type 0
+IsUnsought n c m = (k : Seek) → c.seeking ≡ Some k → is_sought (Client n) c k m.head m.carried ≡ false
 
 -- where Q holds before a step, M holds of it
 pub record EachMove (Q : Cell → List Entry → Type 0) (M : Cell → List Entry → Moved → Type 0) : Type 0 where
@@ -34,7 +39,7 @@ pub record EachMove (Q : Cell → List Entry → Type 0) (M : Cell → List Entr
   pub ticked : (c : Cell) (past : List Entry) (n : ℕ) → Q c past → M c past (ticked c (suc n))
   -- of a client: an act begins, a message is given, a call is timed out, it stops, it begins again
   pub begun : (c : Cell) (past : List Entry) (n : ℕ) (act : Act) → Q c past → (c.clients n).running ≡ None → (c.clients n).seeking ≡ None → M c past (client_moves c n (begin_row (Client n) (c.clients n) c.clock act))
-  pub told : (c : Cell) (past : List Entry) (n place : ℕ) (m : Message) → Q c past → message_at c.sent place ≡ Some m → m.head.to ≡ Client n → M c past (client_moves c n (client_row (Client n) (c.clients n) c.clock place (Whole m)))
+  pub told : (c : Cell) (past : List Entry) (n place : ℕ) (m : Message) → Q c past → message_at c.sent place ≡ Some m → m.head.to ≡ Client n → IsUnsought n (c.clients n) m → M c past (client_moves c n (client_row (Client n) (c.clients n) c.clock place (Whole m)))
   -- an act that waits for the location database: its answer comes, or its call is timed out
   pub sought : (c : Cell) (past : List Entry) (n place : ℕ) (m : Message) (k : Seek) → Q c past → message_at c.sent place ≡ Some m → m.head.to ≡ Client n → (c.clients n).seeking ≡ Some k → is_sought (Client n) (c.clients n) k m.head m.carried ≡ true → M c past (client_moves c n (sought_by (Client n) (c.clients n) c.clock place k m.head m.carried))
   pub missed : (c : Cell) (past : List Entry) (n : ℕ) (k : Seek) → Q c past → (c.clients n).running ≡ None → (c.clients n).seeking ≡ Some k → M c past (client_moves c n (seek_timeout_row (Client n) (c.clients n) k))
@@ -85,14 +90,14 @@ loc_received_to R c place luck m None is v w s at to = loc_served_to R c place m
 loc_received_to R c place luck m (Some fall) is v w s at to = v
 
 pub loc_stopped_to : (R : Moved → Type 0) (c : Cell) (d : Option Fall) → c.loc.down ≡ d → R (voided c) → LocMoves R c → IsSoundLoc c.loc.state → R (loc_up c (crashed loc_kind c.loc) d)
-loc_stopped_to R c None is v w s = w _ _ _ (line_loc c (lines.Crash Loc) (Some at_rest) unarmed refl (loc_falls at_rest is refl refl (λ e. absurd cc) tt refl tt refl) (λ S l. tt) s)
+loc_stopped_to R c None is v w s = w _ _ _ (line_loc c (lines.Crash Loc) (Some at_rest) unarmed refl tt (loc_falls at_rest is refl refl (λ e. absurd cc) tt refl tt refl) (λ S l. tt) s)
 loc_stopped_to R c (Some fall) is v w s = v
 
 loc_ends_to : (R : Moved → Type 0) (c : Cell) (after : Bool) (fall : Fall) (out : Outcome) → c.loc.down ≡ Some fall → LocMoves R c → IsSoundLoc c.loc.state → R (loc_placed c (ends loc_kind c.loc c.clock c.count (begun_from loc_kind c.loc.state after fall) fall out))
 loc_ends_to R c after fall comes_up is w s = w _ _ _ (started_loc c after fall unarmed is s)
-loc_ends_to R c after fall fails_early is w s = w _ _ _ (line_loc c (lines.Fault Loc) (Some fall) unarmed refl (loc_early fall is refl refl refl refl) (λ S l. subst IsAskedOf is l.cut) s)
-loc_ends_to R c after fall fails_midway is w s = w _ _ _ (stays_loc c after fall in_boot (lines.Fault Loc) unarmed is refl (loc_midway after fall is refl refl refl refl) tt s)
-loc_ends_to R c after fall is_full is w s = w _ _ _ (stays_loc c after fall at_rest (lines.Full Loc) unarmed is refl (loc_full after fall is refl refl refl refl) tt s)
+loc_ends_to R c after fall fails_early is w s = w _ _ _ (line_loc c (lines.Fault Loc) (Some fall) unarmed refl tt (loc_early fall is refl refl refl refl) (λ S l. subst IsAskedOf is l.cut) s)
+loc_ends_to R c after fall fails_midway is w s = w _ _ _ (stays_loc c after fall in_boot (lines.Fault Loc) unarmed is refl tt (loc_midway after fall is refl refl refl refl) tt s)
+loc_ends_to R c after fall is_full is w s = w _ _ _ (stays_loc c after fall at_rest (lines.Full Loc) unarmed is refl tt (loc_full after fall is refl refl refl refl) tt s)
 
 pub loc_restarted_to : (R : Moved → Type 0) (c : Cell) (after : Bool) (out : Outcome) (d : Option Fall) → c.loc.down ≡ d → R (voided c) → LocMoves R c → IsSoundLoc c.loc.state → R (loc_restarted c after out d)
 loc_restarted_to R c after out None is v w s = v
@@ -106,10 +111,10 @@ loc_armed_to R c l armed (Some fall) is k v w s = v
 sought_if : (Q : Cell → List Entry → Type 0) (M : Cell → List Entry → Moved → Type 0) (E : EachMove Q M) (c : Cell) (past : List Entry) (n place : ℕ) (m : Message) (k : Seek) (t : Bool) → is_sought (Client n) (c.clients n) k m.head m.carried ≡ t → Q c past → message_at c.sent place ≡ Some m → m.head.to ≡ Client n → (c.clients n).seeking ≡ Some k
     → M c past (client_moves c n (cond t (sought_by (Client n) (c.clients n) c.clock place k m.head m.carried) (client_row (Client n) (c.clients n) c.clock place (Whole m))))
 sought_if Q M E c past n place m k true e h at to s = E.sought c past n place m k h at to s e
-sought_if Q M E c past n place m k false e h at to s = E.told c past n place m h at to
+sought_if Q M E c past n place m k false e h at to s = E.told c past n place m h at to (λ l z. subst (λ (x : Seek). is_sought (Client n) (c.clients n) x m.head m.carried ≡ false) (some_of k l (sym s ∙ z)) e)
 
 guest_by : (Q : Cell → List Entry → Type 0) (M : Cell → List Entry → Moved → Type 0) (E : EachMove Q M) (c : Cell) (past : List Entry) (n place : ℕ) (m : Message) (o : Option Seek) → Q c past → message_at c.sent place ≡ Some m → m.head.to ≡ Client n → (c.clients n).seeking ≡ o → M c past (client_moves c n (sought_or (Client n) (c.clients n) c.clock place m o))
-guest_by Q M E c past n place m None h at to s = E.told c past n place m h at to
+guest_by Q M E c past n place m None h at to s = E.told c past n place m h at to (λ k z. (let no_ : None ≡ Some k = sym s ∙ z in absurd cc))
 guest_by Q M E c past n place m (Some k) h at to s = sought_if Q M E c past n place m k (is_sought (Client n) (c.clients n) k m.head m.carried) refl h at to s
 
 to_by : (Q : Cell → List Entry → Type 0) (M : Cell → List Entry → Moved → Type 0) (E : EachMove Q M) (c : Cell) (past : List Entry) (place : ℕ) (luck : Luck) (m : Message) (to : Node) → IsSoundLoc c.loc.state → Q c past → message_at c.sent place ≡ Some m → m.head.to ≡ to → M c past (given_to c place luck m to)
@@ -209,7 +214,7 @@ sound_moves = record {
   void = λ c past h. h;
   ticked = λ c past n h. h;
   begun = λ c past n act h r z. h;
-  told = λ c past n place m h at to. h;
+  told = λ c past n place m h at to un. h;
   sought = λ c past n place m k h at to z e. h;
   missed = λ c past n k h r z. h;
   waited = λ c past n act h r. h;

@@ -98,7 +98,7 @@ notice_moves s = record {
   void = λ c past h j is. tt;
   ticked = λ c past n h j is. tt;
   begun = λ c past n act h r z0. client_told s c past n None (begin_row (Client n) (c.clients n) c.clock act) h (begun_alive (Client n) (c.clients n) c.clock act) (begins_tame any_told (OfEpoch (c.clients n).epoch) AnyBoot n (c.clients n) c.clock act (seated s c past n h));
-  told = λ c past n place m h at to. given_told s c past n place m h at;
+  told = λ c past n place m h at to un. given_told s c past n place m h at;
   sought = λ c past n place m k h at to z e. client_told s c past n (Some place) (sought_by (Client n) (c.clients n) c.clock place k m.head m.carried) h (quietly s c past n place m k (λ st. Alive st.lines) h.0.0.1 at z e (λ code. refl) refl refl)
       (sought_tame any_told (OfEpoch (c.clients n).epoch) AnyBoot n (c.clients n) c.clock place k m.head m.carried (λ b. tt) (seated s c past n h));
   missed = λ c past n k h r z. client_told s c past n None (seek_timeout_row (Client n) (c.clients n) k) h (missed_alive (Client n) (c.clients n) k) (missed_tame any_told (OfEpoch (c.clients n).epoch) AnyBoot n (c.clients n) k (seated s c past n h));

@@ -45,7 +45,7 @@ use Rattle.afs_law.proofs.Seated.{AreSeated}
 use Rattle.afs_law.specs.Grants.{IsDropped, has_fetched, is_promised}
 use Rattle.afs_law.specs.Breaks.{HasTimeout}
 use Rattle.afs_law.specs.Ideal.{call_in, call_under, set_up, user_of}
-use Rattle.afs_law.specs.Legal.{as_asked}
+use Rattle.afs_law.specs.Legal.{as_asked, IsOperandOf}
 use Rattle.afs_law.specs.Once.{past_of}
 use Rattle.afs_records.specs.Durable.{Stored}
 use Rattle.afs_law.specs.Parts.{ActsAreTold, CallsAreAsked, IsAsked}
@@ -333,6 +333,7 @@ pub record IsSeeking (s : Script) (j : ℕ) (x : ClientState) (k : Seek) (past :
   pub callee : x.callee ≡ Loc
   pub tried : (i : ℕ) → 1 ≤ i → i ≤ x.tries → HasTimeout (Client j) Loc x.epoch x.last i (lines_of past)
   pub gone : (left : Left) → k.left ≡ Some left → is_gone_code left.code ≡ true
+  pub its : (left : Left) → k.left ≡ Some left → IsOperandOf k.act k.operand
   pub needs : k.left ≡ None → next k.act ≡ locates k.operand
   pub asks : k.act.act ≡ acts.GiveUp → ⊥
   pub asked : AskedSince (last_key j x) (user_at s j) (question k.operand) past
@@ -392,7 +393,7 @@ idle_asked s handed loc clients sent more past e A over under idle none asks tel
   user = A.user;
   table = A.table;
   acts = λ j. (idle_leaves s j e.lines (lines_of past) idle).runs ∙ A.acts j;
-  seeks = λ j k z. let q : IsSeeking s j (clients j) k past = A.seeks j k z in record { idle = q.idle; callee = q.callee; tried = λ i a b. timeout_onto (Client j) Loc (clients j).epoch (clients j).last i e.lines (lines_of past) (q.tried i a b); gone = q.gone; needs = q.needs; asks = q.asks; asked = inr ((idle_leaves s j e.lines (lines_of past) idle).begins, q.asked) };
+  seeks = λ j k z. let q : IsSeeking s j (clients j) k past = A.seeks j k z in record { idle = q.idle; callee = q.callee; tried = λ i a b. timeout_onto (Client j) Loc (clients j).epoch (clients j).last i e.lines (lines_of past) (q.tried i a b); gone = q.gone; its = q.its; needs = q.needs; asks = q.asks; asked = inr ((idle_leaves s j e.lines (lines_of past) idle).begins, q.asked) };
   lists = A.lists;
   told = over (IsToldByLoc s) A.told tells;
   ones = over (IfCall (IsOne more)) (each_map _ _ (if_call (IsOne sent) (IsOne more) (λ h user call x. under (called_key h) (user, call) x)) sent A.ones) (each_map IsUncalled (IfCall (IsOne more)) (uncalled_any (IsOne more)) e.sent none);
@@ -537,6 +538,7 @@ step_seeks s c past n st A a k z = elim (a.seeks k z) [
     callee = o.callee ∙ q.callee;
     tried = seek_tried n (c.clients n) st past k o q.callee q.tried;
     gone = q.gone;
+    its = q.its;
     needs = q.needs;
     asks = q.asks;
     asked = inr (o.begins, subst (λ (y : Key). AskedSince y (user_at s n) (question k.operand) past) (sym (same_key_at n (c.clients n) st.state o.epoch o.last)) q.asked);
@@ -546,6 +548,7 @@ step_seeks s c past n st A a k z = elim (a.seeks k z) [
     callee = w.callee;
     tried = λ i a b. (let le : i ≤ 0 = subst (λ (m : ℕ). i ≤ m) w.tries b in absurd (omega arith));
     gone = w.gone;
+    its = w.its;
     needs = w.needs;
     asks = w.asks;
     asked = inl (refl, subst (QuestionIn (last_key n st.state) (user_at s n) (question k.operand)) (sym w.sent) (inl (refl, ap (λ (u : List ℕ). carried.Call u (ask.Location (question k.operand))) (a.user ∙ A.user n))));
@@ -566,7 +569,7 @@ client_asked s c past n st K A a =
       acts = λ j. at_put n j (λ (x : ClientState). running s (Client j) (lines_of (e ∷ past)) ≡ act_of x) st.state c.clients (λ same. subst (λ (i : ℕ). running s (Client i) (lines_of (e ∷ past)) ≡ act_of st.state) same runs) (λ other. (other_leaves s n j st.lines (lines_of past) a.of other).runs ∙ A.acts j);
       seeks = λ j. at_put n j (λ (x : ClientState). (k : Seek) → x.seeking ≡ Some k → IsSeeking s j x k (e ∷ past)) st.state c.clients
           (λ same. subst (λ (i : ℕ). (k : Seek) → st.state.seeking ≡ Some k → IsSeeking s i st.state k (e ∷ past)) same (step_seeks s c past n st A a))
-          (λ other k z. let q : IsSeeking s j (c.clients j) k past = A.seeks j k z in record { idle = q.idle; callee = q.callee; tried = λ i a b. timeout_onto (Client j) Loc (c.clients j).epoch (c.clients j).last i st.lines (lines_of past) (q.tried i a b); gone = q.gone; needs = q.needs; asks = q.asks; asked = inr ((other_leaves s n j st.lines (lines_of past) a.of other).begins, q.asked) });
+          (λ other k z. let q : IsSeeking s j (c.clients j) k past = A.seeks j k z in record { idle = q.idle; callee = q.callee; tried = λ i a b. timeout_onto (Client j) Loc (c.clients j).epoch (c.clients j).last i st.lines (lines_of past) (q.tried i a b); gone = q.gone; its = q.its; needs = q.needs; asks = q.asks; asked = inr ((other_leaves s n j st.lines (lines_of past) a.of other).begins, q.asked) });
       lists = A.lists;
       told = each_more (IsToldByLoc s) c.sent st.sent A.told (each_map (IsSentBy (Client n)) (IsToldByLoc s) (λ m f z. absurd (no_client_loc m.head n z f.from)) st.sent a.from);
       ones = each_more (IfCall (IsOne more)) c.sent st.sent (each_map _ _ (if_call (IsOne c.sent) (IsOne more) (λ h user call x. under_more (called_key h) c.sent st.sent (user, call) x)) c.sent A.ones) (each_map _ _ (if_call (IsTheCall n st.state) (IsOne more) (new_one n st more last)) st.sent calls);
@@ -698,6 +701,14 @@ placed_in s c past n k A z =
 pub is_from_loc : (me : Node) (c : ClientState) (k : Seek) (head : Head) (x : Carried) → is_sought me c k head x ≡ true → head.from ≡ Loc
 is_from_loc me c k head x e = same_node-true head.from Loc (both (same_node head.from Loc) _ (both (is_answer x && same_node head.to me) _ e).1).0
 
+pub sought_opcode : (me : Node) (c : ClientState) (k : Seek) (head : Head) (x : Carried) → is_sought me c k head x ≡ true → head.opcode ≡ cell_rows.call_number (ask.Location (question k.operand))
+sought_opcode me c k head x e =
+    let a = both (is_answer x && same_node head.to me) _ e in
+    let b = both (same_node head.from Loc) _ a.1 in
+    let d = both (nat_eq head.epoch c.epoch) _ b.1 in
+    let f = both (nat_eq head.number c.last) _ d.1 in
+    eqb-true head.opcode (cell_rows.call_number (ask.Location (question k.operand))) f.1
+
 lookup_number : (o : Operand) → IsLookupNumber (cell_rows.call_number (ask.Location (question o)))
 lookup_number (operands.Path p) = inr refl
 lookup_number (operands.Fid f) = inl refl
@@ -744,7 +755,7 @@ asked_moves s = record {
   void = λ c past h. still_asked s c past _ h.1 refl refl;
   ticked = λ c past n h. still_asked s c past _ h.1 refl refl;
   begun = λ c past n act h r z. client_asked s c past n _ h.0 h.1 (begins_acts n (c.clients n) c.clock act r z);
-  told = λ c past n place m h at to. client_asked s c past n _ h.0 h.1 (given_acts (by_key (IsKnown h.0.keys.callees c.clients)) any_told n (c.clients n) c.clock place m (h.0.keys.replies n) (h.1.seats n));
+  told = λ c past n place m h at to un. client_asked s c past n _ h.0 h.1 (given_acts (by_key (IsKnown h.0.keys.callees c.clients)) any_told n (c.clients n) c.clock place m (h.0.keys.replies n) (h.1.seats n));
   sought = λ c past n place m k h at to z e. client_asked s c past n _ h.0 h.1 (sought_acts_in s c past n place m k h.1 at z e);
   missed = λ c past n k h r z. client_asked s c past n _ h.0 h.1 (missed_acts n (c.clients n) k r z);
   loc = λ c past l ls ms h st. loc_asked s c past l ls ms h st;

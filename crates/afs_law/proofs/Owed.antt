@@ -954,7 +954,7 @@ break_moves s = record {
   void = λ c past B. record { backed = record { count = B.backed.count; fair = B.backed.fair; all = still_all s c past _ c.clock (λ i. record { up = refl; still = refl; oweless = refl; unchanging = refl }) (le_refl _) B.backed }; rules = (tt, tt); replies = tt };
   ticked = λ c past n B. record { backed = record { count = B.backed.count; fair = B.backed.fair; all = still_all s c past _ (c.clock + suc n) (λ i. record { up = refl; still = refl; oweless = refl; unchanging = refl }) (omega arith) B.backed }; rules = (tt, tt); replies = tt };
   begun = λ c past n act B r z. speaks_steps s c past n (begin_row (Client n) (c.clients n) c.clock act) B (begins_acts n (c.clients n) c.clock act r z) (begun_speaks (Client n) (c.clients n) c.clock act);
-  told = λ c past n place m B at to.
+  told = λ c past n place m B at to un.
       let a : Acts n (who_at (c.clients n)) (c.clients n).gifts (client_row (Client n) (c.clients n) c.clock place (Whole m)) = given_acts (by_key (IsKnown B.held.0.0.0.keys.callees c.clients)) any_told n (c.clients n) c.clock place m (B.held.0.0.0.keys.replies n) (B.held.0.0.1.seats n) in
       client_steps s c past n (client_row (Client n) (c.clients n) c.clock place (Whole m)) B a (λ i.
       let x : ServerHost = c.hosts i in

@@ -12,7 +12,7 @@ use Rattle.afs_law.proofs.Moving.{EachMove}
 use Rattle.afs_law.proofs.Numbered.{IsNumbered, Numbered}
 use Rattle.afs_law.proofs.Origins.{AskedIn, IsSeeking, IsUpToLast, KnownAsked, handed_same, if_seek, of_client, sought_acts_in}
 use Rattle.afs_law.proofs.Truthful.{Truthful}
-use Rattle.afs_law.specs.Legal.{IsInOrder, OwnQuestion, OwnQuestionOf}
+use Rattle.afs_law.specs.Legal.{IsInOrder, KnowsLocBoot, OwnQuestion, OwnQuestionOf}
 use Rattle.afs_law.specs.Lives.{epoch_after}
 use Rattle.afs_law.specs.Past as questions
 use Rattle.afs_law.specs.Past.{AskedSince, called_key, lines_of, sent_of}
@@ -28,7 +28,7 @@ use Rattle.afs_num.specs.declared.types.Key.{Key}
 use Rattle.afs_num.specs.declared.types.Node.{Node}
 use Rattle.afs_num.specs.declared.types.Node.TheVariants.{Admin, Client, Loc, Server}
 use Rattle.afs_rows.specs.Callbacks.{put}
-use Rattle.afs_rows.specs.ClientRow.{act_of, question}
+use Rattle.afs_rows.specs.ClientRow.{act_of, boot_of, question}
 use Rattle.afs_rows.specs.Going.{ClientState, Left, Seek}
 use Rattle.afs_rows.specs.Runs.{Cell, Entry, Moved, user_at}
 use Rattle.afs_rows.specs.Steps.{Step}
@@ -60,7 +60,7 @@ seeks_moves s = record {
   void = λ c past h j e. absurd cc;
   ticked = λ c past n h j e. absurd cc;
   begun = λ c past n act h r z. client_seeks c n _ (begins_acts n (c.clients n) c.clock act r z);
-  told = λ c past n place m h at to. client_seeks c n _ (given_acts (by_key (IsKnown h.0.keys.callees c.clients)) any_told n (c.clients n) c.clock place m (h.0.keys.replies n) (h.1.seats n));
+  told = λ c past n place m h at to un. client_seeks c n _ (given_acts (by_key (IsKnown h.0.keys.callees c.clients)) any_told n (c.clients n) c.clock place m (h.0.keys.replies n) (h.1.seats n));
   sought = λ c past n place m k h at to z e. client_seeks c n _ (sought_acts_in s c past n place m k h.1 at z e);
   missed = λ c past n k h r z. client_seeks c n _ (missed_acts n (c.clients n) k r z);
   loc = λ c past l ls ms h st j e. absurd cc;
@@ -89,6 +89,7 @@ pub record AroundNow (s : Script) (c : Cell) (past : List Entry) : Type 0 where
   pub due : DueFacts s c past
   pub numbers : (j : ℕ) → IsNumbered j (c.clients j) (sent_of past)
   pub epochs : (j : ℕ) → epoch_after (Client j) (lines_of past) ≡ (c.clients j).epoch
+  pub boots : (j : ℕ) → KnowsLocBoot s (Client j) (boot_of Loc (c.clients j).boots) past
 
 in_order : (j : ℕ) (x : ClientState) (k : Seek) (sent : List Message) → x.seeking ≡ Some k → IsNumbered j x sent → IsInOrder (last_key j x) sent
 in_order j x k sent z (inl e) = (let no : None ≡ Some k = sym e.1.1 ∙ z in absurd cc)
@@ -108,13 +109,14 @@ own_question s c past j head user call F i turn =
       runs = A.acts j ∙ seeks_act x i.its q.idle i.seeks;
       operand = i.its.operand;
       asks = i.asks;
-      why = may_ask s c past [] j i.its.act i.its.operand F.truthful (asked_why s j i.its past i.its.left refl q.needs (λ left. F.due.1.1.1 j i.its left i.seeks));
+      why = may_ask s c past [] j i.its.act i.its.operand F.truthful (asked_why s j i.its past i.its.left refl q.needs (λ left. F.due.1.1.1 j i.its left i.seeks) q.its);
       to = i.to;
       opcode = i.opcode;
       epoch = ap (λ (k : Key). k.epoch) i.key ∙ sym (F.epochs j);
       order = subst (λ (k : Key). IsInOrder k (sent_of past)) (sym i.key) (in_order j x i.its (sent_of past) i.seeks (F.numbers j));
       last = its_last callees c.clients j (called_key head) (sent_of past) i.key (subst (Each (IfCall (KnownBy callees c.clients))) (sym told) F.asked.0.keys.calls) (subst (Each (IfSeek (IsUpToLast c.clients))) (sym told) A.upto);
       turn = turn;
+      known = subst (λ (b : ℕ). KnowsLocBoot s (Client j) b past) (sym i.boot) (F.boots j);
     }
 
 -- ---- of whomever it is

@@ -599,7 +599,7 @@ gone_not code g = gone_by code.0 (is_zero_code code) refl g
 sought_none : (k : Seek) (x : Carried) (code : Code) → ((left : Left) → k.left ≡ Some left → is_gone_code left.code ≡ true) → IsEnd k x code → is_zero_code code ≡ false
 sought_none k x code gone (inl a) = ap (λ (z : ℤ). is_number z 0) a.1.1
 sought_none k x code gone (inr (inl a)) = ap (λ (z : ℤ). is_number z 0) a.1.1.1
-sought_none k x code gone (inr (inr a)) = ap is_zero_code a.1.1 ∙ gone_not a.0.code (gone a.0 a.1.0)
+sought_none k x code gone (inr (inr a)) = ap is_zero_code a.1.1.0 ∙ gone_not a.0.code (gone a.0 a.1.0)
 
 pub sought_result : (s : Script) (c : Cell) (past : List Entry) (n place : ℕ) (m : Message) (k : Seek) → Env s c past n → AskedIn s c past → message_at c.sent place ≡ Some m → (c.clients n).seeking ≡ Some k → is_sought (Client n) (c.clients n) k m.head m.carried ≡ true → Result s n (c.clients n) c.clock past (sought_by (Client n) (c.clients n) c.clock place k m.head m.carried)
 sought_result s c past n place m k E A at z e =

@@ -147,7 +147,7 @@ awaited s c past n act count next h r server none dead =
       last = λ place m at is from.
           let there : message_at c.sent place ≡ Some m = ap (λ (ms : List Message). message_at ms place) (sym known.hears.told) ∙ at in
           up_to_last known.keys.callees c.clients n m.head m.carried is from (each_at (IfCall (KnownBy known.keys.callees c.clients)) c.sent place m there known.keys.calls) (each_at (IfSeek (IsUpToLast c.clients)) c.sent place m there asked.upto);
-      unanswered = h.1 n act r server;
+      unanswered = (h.1 n).calls act r server;
       once = none;
       dead = dead;
     }
@@ -203,6 +203,7 @@ asked_question s c past n k count next h z none dead =
       runs = asked.acts n ∙ seeking_act s c past n k h z;
       asked = q.asked;
       last = its_last known.keys.callees c.clients n (last_key n (c.clients n)) (sent_of past) refl (subst (Each (IfCall (KnownBy known.keys.callees c.clients))) (sym known.hears.told) known.keys.calls) (subst (Each (IfSeek (IsUpToLast c.clients))) (sym known.hears.told) asked.upto);
+      unanswered = (h.1 n).questions k z;
       once = none;
       dead = dead;
     }
@@ -295,7 +296,7 @@ timely_moves s = record {
   void = λ c past h. (tt, tt);
   ticked = λ c past n h. (tt, tt);
   begun = λ c past n act h r z. begun_timely s (Client n) past [] _ ((begins_acts n (c.clients n) c.clock act r z).each s past (h.1.0.0.0.0.0.1.table n) (h.1.0.0.0.0.0.1.acts n)) (inr (row_begun (c.clients n) n c.clock act));
-  told = λ c past n place m h at to. given_timely s (actors.Node (Client n)) past [] _
+  told = λ c past n place m h at to un. given_timely s (actors.Node (Client n)) past [] _
       ((given_acts (by_key (IsKnown h.1.0.0.0.0.0.0.keys.callees c.clients)) any_told n (c.clients n) c.clock place m (h.1.0.0.0.0.0.0.keys.replies n) (h.1.0.0.0.0.0.1.seats n)).each s past (h.1.0.0.0.0.0.1.table n) (h.1.0.0.0.0.0.1.acts n))
       (inr (given_has (client_row (Client n) (c.clients n) c.clock place (Whole m)).lines c.sent m ((client_given c past n place m h.1.0.0.0.0.0.0.hears to at).given c.sent ∙ at)));
   sought = λ c past n place m k h at to z e. by_quiet (λ st. Timely s (actors.Node (Client n)) past [] st.lines) n (c.clients n) place k m.head m.carried (sought_by (Client n) (c.clients n) c.clock place k m.head m.carried)

@@ -263,7 +263,7 @@ timed_moves s = record {
   void = λ c past h. idle_timed s c past (voided c).entry h.1 refl;
   ticked = λ c past n h. idle_timed s c past (ticked c (suc n)).entry h.1 refl;
   begun = λ c past n act h r z. (let a = begins_acts n (c.clients n) c.clock act r z in client_timed s c past n _ h.1 a (none_times n (c.clients n) _ (begun_times s c past n act h.0 a)));
-  told = λ c past n place m h at to. (let a = given_acts (by_key (IsKnown h.0.0.0.0.0.0.0.keys.callees c.clients)) any_told n (c.clients n) c.clock place m (h.0.0.0.0.0.0.0.keys.replies n) (h.0.0.0.0.0.0.1.seats n) in client_timed s c past n _ h.1 a (none_times n (c.clients n) _ (told_times s c past n place m h.0 at to a)));
+  told = λ c past n place m h at to un. (let a = given_acts (by_key (IsKnown h.0.0.0.0.0.0.0.keys.callees c.clients)) any_told n (c.clients n) c.clock place m (h.0.0.0.0.0.0.0.keys.replies n) (h.0.0.0.0.0.0.1.seats n) in client_timed s c past n _ h.1 a (none_times n (c.clients n) _ (told_times s c past n place m h.0 at to a)));
   sought = λ c past n place m k h at to z e. client_timed s c past n _ h.1 (sought_acts_in s c past n place m k h.0.0.0.0.0.0.1 at z e) (none_times n (c.clients n) _ (sought_times s c past n place m k h.0.0.0.0.0.0.1 at z e));
   missed = λ c past n k h r z. client_timed s c past n _ h.1 (missed_acts n (c.clients n) k r z) (missed_times n (c.clients n) k r (h.0.0.0.0.0.0.1.seeks n k z).callee);
   loc = λ c past l ls ms h st. idle_timed s c past (loc_becomes c l ls ms).entry h.1 (loc_idle ls st.lines);

@@ -5,24 +5,27 @@ use Rattle.afs_history.specs.declared.lines.Line.{Line}
 use Rattle.afs_history.specs.declared.lines.Line.TheVariants as lines
 use Rattle.afs_history.specs.declared.scripts.Script.{Script}
 use Rattle.afs_ideal.specs.Operations.{volume_changed}
-use Rattle.afs_law.proofs.Acting.{Acts, begins_acts, falls_acts, given_acts, last_key, rises_acts, waits_acts, who_at, missed_acts}
+use Rattle.afs_law.proofs.Acting.{Acts, begins_acts, falls_acts, given_acts, last_key, rises_acts, waits_acts, who_at, missed_acts, IsPlaced, quiet_over, sought_quiet}
 use Rattle.afs_law.proofs.Basics.{Each, IfReply, OfClient, OfReply, UpTo, at_put, by_client, client_number, each_at, same_node-refl, some_of}
 use Rattle.afs_law.proofs.Counting.{CountedFacts, counted_first, counted_kept}
-use Rattle.afs_law.proofs.Delivered.{DeliveredStep, begun_ungiven, delivered_moves, waited_ungiven}
+use Rattle.afs_law.proofs.Delivered.{DeliveredStep, begun_ungiven, delivered_moves, missed_ungiven, sought_given, waited_ungiven}
 use Rattle.afs_law.proofs.Firm.{IsFirm}
 use Rattle.afs_law.proofs.Following.{Follows, begins_follow, falls_follow, given_follow, more_not, none_runs, rises_follow, waits_follow, sought_follow, missed_follow}
 use Rattle.afs_law.proofs.Hearing.{client_given}
 use Rattle.afs_law.proofs.KeysOnce.{IsKnown, any_told, by_key}
 use Rattle.afs_law.proofs.Knowing.{Known}
-use Rattle.afs_law.proofs.Moving.{EachMove, IsKept, each_moved}
-use Rattle.afs_law.proofs.Origins.{of_client, same_key_at, handed_same, placed_in, sought_acts_in, told_in, AskedIn}
+use Rattle.afs_law.proofs.Moving.{EachMove, IsKept, IsUnsought, each_moved}
+use Rattle.afs_law.proofs.Origins.{of_client, same_key_at, handed_same, placed_in, sought_acts_in, told_in, AskedIn, IsBehindLast}
 use Rattle.afs_law.proofs.Queued.{IsIn, each_in, in_at, in_front}
 use Rattle.afs_law.proofs.Timing.{given_has, not_next}
 use Rattle.afs_law.specs.Ideal.{set_up}
-use Rattle.afs_law.specs.Legal.{IsFileReply, IsReplyTo, IsUnanswered}
+use Rattle.afs_law.specs.Legal.{IsFileReply, IsLocReply, IsReplyTo, IsUnanswered, IsUntoldOf}
+use Rattle.afs_law.specs.LocLaws.{IsToldIn}
 use Rattle.afs_law.specs.Lives.{IsDelivered, IsTo}
-use Rattle.afs_law.specs.Past.{answered_key, given_message, has_given, sent_of}
+use Rattle.afs_law.specs.Past.{HasCode, answered_key, given_message, has_given, sent_of}
+use Rattle.afs_model.specs.CellRows as cell_rows
 use Rattle.afs_model.specs.FsRows.{call_number}
+use Rattle.afs_num.specs.declared.messages.Call.TheVariants as ask
 use Rattle.afs_num.specs.Nodes.{same_node}
 use Rattle.afs_num.specs.declared.calls.AfsCallBack.{AfsCallBack}
 use Rattle.afs_num.specs.declared.calls.AfsFetchStatus.{AfsFetchStatus}
@@ -46,10 +49,10 @@ use Rattle.afs_num.specs.declared.types.Fid.{Fid}
 use Rattle.afs_num.specs.declared.types.Head.{Head}
 use Rattle.afs_num.specs.declared.types.Key.{Key}
 use Rattle.afs_num.specs.declared.types.Node.{Node}
-use Rattle.afs_num.specs.declared.types.Node.TheVariants.{Client, Server}
+use Rattle.afs_num.specs.declared.types.Node.TheVariants.{Client, Loc, Server}
 use Rattle.afs_rows.specs.Callbacks.{put}
-use Rattle.afs_rows.specs.ClientRow.{Walked, awaits, begin_row, behind_batch, body_told, call_by, call_of, client_row, counts, dropped, entries_told, entry_told, find_cached, given, gives_by, goes_by, hears, ignores, is_awaited, is_below, is_busy_code, is_older, is_spent, is_trusted, look_at, looked, most_busy, most_reads, opcode_of, put_entries, put_entry, read_lines, reborn, refuses, status_look, status_told, takes, takes_bulk, takes_data, takes_entries, takes_entry, takes_given, takes_list, takes_set, takes_shown, takes_status, timeout_row, walked, walks_on, with_statuses, volume_asked, asks_where, is_gone_code, most_moved}
-use Rattle.afs_rows.specs.Going.{ClientState, Going, Need, answers, next, with_read, operand_in}
+use Rattle.afs_rows.specs.ClientRow.{Walked, awaits, begin_row, behind_batch, body_told, call_by, call_of, client_row, counts, dropped, entries_told, entry_told, find_cached, given, gives_by, goes_by, hears, ignores, is_awaited, is_below, is_busy_code, is_older, is_spent, is_trusted, look_at, looked, most_busy, most_reads, opcode_of, put_entries, put_entry, read_lines, reborn, refuses, status_look, status_told, takes, takes_bulk, takes_data, takes_entries, takes_entry, takes_given, takes_list, takes_set, takes_shown, takes_status, timeout_row, walked, walks_on, with_statuses, volume_asked, asks_where, is_gone_code, most_moved, is_answer, is_sought, question, seek_timeout_row, sought_by}
+use Rattle.afs_rows.specs.Going.{ClientState, Going, Need, Seek, answers, next, with_read, operand_in}
 use Rattle.afs_law.proofs.Steps.{blow_line, server_falls, server_moves, server_rises, server_set, server_stays, loc_becomes}
 use Rattle.afs_rows.specs.Runs.{Cell, Entry, Moved, at_rest, begun_by_disk, in_boot, in_step, message_at, moved, start, ticked, voided}
 use Rattle.afs_rows.specs.ServerSteps.{back_timeout_row, server_row, wake_row}
@@ -173,10 +176,19 @@ given_not [] sent callee k opcode e x = x
 given_not (lines.Given p ∷ ls) sent callee k opcode e x = absurd cc
 given_not (l ∷ ls) sent callee k opcode e x = given_not ls sent callee k opcode e x
 
+given_untold : (ls : List Line) (sent : List Message) (k : Key) (opcode : ℕ) → has_given ls ≡ false → IsLocReply k opcode (given_message ls sent) → ⊥
+given_untold [] sent k opcode e x = x
+given_untold (lines.Given p ∷ ls) sent k opcode e x = absurd cc
+given_untold (l ∷ ls) sent k opcode e x = given_untold ls sent k opcode e x
+
 -- a reply to one of the client's calls is to the client
 not_to : (j e n : ℕ) (callee : Node) (opcode : ℕ) (o : Option Message) → ((m : Message) → o ≡ Some m → m.head.to ≡ Client j → ⊥) → IsReplyTo callee (record { node = Client j; epoch = e; number = n }) opcode o → ⊥
 not_to j e n callee opcode None w x = x
 not_to j e n callee opcode (Some m) w x = w m refl (ap (λ (k : Key). k.node) x.1.0)
+
+untold_to : (j e n opcode : ℕ) (o : Option Message) → ((m : Message) → o ≡ Some m → m.head.to ≡ Client j → ⊥) → IsLocReply (record { node = Client j; epoch = e; number = n }) opcode o → ⊥
+untold_to j e n opcode None w x = x
+untold_to j e n opcode (Some m) w x = w m refl (ap (λ (k : Key). k.node) x.1.0)
 
 -- an entry of another node is given nothing that is to the client
 abbrev pub IsApart : ℕ → Entry → List Entry → Type 0
@@ -218,10 +230,57 @@ none_above j e n callee opcode x [] server h = (not_above j e n callee opcode []
 none_above j e n callee opcode x (y ∷ past) server h =
     (not_above j e n callee opcode (sent_of (y ∷ past)) (given_message x.lines (sent_of (y ∷ past))) server h (given_in x.lines (sent_of (y ∷ past))), none_above j e n callee opcode y past server (λ m i. h m (in_front m (sent_of past) y.sent i)))
 
+-- ---- what the location database tells
+
+-- the opcode of what the act asked it
+abbrev pub asked_number : Seek → ℕ
+asked_number k = cell_rows.call_number (ask.Location (question k.operand))
+
+is_answering : (x : Carried) → HasCode x → is_answer x ≡ true
+is_answering (carried.Refusal code) has = refl
+is_answering (carried.Reply reply) has = refl
+is_answering (carried.Call user call) has = absurd has
+is_answering carried.Notice has = absurd has
+
+pub its_answer : (n : ℕ) (c : ClientState) (k : Seek) (m : Message) → is_answer m.carried ≡ true → m.head.from ≡ Loc → answered_key m.head ≡ last_key n c → m.head.opcode ≡ asked_number k → is_sought (Client n) c k m.head m.carried ≡ true
+its_answer n c k m is from key opcode =
+    let to : m.head.to ≡ Client n = ap (λ (q : Key). q.node) key in
+    let its : ((is_answer m.carried && same_node m.head.to (Client n)) && (same_node m.head.from Loc && (nat_eq m.head.epoch c.epoch && (nat_eq m.head.number c.last && nat_eq m.head.opcode (asked_number k))))) ≡ true =
+    rw (
+      is,
+      ap (λ (q : Node). same_node q (Client n)) to ∙ same_node-refl (Client n),
+      ap (λ (q : Node). same_node q Loc) from,
+      eq-eqb m.head.epoch c.epoch (ap (λ (q : Key). q.epoch) key),
+      eq-eqb m.head.number c.last (ap (λ (q : Key). q.number) key),
+      eq-eqb m.head.opcode (asked_number k) opcode,
+    ) refl in its
+
+its_sought : (n : ℕ) (c : ClientState) (k : Seek) (m : Message) → IsLocReply (last_key n c) (asked_number k) (Some m) → is_sought (Client n) c k m.head m.carried ≡ true
+its_sought n c k m x = its_answer n c k m (is_answering m.carried x.0.0) x.0.1 x.1.0 x.1.1
+
+-- it tells nothing above the client's last call
+abbrev pub AreTold : ℕ → ℕ → ℕ → List Message → Type 0
+AreTold j epoch last ms = (m : Message) → IsIn m ms → m.head.from ≡ Loc → m.head.to ≡ Client j → UpTo m.head.epoch m.head.number epoch last
+
+told_behind : (s : Script) (c : Cell) (past : List Entry) (j : ℕ) → Known c past → AskedIn s c past → AreTold j (c.clients j).epoch (c.clients j).last (sent_of past)
+told_behind s c past j K A m i from to = each_in (IsBehindLast c.clients) c.sent m A.behind (subst (IsIn m) K.hears.told i) from j to
+
+untold_next : (j e n opcode : ℕ) (ms : List Message) (o : Option Message) → AreTold j e n ms → ((m : Message) → o ≡ Some m → IsIn m ms) → IsLocReply (record { node = Client j; epoch = e; number = n + 1 }) opcode o → ⊥
+untold_next j e n opcode ms None h w x = x
+untold_next j e n opcode ms (Some m) h w x =
+    let up : UpTo m.head.epoch m.head.number e n = h m (w m refl) x.0.1 (ap (λ (k : Key). k.node) x.1.0) in
+    not_next e n (subst (λ (a : ℕ). UpTo a (n + 1) e n) (ap (λ (k : Key). k.epoch) x.1.0) (subst (λ (b : ℕ). UpTo m.head.epoch b e n) (ap (λ (k : Key). k.number) x.1.0) up))
+
+none_told : (j e n opcode : ℕ) (x : Entry) (past : List Entry) → AreTold j e n (sent_of past) → IsUntoldOf (record { node = Client j; epoch = e; number = n + 1 }) opcode (x ∷ past)
+none_told j e n opcode x [] h = (untold_next j e n opcode [] (given_message x.lines []) h (given_in x.lines []), tt)
+none_told j e n opcode x (y ∷ past) h =
+    (untold_next j e n opcode (sent_of (y ∷ past)) (given_message x.lines (sent_of (y ∷ past))) h (given_in x.lines (sent_of (y ∷ past))), none_told j e n opcode y past (λ m i. h m (in_front m (sent_of past) y.sent i)))
+
 -- ---- what holds after every entry
 
-abbrev pub Unanswered : ℕ → ClientState → List Entry → Type 0
-Unanswered j x past = (act : Going) → x.running ≡ Some act → IsServer x.callee → IsUnanswered x.callee (last_key j x) (opcode_of x act) past
+pub record Unanswered (j : ℕ) (x : ClientState) (past : List Entry) : Type 0 where
+  pub calls : (act : Going) → x.running ≡ Some act → IsServer x.callee → IsUnanswered x.callee (last_key j x) (opcode_of x act) past
+  pub questions : (k : Seek) → x.seeking ≡ Some k → IsUntoldOf (last_key j x) (asked_number k) past
 
 abbrev pub UnansweredIn : Cell → List Entry → Type 0
 UnansweredIn c past = (j : ℕ) → Unanswered j (c.clients j) past
@@ -235,38 +294,70 @@ unanswered_same n x y act past q e l g h =
     (subst (λ (k : Key). IsUnanswered x.callee k (opcode_of y act) past) (sym (same_key_at n x y e l))
     (subst (λ (gs : List Gift). IsUnanswered x.callee (last_key n x) (call_number (call_by gs (next act))) past) (sym g) h))
 
--- a step in which the client goes on waiting was given no reply to its call
-abbrev GoesOn : ℕ → ClientState → Step ClientState → List Entry → Type 0
-GoesOn n c st past = (act : Going) → c.running ≡ Some act → st.state.running ≡ Some act → st.state.last ≡ c.last → IsReplyTo c.callee (last_key n c) (opcode_of c act) (given_message st.lines (sent_of past)) → ⊥
+-- a step in which the client goes on waiting was given no reply to its call, nor to what it asked the location database
+record GoesOn (n : ℕ) (c : ClientState) (st : Step ClientState) (past : List Entry) : Type 0 where
+  calls : (act : Going) → c.running ≡ Some act → st.state.running ≡ Some act → st.state.last ≡ c.last → IsReplyTo c.callee (last_key n c) (opcode_of c act) (given_message st.lines (sent_of past)) → ⊥
+  questions : (k : Seek) → c.seeking ≡ Some k → st.state.seeking ≡ Some k → IsLocReply (last_key n c) (asked_number k) (given_message st.lines (sent_of past)) → ⊥
 
 ungiven_on : (n : ℕ) (c : ClientState) (st : Step ClientState) (past : List Entry) → has_given st.lines ≡ false → GoesOn n c st past
-ungiven_on n c st past none act r run l x = given_not st.lines (sent_of past) c.callee (last_key n c) (opcode_of c act) none x
+ungiven_on n c st past none = record {
+  calls = λ act r run l x. given_not st.lines (sent_of past) c.callee (last_key n c) (opcode_of c act) none x;
+  questions = λ k z more x. given_untold st.lines (sent_of past) (last_key n c) (asked_number k) none x;
+}
 
-told_on : (n : ℕ) (c : ClientState) (clock place : ℕ) (m : Message) (past : List Entry) → m.head.to ≡ Client n → given_message (client_row (Client n) c clock place (Whole m)).lines (sent_of past) ≡ Some m → GoesOn n c (client_row (Client n) c clock place (Whole m)) past
-told_on n c clock place m past to is act r run l x =
-    let st : Step ClientState = client_row (Client n) c clock place (Whole m) in
-    let y : IsReplyTo c.callee (last_key n c) (opcode_of c act) (Some m) = subst (IsReplyTo c.callee (last_key n c) (opcode_of c act)) is x in
-    let its : is_awaited c act m.head ≡ true = is_its c act m.head y.0.1 (ap (λ (k : Key). k.epoch) y.1.0) (ap (λ (k : Key). k.number) y.1.0) y.1.1 in
-    elim (reply_over n c clock place act m y.0.0 to r its) [ inl none ↦ none_runs st.state.running act none run | inr more ↦ more_not st.state.last c.last more l ]
+told_on : (n : ℕ) (c : ClientState) (clock place : ℕ) (m : Message) (past : List Entry) → m.head.to ≡ Client n → IsUnsought n c m → given_message (client_row (Client n) c clock place (Whole m)).lines (sent_of past) ≡ Some m → GoesOn n c (client_row (Client n) c clock place (Whole m)) past
+told_on n c clock place m past to un is = record {
+  calls = λ act r run l x.
+      let st : Step ClientState = client_row (Client n) c clock place (Whole m) in
+      let y : IsReplyTo c.callee (last_key n c) (opcode_of c act) (Some m) = subst (IsReplyTo c.callee (last_key n c) (opcode_of c act)) is x in
+      let its : is_awaited c act m.head ≡ true = is_its c act m.head y.0.1 (ap (λ (k : Key). k.epoch) y.1.0) (ap (λ (k : Key). k.number) y.1.0) y.1.1 in
+      elim (reply_over n c clock place act m y.0.0 to r its) [ inl none ↦ none_runs st.state.running act none run | inr more ↦ more_not st.state.last c.last more l ];
+  questions = λ k z more x. (let no_ : true ≡ false = sym (its_sought n c k m (subst (IsLocReply (last_key n c) (asked_number k)) is x)) ∙ un k z in absurd cc);
+}
 
-step_unanswered : (n : ℕ) (c : ClientState) (st : Step ClientState) (past : List Entry) → Unanswered n c past → AreBehind n c.epoch c.last (sent_of past) → Acts n (who_at c) c.gifts st → Follows n c st → GoesOn n c st past → Unanswered n st.state (of_client n st ∷ past)
-step_unanswered n c st past h behind a f on act run server = elim a.goes [
-  | inl r ↦ elim r.act [
-    | inl none ↦ absurd (none_runs st.state.running act none run)
-    | inr same ↦
-        let runs : c.running ≡ Some act = sym same.0 ∙ run in
-        unanswered_same n c st.state act (of_client n st ∷ past) (f.stays act run r.last).callee r.epoch r.last same.1.0 (on act runs run r.last, h act runs (subst IsServer (f.stays act run r.last).callee server))
-  ]
-  | inr y ↦ elim y [
-    | inl z ↦ subst (λ (e : ℕ). IsUnanswered st.state.callee (record { node = Client n; epoch = e; number = st.state.last }) (opcode_of st.state act) (of_client n st ∷ past)) (sym z.epoch)
-        (subst (λ (k : ℕ). IsUnanswered st.state.callee (record { node = Client n; epoch = c.epoch; number = k }) (opcode_of st.state act) (of_client n st ∷ past)) (sym z.last)
-        (none_above n c.epoch c.last st.state.callee (opcode_of st.state act) (of_client n st) past server behind))
-    | inr z ↦ absurd (none_runs st.state.running act z.act run)
-  ]
-]
+-- what it asked the database is over once that tells a code
+sought_on : (s : Script) (n : ℕ) (c : ClientState) (clock place : ℕ) (k : Seek) (m : Message) (past : List Entry) → IsPlaced s c k → IsToldIn s m.carried → given_message (sought_by (Client n) c clock place k m.head m.carried).lines (sent_of past) ≡ Some m → GoesOn n c (sought_by (Client n) c clock place k m.head m.carried) past
+sought_on s n c clock place k m past p w is = record {
+  calls = λ act run. absurd (none_runs c.running act p.idle run);
+  questions = λ l z more x.
+      let st : Step ClientState = sought_by (Client n) c clock place k m.head m.carried in
+      let y : IsLocReply (last_key n c) (asked_number l) (Some m) = subst (IsLocReply (last_key n c) (asked_number l)) is x in
+      let no_ : None ≡ Some l = sym (quiet_over n c place k m.head m.carried st y.0.0 (sought_quiet s n c clock place k m.head m.carried p w)) ∙ more in
+      absurd cc;
+}
+
+untold_same : (n : ℕ) (x y : ClientState) (k : Seek) (past : List Entry) → y.epoch ≡ x.epoch → y.last ≡ x.last → IsUntoldOf (last_key n x) (asked_number k) past → IsUntoldOf (last_key n y) (asked_number k) past
+untold_same n x y k past e l h = subst (λ (q : Key). IsUntoldOf q (asked_number k) past) (sym (same_key_at n x y e l)) h
+
+step_unanswered : (n : ℕ) (c : ClientState) (st : Step ClientState) (past : List Entry) → Unanswered n c past → AreBehind n c.epoch c.last (sent_of past) → AreTold n c.epoch c.last (sent_of past) → Acts n (who_at c) c.gifts st → Follows n c st → GoesOn n c st past → Unanswered n st.state (of_client n st ∷ past)
+step_unanswered n c st past h behind told a f on = record {
+  calls = λ act run server. elim a.goes [
+    | inl r ↦ elim r.act [
+      | inl none ↦ absurd (none_runs st.state.running act none run)
+      | inr same ↦
+          let runs : c.running ≡ Some act = sym same.0 ∙ run in
+          unanswered_same n c st.state act (of_client n st ∷ past) (f.stays act run r.last).callee r.epoch r.last same.1.0 (on.calls act runs run r.last, h.calls act runs (subst IsServer (f.stays act run r.last).callee server))
+    ]
+    | inr y ↦ elim y [
+      | inl z ↦ subst (λ (e : ℕ). IsUnanswered st.state.callee (record { node = Client n; epoch = e; number = st.state.last }) (opcode_of st.state act) (of_client n st ∷ past)) (sym z.epoch)
+          (subst (λ (k : ℕ). IsUnanswered st.state.callee (record { node = Client n; epoch = c.epoch; number = k }) (opcode_of st.state act) (of_client n st ∷ past)) (sym z.last)
+          (none_above n c.epoch c.last st.state.callee (opcode_of st.state act) (of_client n st) past server behind))
+      | inr z ↦ absurd (none_runs st.state.running act z.act run)
+    ]
+  ];
+  questions = λ k z. elim (a.seeks k z) [
+    | inl o ↦ untold_same n c st.state k (of_client n st ∷ past) o.epoch o.last (on.questions k o.before z, h.questions k o.before)
+    | inr w ↦ subst (λ (e : ℕ). IsUntoldOf (record { node = Client n; epoch = e; number = st.state.last }) (asked_number k) (of_client n st ∷ past)) (sym w.above.0)
+        (subst (λ (i : ℕ). IsUntoldOf (record { node = Client n; epoch = c.epoch; number = i }) (asked_number k) (of_client n st ∷ past)) (sym w.above.1)
+        (none_told n c.epoch c.last (asked_number k) (of_client n st) past told))
+  ];
+}
 
 other_unanswered : (j : ℕ) (x : ClientState) (e : Entry) (past : List Entry) → Unanswered j x past → IsApart j e past → Unanswered j x (e ∷ past)
-other_unanswered j x e past h away act run server = (not_to j x.epoch x.last x.callee (opcode_of x act) (given_message e.lines (sent_of past)) away, h act run server)
+other_unanswered j x e past h away = record {
+  calls = λ act run server. (not_to j x.epoch x.last x.callee (opcode_of x act) (given_message e.lines (sent_of past)) away, h.calls act run server);
+  questions = λ k z. (untold_to j x.epoch x.last (asked_number k) (given_message e.lines (sent_of past)) away, h.questions k z);
+}
 
 -- ---- every step
 
@@ -286,7 +377,7 @@ one_client n j e = client_number n j (one_node (Client n) (Client j) e)
 client_unanswered : (s : Script) (c : Cell) (past : List Entry) (n : ℕ) (st : Step ClientState) → UnansweredFacts s c past → Acts n (who_at (c.clients n)) (c.clients n).gifts st → Follows n (c.clients n) st → GoesOn n (c.clients n) st past → IsDelivered (actors.Node (Client n)) past st.lines → (j : ℕ) → Unanswered j (put n st.state c.clients j) (of_client n st ∷ past)
 client_unanswered s c past n st h a f on d j =
     at_put n j (λ (x : ClientState). Unanswered j x (of_client n st ∷ past)) st.state c.clients
-    (λ same. subst (λ (i : ℕ). Unanswered i st.state (of_client n st ∷ past)) same (step_unanswered n (c.clients n) st past (h.1 n) (known_behind c past n (known_of s c past h)) a f on))
+    (λ same. subst (λ (i : ℕ). Unanswered i st.state (of_client n st ∷ past)) same (step_unanswered n (c.clients n) st past (h.1 n) (known_behind c past n (known_of s c past h)) (told_behind s c past n (known_of s c past h) h.0.0.0.0.0.0.0.0.1) a f on))
     (λ other. other_unanswered j (c.clients j) (of_client n st) past (h.1 j) (apart j (of_client n st) past d (λ e. other (one_client n j e))))
 
 idle_unanswered : (c : Cell) (past : List Entry) (e : Entry) → UnansweredIn c past → ((j : ℕ) → e.actor ≡ actors.Node (Client j) → ⊥) → IsDelivered e.actor past e.lines → (j : ℕ) → Unanswered j (c.clients j) (e ∷ past)
@@ -306,13 +397,13 @@ unanswered_moves s = record {
   void = λ c past h. idle_unanswered c past (voided c).entry h.1 nobody;
   ticked = λ c past n h. idle_unanswered c past (ticked c (suc n)).entry h.1 of_clock;
   begun = λ c past n act h r z0. client_unanswered s c past n _ h (begins_acts n (c.clients n) c.clock act r z0) (begins_follow n (c.clients n) c.clock act (h.0.0.0.0.0.1 n).0 r) (ungiven_on n (c.clients n) (begin_row (Client n) (c.clients n) c.clock act) past (begun_ungiven (Client n) (c.clients n) c.clock act));
-  told = λ c past n place m h at to. (let K : Known c past = known_of s c past h in
+  told = λ c past n place m h at to un. (let K : Known c past = known_of s c past h in
       client_unanswered s c past n _ h (given_acts (by_key (IsKnown K.keys.callees c.clients)) any_told n (c.clients n) c.clock place m (K.keys.replies n) (h.0.0.0.0.0.0.0.0.1.seats n)) (given_follow n (c.clients n) c.clock place m (h.0.0.0.0.0.1 n).0 (each_at (λ m. IsFirm m.head m.carried) c.sent place m at h.0.0.0.0.0.0.1))
-      (told_on n (c.clients n) c.clock place m past to ((client_given c past n place m K.hears to at).given (sent_of past) ∙ (ap (λ (ms : List Message). message_at ms place) K.hears.told ∙ at))));
+      (told_on n (c.clients n) c.clock place m past to un ((client_given c past n place m K.hears to at).given (sent_of past) ∙ (ap (λ (ms : List Message). message_at ms place) K.hears.told ∙ at))));
   sought = λ c past n place m k h at to z e. (let A : AskedIn s c past = h.0.0.0.0.0.0.0.0.1 in
       client_unanswered s c past n _ h (sought_acts_in s c past n place m k A at z e) (sought_follow s n (c.clients n) c.clock place k m.head m.carried (placed_in s c past n k A z) (told_in s c past n place m k A at e) (h.0.0.0.0.0.1 n).0)
-      (λ act run. absurd (none_runs (c.clients n).running act (A.seeks n k z).idle run)));
-  missed = λ c past n k h r z. client_unanswered s c past n _ h (missed_acts n (c.clients n) k r z) (missed_follow n (c.clients n) k r (h.0.0.0.0.0.1 n).0) (λ act run. absurd (none_runs (c.clients n).running act r run));
+      (sought_on s n (c.clients n) c.clock place k m past (placed_in s c past n k A z) (told_in s c past n place m k A at e) (sought_given c past n place m k (known_of s c past h) at)));
+  missed = λ c past n k h r z. client_unanswered s c past n _ h (missed_acts n (c.clients n) k r z) (missed_follow n (c.clients n) k r (h.0.0.0.0.0.1 n).0) (ungiven_on n (c.clients n) (seek_timeout_row (Client n) (c.clients n) k) past (missed_ungiven (Client n) (c.clients n) k));
   loc = λ c past l ls ms h st. idle_unanswered c past (loc_becomes c l ls ms).entry h.1 (λ j e. absurd cc);
   waited = λ c past n act h r. client_unanswered s c past n _ h (waits_acts n (c.clients n) act r) (waits_follow n (c.clients n) act (h.0.0.0.0.0.1 n).0) (ungiven_on n (c.clients n) (timeout_row (Client n) (c.clients n) act) past (waited_ungiven (Client n) (c.clients n) act));
   fallen = λ c past n h. client_unanswered s c past n _ h (falls_acts n c.handed (c.clients n) (handed_same s c past (h.0.0.0.0.0.0.0.0.1) n)) (falls_follow n c.handed (c.clients n)) (ungiven_on n (c.clients n) (record { state = reborn c.handed (c.clients n); lines = lines.Crash (Client n) ∷ []; sent = [] }) past refl);
@@ -334,4 +425,4 @@ pub unanswered_kept : (s : Script) → IsKept (UnansweredFacts s)
 unanswered_kept s c past x so h = (counted_kept s c past x so h.0, each_moved (UnansweredFacts s) Then (unanswered_moves s) c past x so h (each_moved Known DeliveredStep delivered_moves c past x so (known_of s c past h)))
 
 pub unanswered_first : (s : Script) → UnansweredFacts s (start s) (set_up s ∷ [])
-unanswered_first s = (counted_first s, λ j act r server. absurd cc)
+unanswered_first s = (counted_first s, λ j. record { calls = λ act r server. absurd cc; questions = λ k z. absurd cc })

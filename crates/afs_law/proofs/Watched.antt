@@ -98,7 +98,7 @@ watch_moves s = record {
   void = λ c past W told A. idle_good s c past (voided c).entry c.clock (omega arith) W (λ j. not_nobody j) refl told A;
   ticked = λ c past n W told A. idle_good s c past (ticked c (suc n)).entry (c.clock + suc n) (omega arith) W (λ j. not_clock j) refl told A;
   begun = λ c past n act W r z told A. client_good s c past n _ W (begins_acts n (c.clients n) c.clock act r z) (begin_result s c past n act (W.0, W.1 n) r) A;
-  told = λ c past n place m W at to told A.
+  told = λ c past n place m W at to un told A.
       client_good s c past n _ W (given_acts (by_key (IsKnown W.0.truthful.0.0.0.0.keys.callees c.clients)) any_told n (c.clients n) c.clock place m (W.0.truthful.0.0.0.0.keys.replies n) (W.0.truthful.0.0.0.1.seats n)) (message_result s c past n place m (W.0, W.1 n) at to) A;
   sought = λ c past n place m k W at to z e told A. client_good s c past n _ W (sought_acts_in s c past n place m k W.0.truthful.0.0.0.1 at z e) (sought_result s c past n place m k (W.0, W.1 n) W.0.truthful.0.0.0.1 at z e) A;
   missed = λ c past n k W r z told A. client_good s c past n _ W (missed_acts n (c.clients n) k r z) (missed_result s c past n k (W.0, W.1 n) r) A;

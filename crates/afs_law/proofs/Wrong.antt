@@ -16,7 +16,9 @@ use Rattle.afs_history.specs.declared.acts.Operand.TheVariants as operands
 use Rattle.afs_history.specs.declared.acts.Written.TheVariants.{Hex}
 use Rattle.afs_history.specs.declared.scripts.Script.{Script}
 use Rattle.afs_history.specs.declared.scripts.SetupLine.TheVariants as setup
+use Rattle.afs_model.specs.CellRows as cell_rows
 use Rattle.afs_model.specs.FsRows.{call_number}
+use Rattle.afs_num.specs.declared.messages.Call.{Call}
 use Rattle.afs_num.specs.declared.histories.ReadStatus.{ReadStatus}
 use Rattle.afs_num.specs.declared.messages.Carried.{Carried}
 use Rattle.afs_history.specs.declared.lines.Line.{Line}
@@ -35,11 +37,12 @@ use Rattle.afs_num.specs.declared.histories.Actor.{Actor}
 use Rattle.afs_num.specs.declared.types.Node.{Node}
 use Rattle.afs_law.proofs.Worked.{apart_numbers, home, by_lines, stores, alters, answer, begun, entries, file, root, script, six_front}
 use Rattle.afs_law.specs.Breaks.{HasStopped, IsCarried, IsNamedIn}
-use Rattle.afs_law.specs.Legal.{Answered, Brings, IsInTurn, IsKind, IsOpen, IsLastCall, KnowsBoot, IsPromisedBy, Cause, EndsAct, IsGivenBack, IsNeededFrom, IsResult, Legal, answer_at, code_given}
+use Rattle.afs_law.specs.Legal.{Answered, Brings, IsInTurn, IsKind, IsOpen, IsLastCall, KnowsBoot, IsPromisedBy, Cause, EndsAct, IsGivenBack, IsNeededFrom, IsResult, Legal, MayLock, RunsInLoc, WasRefused, answer_at, code_given}
 use Rattle.afs_model.specs.Messages.{spelled}
 use Rattle.afs_num.specs.Names.{name_ok}
 use Rattle.afs_num.specs.declared.types.Fid.{Fid}
-use Rattle.afs_rows.specs.ClientRow.{begin_row, client_row}
+use Rattle.afs_rows.specs.ClientRow.{begin_row, client_row, question}
+use Rattle.afs_num.specs.declared.location_calls.LocCall.{LocCall}
 use Rattle.afs_num.specs.declared.location_calls.LocCall.TheVariants as questions
 use Rattle.afs_rows.specs.Going.{Going, began, nothing_set, answers, asked, asks_for, gives_back, next, reads, stored_whole, no_entry, locates}
 use Rattle.afs_rows.specs.Runs.{Cell, Entry, Input, begins, client_starts, client_stops, comes_up, gives, locations, moved, nothing, server_waits, sets_stop, start, starts_again, steady, stops, ticks, waits}
@@ -48,7 +51,7 @@ use Rattle.afs_law.specs.Ideal.{IsLast, last_version, set_up}
 use Rattle.afs_num.specs.declared.histories.Version.{Version}
 use Rattle.std.specs.Option.{option_map}
 use Rattle.afs_law.specs.Once.{past_of}
-use Rattle.afs_law.specs.Past.{HasChangeBy, IsLater, IsLatest, WasSent, SendsTo, has_begun, has_sent, is_called, same_key, onto, lines_on, IsCall, server_boot, CalledSince, IsToCome, called_key, Ran, answered_key, code_told, given_message, lines_of, sent_of, AreWithin}
+use Rattle.afs_law.specs.Past.{HasChangeBy, IsLater, IsLatest, WasSent, SendsTo, has_begun, has_sent, is_called, same_key, onto, lines_on, IsCall, server_boot, CalledSince, IsToCome, called_key, Ran, answered_key, code_told, given_message, lines_of, sent_of, AreWithin, AskedSince}
 use Rattle.afs_num.specs.declared.calls.AfsCallBack.{AfsCallBack}
 use Rattle.afs_num.specs.declared.calls.FsCall.{FsCall}
 use Rattle.afs_num.specs.declared.calls.FsCall.TheVariants as calls
@@ -1150,7 +1153,7 @@ dead_of_nothing h =
             | inl x ↦ (let e : negsuc 0 ≡ pos 0 = x.is in absurd cc)
             | inr t ↦ elim t [
               | inl x ↦ (let e : negsuc 0 ≡ pos no_entry = x.is in absurd cc)
-              | inr v ↦ elim v [ inl x ↦ elim x.third [ inl t ↦ (let e : Server 1 ≡ Loc = t.1.0 in absurd cc) | inr none ↦ none ] | inr x ↦ elim x.is [ inl a ↦ dead_elsewhere x.left x.refused.gone (inl a) | inr b ↦ dead_elsewhere x.left x.refused.gone (inr b.0) ] ]
+              | inr v ↦ elim v [ inl x ↦ elim x.third [ inl t ↦ (let e : Server 1 ≡ Loc = t.1.0 in absurd cc) | inr none ↦ none ] | inr x ↦ elim x.is [ inl a ↦ dead_elsewhere x.left x.refused.gone (inl a.0) | inr b ↦ dead_elsewhere x.left x.refused.gone (inr b.0) ] ]
             ]
           ]
         ]
@@ -2176,7 +2179,7 @@ loc_boot_leapt h = let e : 3 ≤ 2 = h.1.0.1.0.1.1.0.0.0 in absurd (omega arith)
 -- it locks a volume that nobody asked it to lock
 loc_locked_unasked : Legal (step_of Loc (lines.Locked 9 1 16 ∷ []) [] ∷ []) (script 1) → ⊥
 unfolding moved begin_row client_row server_row back_timeout_row wake_row start_row record_bytes head_form volume_form spelled opaque pad word laid_at led name_ok directory_bytes name_bytes rights_of image acl_text digits entry_text directory_of names_at opaque_at word_at counted_at whole_at count_at name_at spelled_at bytes_below
-loc_locked_unasked h = elim h.0.1.0.1.1.0.1.0.1 [ inl x ↦ (let no : false ≡ true = x in absurd cc) | inr x ↦ x ]
+loc_locked_unasked h = elim h.0.1.0.1.1.0.1.0.1 [ inl x ↦ x | inr x ↦ (let e : None ≡ Some (carried.Call x.1.0.user (ask.Location x.0)) = x.1.0.carries in absurd cc) ]
 
 -- it answers what nobody asked
 abbrev loc_says_none : Message
@@ -2209,12 +2212,28 @@ asked_needlessly h =
     let g = h.0.1.1.1.0.0 in
     elim g.why [
       | inl e ↦ no_locate g.operand (ap next (some_of (began (locations (script 1)) (acts.Open (operands.Fid file))) g.act g.runs) ∙ e)
-      | inr q ↦ (let no : true ≡ false = first_within (Client 1) (step_of (Client 1) (lines.Begin (Client 1) (acts.Open (operands.Fid file)) ∷ []) (asks_place Loc 503 file ∷ [])) (set_up (script 1) ∷ []) q.1.newer q.1.at q.1.older q.1.split q.1.within in absurd cc)
+      | inr q ↦ (let no : true ≡ false = first_within (Client 1) (step_of (Client 1) (lines.Begin (Client 1) (acts.Open (operands.Fid file)) ∷ []) (asks_place Loc 503 file ∷ [])) (set_up (script 1) ∷ []) q.1.0.newer q.1.0.at q.1.0.older q.1.0.split q.1.0.within in absurd cc)
     ]
 
 -- it asks under an opcode of another call
 asked_under_another_opcode : Legal (step_of (Client 1) (lines.Begin (Client 1) (acts.Open (operands.Fid unknown)) ∷ []) (asks_place Loc 130 unknown ∷ []) ∷ []) (script 1) → ⊥
 asked_under_another_opcode h = let e : 130 ≡ 503 = h.0.1.1.1.0.0.opcode in absurd (omega (arith, e))
+
+-- it asks in a boot of which it knows nothing
+abbrev asks_another_boot : Message
+asks_another_boot = record (asks_place Loc 503 unknown) { head = record (asks_place Loc 503 unknown).head { boot = 2 } }
+
+asked_in_another_boot : Legal (step_of (Client 1) (lines.Begin (Client 1) (acts.Open (operands.Fid unknown)) ∷ []) (asks_another_boot ∷ []) ∷ []) (script 1) → ⊥
+asked_in_another_boot h = elim h.0.1.1.1.0.0.known [
+  | inl i ↦ (let e : None ≡ Some i.message = i.given in absurd cc)
+  | inr x ↦ elim x.1 [
+    | inl y ↦ (let e : 2 ≡ 1 = y.1 in absurd (omega (arith, e)))
+    | inr y ↦ elim y.1 [
+      | inl i ↦ (let e : None ≡ Some i.act = i.runs in absurd cc)
+      | inr z ↦ elim z.1 [ inl v ↦ (let e : 2 ≡ 1 = v.1 in absurd (omega (arith, e))) | inr v ↦ (let e : 2 ≡ 1 = v.1 in absurd (omega (arith, e))) ]
+    ]
+  ]
+]
 
 -- it asks a file server
 asked_of_a_server : Legal (step_of (Client 1) (lines.Begin (Client 1) (acts.Open (operands.Fid unknown)) ∷ []) (asks_place (Server 1) 503 unknown ∷ []) ∷ []) (script 1) → ⊥
@@ -2224,3 +2243,167 @@ asked_of_a_server h = not_asked h.0.1.1.1.0.0.to
 asked_while_idle : Legal (step_of (Client 1) (lines.Drop (Client 1) file ∷ []) (asks_place Loc 503 file ∷ []) ∷ []) (script 1) → ⊥
 unfolding moved begin_row client_row server_row back_timeout_row wake_row start_row record_bytes head_form volume_form spelled opaque pad word laid_at led name_ok directory_bytes name_bytes rights_of image acl_text digits entry_text directory_of names_at opaque_at word_at counted_at whole_at count_at name_at spelled_at bytes_below
 asked_while_idle h = let g = h.0.1.1.1.0.0 in let e : None ≡ Some g.act = g.runs in absurd cc
+
+-- The database tells that it has no such volume. The client doesn't take that; it times what it asked out three times, and gives up
+abbrev times_asked : ℕ → Line
+times_asked n = lines.Timeout (Client 1) Loc 1 1 n
+
+abbrev told_and_dead : List Entry
+told_and_dead =
+    step_of (Client 1) (lines.Begin (Client 1) (acts.Open (operands.Fid unknown)) ∷ []) (asks_place Loc 503 unknown ∷ [])
+    ∷ step_of Loc (lines.Given 1 ∷ []) (loc_says_none ∷ [])
+    ∷ step_of (Client 1) (lines.Given 2 ∷ []) []
+    ∷ step_of (Client 1) (times_asked 1 ∷ []) (asks_place Loc 503 unknown ∷ [])
+    ∷ step_of (Client 1) (times_asked 2 ∷ []) (asks_place Loc 503 unknown ∷ [])
+    ∷ step_of (Client 1) (times_asked 3 ∷ dead_answer ∷ []) [] ∷ []
+
+abbrev told_past : List Entry
+told_past = past_of (set_up (script 1) ∷ []) (take 3 told_and_dead)
+
+file_not : (u v : List ℕ) (q : LocCall) (call : FsCall) → carried.Call u (ask.Location q) ≡ carried.Call v (ask.File call) → ⊥
+file_not u v q call e = absurd cc
+
+one_question : (u v : List ℕ) (p q : LocCall) → carried.Call u (ask.Location p) ≡ carried.Call v (ask.Location q) → p ≡ q
+one_question u v p q e = cc
+
+said_no_call : (user : List ℕ) (call : Call) → loc_says_none.carried ≡ carried.Call user call → ⊥
+said_no_call user call e = absurd cc
+
+-- what it asked, under its only key
+asked_once : (user : List ℕ) (q : LocCall) → AskedSince (key_of_one 1) user q told_past → questions.GetEntryById 7 ≡ q
+asked_once user q (inl x) = absurd x.1
+asked_once user q (inr x) = elim x.1 [
+  | inl y ↦ elim y.1 [ inl z ↦ absurd (said_no_call user (ask.Location q) z.1) | inr none ↦ absurd none ]
+  | inr y ↦ elim y.1 [
+    | inl z ↦ elim z.1 [ inl w ↦ one_question _ _ _ _ w.1 | inr none ↦ absurd none ]
+    | inr z ↦ (let no_ : true ≡ false = z.0 in absurd cc)
+  ]
+]
+
+-- and of a file server it asked nothing
+none_filed : (user : List ℕ) (call : FsCall) → WasSent Loc (key_of_one 1) user call told_past → ⊥
+none_filed user call (inl x) = x
+none_filed user call (inr (inl x)) = elim x [ inl z ↦ said_no_call user (ask.File call) z.1.1 | inr none ↦ none ]
+none_filed user call (inr (inr (inl x))) = elim x [ inl z ↦ file_not _ _ _ _ z.1.1 | inr none ↦ none ]
+none_filed user call (inr (inr (inr x))) = elim x [ inl z ↦ z | inr none ↦ none ]
+
+dead_though_told : Legal told_and_dead (script 1) → ⊥
+dead_though_told h = elim h.1.1.1.0.0.0.0.1.sent [
+  | inl x ↦ none_filed x.user x.call x.sent
+  | inr x ↦ x.unanswered.0 ((tt, refl), (refl, ap (λ (q : LocCall). cell_rows.call_number (ask.Location q)) (asked_once x.user x.call x.asked)))
+]
+
+-- The database refuses under the opcode of its other look-up, and the client takes that for its answer
+abbrev says_none_by_name : Message
+says_none_by_name = record loc_says_none { head = record loc_says_none.head { opcode = 504 } }
+
+abbrev heard_another : List Entry
+heard_another =
+    step_of (Client 1) (lines.Begin (Client 1) (acts.Open (operands.Fid unknown)) ∷ []) (asks_place Loc 503 unknown ∷ [])
+    ∷ step_of Loc (lines.Given 1 ∷ []) (says_none_by_name ∷ [])
+    ∷ step_of (Client 1) (lines.Given 2 ∷ lines.Answer (Client 1) (record { 0 = pos no_entry }) ∷ []) [] ∷ []
+
+abbrev another_past : List Entry
+another_past = past_of (set_up (script 1) ∷ []) (take 2 heard_another)
+
+needs_no_answer : (n : ℕ) → next opens_unknown ≡ answers n → ⊥
+needs_no_answer n e = absurd cc
+
+gives_none_back : next opens_unknown ≡ gives_back → ⊥
+gives_none_back e = absurd cc
+
+needs_unknown : (o : Operand) → next opens_unknown ≡ locates o → operands.Fid unknown ≡ o
+needs_unknown o e = cc
+
+none_called : (k : Key) (user : List ℕ) (call : FsCall) → CalledSince k user call another_past → ⊥
+none_called k user call (inl x) = elim x.1 [ inl z ↦ said_no_call user (ask.File call) z.1 | inr none ↦ none ]
+none_called k user call (inr x) = elim x.1 [
+  | inl y ↦ elim y.1 [ inl z ↦ file_not _ _ _ _ z.1 | inr none ↦ none ]
+  | inr y ↦ elim y.1 [ inl z ↦ z.1 | inr z ↦ z.1 ]
+]
+
+-- no entry of the client was given a reply
+record RefusedAt (e : Entry) (older : List Entry) : Type 0 where
+  actor : e.actor ≡ actors.Node (Client 1)
+  reply : Message
+  by : given_message e.lines (sent_of older) ≡ Some reply
+
+refused_at : (act : Going) (code : ℤ) (own : List Line) → WasRefused (script 1) (Client 1) act code another_past own → Among RefusedAt another_past
+refused_at act code own r = subst (Among RefusedAt) (sym r.split) (is_among RefusedAt r.newer r.at r.older (record { actor = r.actor; reply = r.reply; by = r.by }))
+
+none_refused : Among RefusedAt another_past → ⊥
+none_refused (inl x) = let e : actors.Node Loc ≡ actors.Node (Client 1) = x.actor in absurd cc
+none_refused (inr (inl x)) = let e : None ≡ Some x.reply = x.by in absurd cc
+none_refused (inr (inr (inl x))) = let e : actors.Nobody ≡ actors.Node (Client 1) = x.actor in absurd cc
+none_refused (inr (inr (inr x))) = x
+
+heard_under_another_opcode : Legal heard_another (script 1) → ⊥
+heard_under_another_opcode h =
+    let g = h.1.1.0.0.0.1.0.1 in
+    let its : opens_unknown ≡ g.act = some_of opens_unknown g.act g.runs in
+    elim g.cause [
+      | inl x ↦ none_called (answered_key x.reply.head) x.cause.user x.cause.call x.called
+      | inr y ↦ elim y [
+        | inl x ↦ needs_no_answer x.number (ap next its ∙ x.by)
+        | inr z ↦ elim z [
+          | inl x ↦ (let e : pos no_entry ≡ negsuc 0 = x.is in absurd cc)
+          | inr u ↦ elim u [
+            | inl x ↦ gives_none_back (ap next its ∙ x.by)
+            | inr t ↦ elim t [
+              | inl x ↦ (let e : 504 ≡ 503 = ap (λ (m : Message). m.head.opcode) (some_of says_none_by_name x.heard.reply x.heard.by) ∙ (x.heard.opcode ∙ ap (λ (o : Operand). cell_rows.call_number (ask.Location (question o))) (sym (needs_unknown x.operand (ap next its ∙ x.needs)))) in absurd (omega (arith, e)))
+              | inr v ↦ elim v [ inl x ↦ (let e : pos no_entry ≡ negsuc 0 = x.is in absurd cc) | inr x ↦ none_refused (refused_at g.act x.left (lines.Given 2 ∷ []) x.refused) ]
+            ]
+          ]
+        ]
+      ]
+    ]
+
+-- ---- what the location database does with locks and places, a call asked for
+
+-- it locks a volume where it was asked for an entry
+abbrev locked_behind_a_lookup : List Entry
+locked_behind_a_lookup =
+    step_of (Client 1) (lines.Begin (Client 1) (acts.Open (operands.Fid unknown)) ∷ []) (asks_place Loc 503 unknown ∷ [])
+    ∷ step_of Loc (lines.Given 1 ∷ lines.Locked 7 1 16 ∷ []) [] ∷ []
+
+lookup_locks_not : (q : LocCall) (v operation : ℕ) → questions.GetEntryById 7 ≡ q → MayLock q v operation → ⊥
+lookup_locks_not q v operation e h = subst (λ (p : LocCall). MayLock p v operation) (sym e) h
+
+loc_locked_for_a_lookup : Legal locked_behind_a_lookup (script 1) → ⊥
+unfolding moved begin_row client_row server_row back_timeout_row wake_row start_row record_bytes head_form volume_form spelled opaque pad word laid_at led name_ok directory_bytes name_bytes rights_of image acl_text digits entry_text directory_of names_at opaque_at word_at counted_at whole_at count_at name_at spelled_at bytes_below
+loc_locked_for_a_lookup h = elim h.1.0.1.0.1.1.0.1.0.1 [
+  | inl x ↦ x
+  | inr x ↦ lookup_locks_not x.0 7 16 (one_question _ _ _ _ (some_of _ _ x.1.0.carries)) x.1.1.0.0
+]
+
+-- it stops while it does nothing, and its restart tells of a place that nobody asked for
+abbrev placed_by_a_restart : List Entry
+placed_by_a_restart = step_of Loc (lines.Crash Loc ∷ []) [] ∷ step_of Loc (lines.Located 7 (Server 1) ∷ lines.Restart Loc 2 ∷ []) [] ∷ []
+
+abbrev RanInLoc : Entry → List Entry → Type 0
+RanInLoc e older = (call : LocCall) × ((e.actor ≡ actors.Node Loc) × RunsInLoc call older e.lines)
+
+none_ran_in_loc : Among RanInLoc (past_of (set_up (script 1) ∷ []) (take 1 placed_by_a_restart)) → ⊥
+none_ran_in_loc (inl x) = let e : None ≡ Some (carried.Call x.1.1.user (ask.Location x.0)) = x.1.1.carries in absurd cc
+none_ran_in_loc (inr (inl x)) = let e : actors.Nobody ≡ actors.Node Loc = x.1.0 in absurd cc
+none_ran_in_loc (inr (inr x)) = x
+
+loc_placed_unasked : Legal placed_by_a_restart (script 1) → ⊥
+unfolding moved begin_row client_row server_row back_timeout_row wake_row start_row record_bytes head_form volume_form spelled opaque pad word laid_at led name_ok directory_bytes name_bytes rights_of image acl_text digits entry_text directory_of names_at opaque_at word_at counted_at whole_at count_at name_at spelled_at bytes_below
+loc_placed_unasked h = elim h.1.0.1.0.1.1.0.1.0.1 [
+  | inl x ↦ x
+  | inr x ↦ none_ran_in_loc (subst (Among RanInLoc) (sym x.1.0.split) (is_among RanInLoc x.1.0.newer x.1.0.at x.1.0.older (x.0, (x.1.0.actor, x.1.0.runs))))
+]
+
+-- it answers in the name of a boot that it never had
+abbrev says_none_of_another_boot : Message
+says_none_of_another_boot = record loc_says_none { head = record loc_says_none.head { boot = 7 } }
+
+abbrev answered_in_a_boot : List Entry
+answered_in_a_boot =
+    step_of (Client 1) (lines.Begin (Client 1) (acts.Open (operands.Fid unknown)) ∷ []) (asks_place Loc 503 unknown ∷ [])
+    ∷ step_of Loc (lines.Given 1 ∷ []) (says_none_of_another_boot ∷ []) ∷ []
+
+loc_answered_of_another_boot : Legal answered_in_a_boot (script 1) → ⊥
+unfolding moved begin_row client_row server_row back_timeout_row wake_row start_row record_bytes head_form volume_form spelled opaque pad word laid_at led name_ok directory_bytes name_bytes rights_of image acl_text digits entry_text directory_of names_at opaque_at word_at counted_at whole_at count_at name_at spelled_at bytes_below
+loc_answered_of_another_boot h = elim h.1.0.1.0.1.1.0.1.1.1.1 [ inl x ↦ (let e : Some 1 ≡ Some 7 = x in let no_ : 1 ≡ 7 = some_of 1 7 e in absurd (omega (arith, no_))) | inr x ↦ (let e : 1 ≡ 7 = sym x.0 in absurd (omega (arith, e))) ]

@@ -10,7 +10,7 @@ use Rattle.afs_law.specs.Cells.{IsOfCell}
 use Rattle.afs_law.specs.Breaks.{HasTimeout}
 use Rattle.afs_law.specs.Grants.{IsDropped, fetch_reply, has_fetched, is_promised}
 use Rattle.afs_law.specs.Ideal.{set_up, user_of}
-use Rattle.afs_law.specs.Legal.{EndsAct, GoodGift, HasChange, HasChangeBy, HasOwnHalf, HasUsed, IsDead, IsDone, IsKind, IsLastCall, IsOnItsWay, IsUse, as_asked, has_dropped, HasHeard, IsRefusedWith, IsUnlisted}
+use Rattle.afs_law.specs.Legal.{EndsAct, GoodGift, HasChange, HasChangeBy, HasOwnHalf, HasUsed, IsDead, IsDone, IsKind, IsLastCall, IsOnItsWay, IsUse, as_asked, has_dropped, HasHeard, IsRefusedWith, IsUnlisted, IsOperandOf, TellsEntry}
 use Rattle.afs_law.specs.Once.{past_of}
 use Rattle.afs_law.specs.Parts.{AllLines, EachEntry, EachSent, LineRule, waited_key}
 use Rattle.afs_law.specs.Past.{CalledSince, IsReply, answered_key, code_told, given_message, has_begun, has_sent, is_of_act, lines_of, lines_on, onto, running, sent_of, AreWithin, AskedSince}
@@ -124,8 +124,9 @@ pub record IsLeft (s : Script) (c : Node) (act : Going) (code : ℤ) (past : Lis
   pub left : ℤ
   pub replied : WasReplied s c act left past
   pub operand : Operand
+  pub its : IsOperandOf act operand
   pub heard : HasHeard s c operand past own
-  pub is : (code ≡ left) ⊎ ((code ≡ pos no_entry) × IsRefusedWith code heard.reply.carried)
+  pub is : ((code ≡ left) × TellsEntry heard.reply.carried) ⊎ ((code ≡ pos no_entry) × IsRefusedWith code heard.reply.carried)
 
 -- what the act asked the location database, since it lacked a place or was refused, was timed out for the third time
 pub record IsUntold (s : Script) (c : Node) (act : Going) (code : ℤ) (past : List Entry) (own : List Line) : Type 0 where
@@ -136,7 +137,7 @@ pub record IsUntold (s : Script) (c : Node) (act : Going) (code : ℤ) (past : L
   pub before : has_begun c own ≡ false
   pub operand : Operand
   pub called : AskedSince (record { node = c; epoch = epoch; number = number }) (user_of s c) (question operand) past
-  pub why : (next act ≡ locates operand) ⊎ ((left : ℤ) × WasReplied s c act left past)
+  pub why : (next act ≡ locates operand) ⊎ ((left : ℤ) × (WasReplied s c act left past × IsOperandOf act operand))
 
 -- an act runs, and its answer has its cause. That the ideal cell gives the code of the reply isn't asked here
 pub record IsDueCode (s : Script) (c : Node) (code : Code) (past : List Entry) (own : List Line) : Type 0 where

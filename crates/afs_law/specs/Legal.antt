@@ -1,5 +1,6 @@
 pub use Rattle.afs_law.specs.Past.{HasChangeBy, IsLater}
 use Rattle.afs_num.specs.declared.location_calls.LocCall.{LocCall}
+use Rattle.afs_num.specs.declared.location_calls.LocCall.TheVariants as queries
 use Rattle.std.specs.Option.{option_map}
 use Rattle.afs_num.specs.Fids.{same_fid}
 use Rattle.afs_rows.specs.ServerRow.{promise_ticks}
@@ -13,7 +14,9 @@ use Rattle.afs_num.specs.declared.types.Node.{Node}
 use Rattle.afs_num.specs.declared.types.Node.TheVariants.{Server, Client, Loc}
 use Rattle.afs_num.specs.declared.calls.AfsCallBack.{AfsCallBack}
 use Rattle.afs_history.specs.declared.acts.Operand.{Operand}
-use Rattle.afs_rows.specs.ClientRow.{question}
+use Rattle.afs_num.specs.declared.location_calls.LocEntry.{LocEntry}
+use Rattle.afs_rows.specs.ClientRow.{entry_in, question, volume_asked}
+use Rattle.afs_rows.specs.LocRow.{made_for}
 use Rattle.afs_num.specs.declared.calls.FsCall.{FsCall}
 use Rattle.afs_num.specs.declared.calls.FsCall.TheVariants as calls
 use Rattle.afs_num.specs.declared.messages.Carried.{Carried}
@@ -21,7 +24,7 @@ use Rattle.afs_num.specs.declared.messages.Message.{Message}
 use Rattle.afs_ideal.specs.Operations.{Caller, the_user, Result, refused, changes, no_operation, op, code_of, volume_called, volume_changed}
 use Rattle.afs_ideal.specs.Volumes.{Volume, Edit, versions_by}
 use Rattle.afs_law.specs.Breaks.{HasDrop, unbroken_grant, IsNamedIn, AllOwes, HasEnded, HasStopped, HasTimeout, EndedOf, EndedAll, GoodSettle, GoodQuit, live_grant, lines_at, HasOwe, last_number}
-use Rattle.afs_rows.specs.Going.{Going, Need, answers, asks_for, next, asked, gives_back, reads, reads_rights, reads_status, locates, no_entry, volume_at}
+use Rattle.afs_rows.specs.Going.{Going, Need, answers, asks_for, next, asked, gives_back, reads, reads_rights, reads_status, locates, no_entry, operand_in, volume_at}
 use Rattle.afs_law.specs.Grants.{change_below, is_promised, read_reply, GrantOf, since, until, IsWithdrawn, IsChangedByOther, IsDropped}
 use Rattle.afs_law.specs.Ideal.{last_version, Unless, set_up, IsLast, WasLast, HasBeen, HasVersion, Accepts, clock_of, user_of, seen, change_in, change_key, call_under, callee_under, volume_after}
 use Rattle.afs_history.specs.declared.acts.Act.TheVariants as acts
@@ -29,7 +32,7 @@ use Rattle.afs_history.specs.declared.lines.Line.{Line}
 use Rattle.afs_rows.specs.Runs.{locations, message_at}
 use Rattle.afs_law.specs.Lives.{IsDelivered, IsHostLived, epoch_after, last_written}
 use Rattle.afs_model.specs.CellRows as cell_rows
-use Rattle.afs_law.specs.Past.{onto, HasBoot, IsLatest, IsUpTo, WasSent, has_sent, has_called, is_down, last_boot, is_new_to_act, called_key, IsCall, IsToCome, is_of_act, lines_of, sent_of, given_message, answered_key, code_told, IsReply, running, has_begun, has_given, Called, CalledSince, IsCallUnder, Ran, server_boot, AreWithin, AskedSince}
+use Rattle.afs_law.specs.Past.{onto, HasBoot, IsLatest, IsUpTo, WasSent, has_sent, has_called, is_down, last_boot, is_new_to_act, called_key, last_call, HasCode, IsCall, IsToCome, is_of_act, lines_of, sent_of, given_message, answered_key, code_told, IsReply, running, has_begun, has_given, Called, CalledSince, IsCallUnder, Ran, server_boot, AreWithin, AskedSince}
 use Rattle.afs_rows.specs.Runs.{Entry}
 use Rattle.afs_history.specs.declared.scripts.Script.{Script}
 use Rattle.afs_num.specs.declared.histories.Actor.{Actor}
@@ -270,8 +273,8 @@ abbrev pub AreFailed : Node → List Entry → Type 0
 AreFailed s [] = ⊤
 AreFailed s (e ∷ past) = (e.actor ≡ actors.Node s → e.lines ≡ lines.Fault s ∷ []) × AreFailed s past
 
--- This entry was given a call of the key to the node, a server or a client, and to the boot or epoch in which that is: the first in that boot,
--- and before any later call of the key's node. What a server changed for the key's node before, in whichever boot, it changed under earlier keys
+-- This entry was given a call of the key to the node, a server, a client or the location database, and to the boot or epoch in which that is: the first in
+-- that boot, and before any later call of the key's node. What a server changed for the key's node before, in whichever boot, it changed under earlier keys
 pub record RunsHere (server : Node) (k : Key) (past : List Entry) (own : List Line) : Type 0 where
   pub boot : ℕ
   pub up : server_boot server (lines_of past) ≡ Some boot
@@ -562,8 +565,8 @@ GivesSomeBack s c past own = (act : Going) → running s c (own ++ lines_of past
 
 -- ---- answers behind a call of the location database
 
--- The entry was given the database's reply to what this very act asked it, for its user, since it began, which was in an entry before. That is the
--- client's last call
+-- The entry was given the database's reply to what this very act asked it, for its user, since it began, which was in an entry before. The reply tells
+-- that call's opcode, and that is the client's last call
 pub record HasHeard (s : Script) (c : Node) (o : Operand) (past : List Entry) (own : List Line) : Type 0 where
   pub reply : Message
   pub by : given_message own (sent_of past) ≡ Some reply
@@ -571,6 +574,7 @@ pub record HasHeard (s : Script) (c : Node) (o : Operand) (past : List Entry) (o
   pub from : reply.head.from ≡ Loc
   pub to : reply.head.to ≡ c
   pub before : has_begun c own ≡ false
+  pub opcode : reply.head.opcode ≡ cell_rows.call_number (ask.Location (question o))
   pub called : AskedSince (answered_key reply.head) (user_of s c) (question o) past
   pub last : IsLastCall (answered_key reply.head) (sent_of past)
 
@@ -611,9 +615,13 @@ pub record WasRefused (s : Script) (c : Node) (act : Going) (code : ℤ) (past :
   pub own_user : cause.user ≡ user_of s c
   pub called : CalledSince (answered_key reply.head) cause.user cause.call older
 
--- an act asks the database where it needs to know where a volume is, or where a server told that it has none
+-- the operand in whose volume the act calls
+abbrev pub IsOperandOf : Going → Operand → Type 0
+IsOperandOf act operand = operand_in act (volume_asked (asked act)) ≡ Some operand
+
+-- an act asks the database where it needs to know where a volume is, or where a server told of the volume of its call that it has none
 abbrev pub MayAsk : Script → Node → Going → Operand → List Entry → List Line → Type 0
-MayAsk s c act operand past own = (next act ≡ locates operand) ⊎ ((left : ℤ) × WasRefused s c act left past own)
+MayAsk s c act operand past own = (next act ≡ locates operand) ⊎ ((left : ℤ) × (WasRefused s c act left past own × IsOperandOf act operand))
 
 -- what the act asked the database was timed out for the third time in this entry: that call is dead
 pub record IsUnheardOf (s : Script) (c : Node) (act : Going) (code : ℤ) (past : List Entry) (own : List Line) : Type 0 where
@@ -631,14 +639,20 @@ abbrev pub IsRefusedWith : ℤ → Carried → Type 0
 IsRefusedWith code (carried.Refusal other) = code ≡ other.0
 IsRefusedWith code x = ⊥
 
--- A server told that it has no such volume, or not any more; and the database was asked, and knows no other server, so that is the
--- answer. Or it has none, and refuses: 363524. (Where it had moved, the act would go on: none does yet.)
+-- it tells an entry
+abbrev pub TellsEntry : Carried → Type 0
+TellsEntry (carried.Reply (tell.Location reply)) = (e : LocEntry) × (entry_in reply ≡ Some e)
+TellsEntry x = ⊥
+
+-- A server told that it has no such volume, or not any more; and the database was asked where that is, and tells an entry. That names no other server, so
+-- the server's code is the answer. Or it has none, and refuses: 363524. (Where it had moved, the act would go on: none does yet.)
 pub record IsGone (s : Script) (c : Node) (act : Going) (code : ℤ) (past : List Entry) (own : List Line) : Type 0 where
   pub left : ℤ
   pub refused : WasRefused s c act left past own
   pub operand : Operand
+  pub its : IsOperandOf act operand
   pub heard : HasHeard s c operand past own
-  pub is : (code ≡ left) ⊎ ((code ≡ pos no_entry) × IsRefusedWith code heard.reply.carried)
+  pub is : ((code ≡ left) × TellsEntry heard.reply.carried) ⊎ ((code ≡ pos no_entry) × IsRefusedWith code heard.reply.carried)
 
 -- An act runs, and its answer has its cause: the reply to its call, for 0 that it was done from the cache or that there was nothing to
 -- give back, or for -1 that its call was given up; or what the location database told, or that it told nothing. Where promises are
@@ -921,8 +935,33 @@ IsAskedInTurn k user call [] = ⊥
 IsAskedInTurn k user call (e ∷ past) =
     ((has_begun k.node e.lines ≡ false) × AskedSince k user call past) ⊎ ((has_called k (sent_of past) ≡ false) × ((has_begun k.node e.lines ≡ true) ⊎ HearsAnswer k.node past e.lines))
 
+-- While an act ran at the client, whose last call asked the location database something, the entry was given the notice under that call, which tells this
+-- boot
+pub record IsNotedByLoc (s : Script) (c : Node) (boot : ℕ) (past : List Entry) (ls : List Line) : Type 0 where
+  pub act : Going
+  pub runs : running s c (lines_of past) ≡ Some act
+  pub asking : Message
+  pub last : last_call c (sent_of past) ≡ Some asking
+  pub user : List ℕ
+  pub call : LocCall
+  pub carries : asking.carried ≡ carried.Call user (ask.Location call)
+  pub message : Message
+  pub given : given_message ls (sent_of past) ≡ Some message
+  pub from : message.head.from ≡ Loc
+  pub to : message.head.to ≡ c
+  pub is : message.carried ≡ carried.Notice
+  pub key : answered_key message.head ≡ called_key asking.head
+  pub opcode : message.head.opcode ≡ asking.head.opcode
+  pub boot' : message.head.boot ≡ boot
+
+-- what the client knows of the database's boot: the last such notice since the client crashed told this one; and without one it is 1
+abbrev pub KnowsLocBoot : Script → Node → ℕ → List Entry → Type 0
+KnowsLocBoot s c boot [] = boot ≡ 1
+KnowsLocBoot s c boot (e ∷ past) =
+    IsNotedByLoc s c boot past e.lines ⊎ (((b : ℕ) → IsNotedByLoc s c b past e.lines → ⊥) × (((has_crashed c e.lines ≡ true) × (boot ≡ 1)) ⊎ ((has_crashed c e.lines ≡ false) × KnowsLocBoot s c boot past)))
+
 -- A client asks the location database, for its user, where a volume is that its act needs to know, or of which a server told that it has none. It asks
--- under its next pair, as it calls a server, and the same again. Of the boot that the header tells nothing is asked
+-- under its next pair, as it calls a server, and the same again; and it asks it in the boot that the client knows
 pub record OwnQuestion (s : Script) (c : Node) (head : Head) (user : List ℕ) (call : LocCall) (past : List Entry) : Type 0 where
   pub own_user : user ≡ user_of s c
   pub act : Going
@@ -936,6 +975,7 @@ pub record OwnQuestion (s : Script) (c : Node) (head : Head) (user : List ℕ) (
   pub order : IsInOrder (called_key head) (sent_of past)
   pub last : IsLastCall (called_key head) (sent_of past)
   pub turn : IsAskedInTurn (called_key head) user call past
+  pub known : KnowsLocBoot s c head.boot past
 
 abbrev pub OwnQuestionOf : Script → Node → Head → List ℕ → LocCall → List Entry → Type 0
 OwnQuestionOf s (Client j) head user call past = OwnQuestion s (Client j) head user call past
@@ -1053,16 +1093,79 @@ TellsNoDeed (lines.Recovered v ∷ ls) = ⊥
 TellsNoDeed (lines.Located v server ∷ ls) = ⊥
 TellsNoDeed (l ∷ ls) = TellsNoDeed ls
 
--- while the location database is up, it tells these of what it is given alone
-abbrev pub DeedsAreCaused : Option ℕ → List Line → Type 0
-DeedsAreCaused None ls = ⊤
-DeedsAreCaused (Some boot) ls = (has_given ls ≡ true) ⊎ TellsNoDeed ls
+-- What a call may make the location database tell. A new entry, or one in place of another, is locked and placed; SetLock locks, for the operation that it
+-- names; an entry that goes is unlocked; ReleaseLock unlocks, and may end a recovery. The other calls change no entry
+abbrev pub MayLock : LocCall → ℕ → ℕ → Type 0
+MayLock (queries.CreateEntry e) v operation = (v ≡ e.read_write) × (operation ≡ made_for)
+MayLock (queries.ReplaceEntry id e) v operation = v ≡ e.read_write
+MayLock (queries.SetLock id wanted force) v operation = operation ≡ wanted
+MayLock call v operation = ⊥
 
--- What the location database sends goes back under the call that its entry is given, to who sent that; it is no call, and a notice tells the boot in
--- which the database is. (A reply may be kept over boots, so of its boot nothing is asked.)
+abbrev pub MayUnlock : LocCall → Type 0
+MayUnlock (queries.DeleteEntry id) = ⊤
+MayUnlock (queries.ReleaseLock id) = ⊤
+MayUnlock call = ⊥
+
+abbrev pub MayRecover : LocCall → Type 0
+MayRecover (queries.ReleaseLock id) = ⊤
+MayRecover call = ⊥
+
+abbrev pub MayPlace : LocCall → ℕ → Type 0
+MayPlace (queries.CreateEntry e) v = v ≡ e.read_write
+MayPlace (queries.ReplaceEntry id e) v = v ≡ e.read_write
+MayPlace call v = ⊥
+
+-- these lines tell no lock and no place but such of this call
+abbrev pub AreDeedsOf : LocCall → List Line → Type 0
+AreDeedsOf call [] = ⊤
+AreDeedsOf call (lines.Locked v stamp operation ∷ ls) = MayLock call v operation × AreDeedsOf call ls
+AreDeedsOf call (lines.Unlocked v ∷ ls) = MayUnlock call × AreDeedsOf call ls
+AreDeedsOf call (lines.Recovered v ∷ ls) = MayRecover call × AreDeedsOf call ls
+AreDeedsOf call (lines.Located v server ∷ ls) = MayPlace call v × AreDeedsOf call ls
+AreDeedsOf call (l ∷ ls) = AreDeedsOf call ls
+
+-- the location database runs this call in this entry
+pub record RunsInLoc (call : LocCall) (past : List Entry) (ls : List Line) : Type 0 where
+  pub key : Key
+  pub ran : RunsHere Loc key past ls
+  pub user : List ℕ
+  pub carries : option_map (λ (m : Message). m.carried) (given_message ls (sent_of past)) ≡ Some (carried.Call user (ask.Location call))
+
+-- it stopped in the entry that ran this call, and did nothing since but begin restarts in which its disk failed at once
+pub record StoppedIn (call : LocCall) (past : List Entry) : Type 0 where
+  pub newer : List Entry
+  pub at : Entry
+  pub older : List Entry
+  pub split : past ≡ newer ++ (at ∷ older)
+  pub actor : at.actor ≡ actors.Node Loc
+  pub runs : RunsInLoc call older at.lines
+  pub stopped : HasStopped Loc at.lines
+  pub since : AreFailed Loc newer
+
+-- each of these messages tells success
+abbrev pub AllSucceed : List Message → Type 0
+AllSucceed [] = ⊤
+AllSucceed (m ∷ ms) = (code_told m.carried ≡ Some (pos 0)) × AllSucceed ms
+
+-- What the location database tells of locks and places, a call may have done which it runs in this entry and doesn't refuse. Where it is down, that is
+-- the call of the step in which it stopped: this entry begins it again, and finds what that step left
+abbrev pub DeedsAreCaused : Option ℕ → List Entry → List Line → List Message → Type 0
+DeedsAreCaused None past ls sent = TellsNoDeed ls ⊎ ((call : LocCall) × (StoppedIn call past × AreDeedsOf call ls))
+DeedsAreCaused (Some boot) past ls sent = TellsNoDeed ls ⊎ ((call : LocCall) × (RunsInLoc call past ls × (AreDeedsOf call ls × AllSucceed sent)))
+
+-- the calls by these opcodes change something at the location database, and their replies are kept over its boots
+abbrev pub IsChangeNumber : ℕ → Type 0
+IsChangeNumber n = (n ≡ 501) ⊎ ((n ≡ 502) ⊎ ((n ≡ 505) ⊎ ((n ≡ 506) ⊎ ((n ≡ 508) ⊎ (n ≡ 509)))))
+
+-- by these lines the database is in the boot that this tells. Or it began that before, and this is the success of a change
+abbrev pub IsOfLocBoot : List Line → Message → Type 0
+IsOfLocBoot ls m = (server_boot Loc ls ≡ Some m.head.boot) ⊎ (HasBoot Loc m.head.boot ls × (IsChangeNumber m.head.opcode × (code_told m.carried ≡ Some (pos 0))))
+
+-- What the location database sends goes back under the call that its entry is given, to who sent that. It is no call, and tells the boot in which the database
+-- is; but the success of a change may tell an older one
 abbrev pub GoesBack : List Line → Option Message → Message → Type 0
 GoesBack ls None m = ⊥
-GoesBack ls (Some k) m = (IsCall k.carried × (IsCall m.carried → ⊥)) × (((m.head.to ≡ k.head.from) × ((m.head.epoch ≡ k.head.epoch) × (m.head.number ≡ k.head.number))) × (m.carried ≡ carried.Notice → server_boot Loc ls ≡ Some m.head.boot))
+GoesBack ls (Some k) m = (IsCall k.carried × (IsCall m.carried → ⊥)) × (((m.head.to ≡ k.head.from) × ((m.head.epoch ≡ k.head.epoch) × (m.head.number ≡ k.head.number))) × IsOfLocBoot ls m)
 
 -- and it sends one message at most
 abbrev pub AllGoBack : List Line → Option Message → List Message → Type 0
@@ -1072,11 +1175,11 @@ AllGoBack ls given (m ∷ n ∷ ms) = ⊥
 
 -- A client's entry is as the client is, up or down, and so is a server's, and the location database's. A server, and the database, begins again in a boot
 -- at most one above those which restarts that failed may have written; it may be a lower one. The database tells that it does in one above the last
--- that it began; it tells of locks and places where it is given something or begins again, and sends but answers
+-- that it began; it tells of locks and places what a call did that it runs, or ran when it stopped, and sends but answers
 abbrev pub IsLivedBy : Actor → List Entry → List Line → List Message → Type 0
 IsLivedBy (actors.Node (Client j)) past ls sent = IsLived (Client j) (is_down (Client j) (lines_of past)) (epoch_after (Client j) (lines_of past)) ls sent
 IsLivedBy (actors.Node (Server i)) past ls sent = IsHostLived (server_boot (Server i) (lines_of past)) (last_written (Server i) (lines_of past) + 1) ls sent
-IsLivedBy (actors.Node Loc) past ls sent = IsHostLived (server_boot Loc (lines_of past)) (last_written Loc (lines_of past) + 1) ls sent × ((RisesAbove (last_boot Loc (lines_of past)) ls × DeedsAreCaused (server_boot Loc (lines_of past)) ls) × AllGoBack (onto (lines_of past) ls) (given_message ls (sent_of past)) sent)
+IsLivedBy (actors.Node Loc) past ls sent = IsHostLived (server_boot Loc (lines_of past)) (last_written Loc (lines_of past) + 1) ls sent × ((RisesAbove (last_boot Loc (lines_of past)) ls × DeedsAreCaused (server_boot Loc (lines_of past)) past ls sent) × AllGoBack (onto (lines_of past) ls) (given_message ls (sent_of past)) sent)
 IsLivedBy who past ls sent = ⊤
 
 -- ---- timeouts
@@ -1114,8 +1217,18 @@ pub record IsTimedCall (s : Script) (n callee : Node) (k : Key) (count : ℕ) (p
   pub sent : WasSent callee k user call past
   pub awaited : IsAwaitedBy s n callee k user call count past own next
 
--- Or the location database was asked under this key since the act began that runs; it is the client's last call. This timeout wasn't told before; and
--- the third is followed by the act's answer -1 in the same entry
+-- this is what the location database tells under this key and this opcode: a reply or a refusal
+abbrev pub IsLocReply : Key → ℕ → Option Message → Type 0
+IsLocReply k opcode None = ⊥
+IsLocReply k opcode (Some m) = (HasCode m.carried × (m.head.from ≡ Loc)) × ((answered_key m.head ≡ k) × (m.head.opcode ≡ opcode))
+
+-- none of these entries was given that
+abbrev pub IsUntoldOf : Key → ℕ → List Entry → Type 0
+IsUntoldOf k opcode [] = ⊤
+IsUntoldOf k opcode (e ∷ past) = (IsLocReply k opcode (given_message e.lines (sent_of past)) → ⊥) × IsUntoldOf k opcode past
+
+-- Or the location database was asked under this key since the act began that runs, and told nothing under it; it is the client's last call. This timeout
+-- wasn't told before; and the third is followed by the act's answer -1 in the same entry
 pub record IsTimedQuestion (s : Script) (n callee : Node) (k : Key) (count : ℕ) (past : List Entry) (own next : List Line) : Type 0 where
   pub is : callee ≡ Loc
   pub user : List ℕ
@@ -1124,6 +1237,7 @@ pub record IsTimedQuestion (s : Script) (n callee : Node) (k : Key) (count : ℕ
   pub runs : running s n (lines_of past) ≡ Some act
   pub asked : AskedSince k user call past
   pub last : IsLastCall k (sent_of past)
+  pub unanswered : IsUntoldOf k (cell_rows.call_number (ask.Location call)) past
   pub once : HasTimeout n callee k.epoch k.number count (own ++ lines_of past) → ⊥
   pub dead : count ≡ 3 → HasAnswer n (negsuc 0) next
 
@@ -1186,7 +1300,7 @@ IsBegun s c past own = (own ≡ []) × (running s c (lines_of past) ≡ None)
 -- change; an act runs where a client reads or answers, and what is read from the cache it needs next; a timeout stands in an entry that is given no
 -- message and in which its node begins no act; and a server that begins again owes each client of the script a break on all. A crash is of any
 -- node, a fault of a server or of the location database, for clients have no disk; and what that locks, unlocks and tells of places stands in its
--- entries
+-- entries. No volume is made, fenced, enabled, deleted or released: clients can't do that, and a script has no others
 abbrev pub IsInPlace : Script → Actor → Line → List Entry → List Line → List Line → Type 0
 IsInPlace s who (lines.Begin c act) past own next = IsOfClient who c × IsBegun s c past own
 IsInPlace s who (lines.Given place) past own next = own ≡ []
@@ -1208,6 +1322,11 @@ IsInPlace s who (lines.DropAll c server) past own next = IsOfClient who c
 IsInPlace s who (lines.Owe server c what n) past own next = IsOfServer who server
 IsInPlace s who (lines.Settle server c n) past own next = IsOfServer who server
 IsInPlace s who (lines.Quit server c n) past own next = IsOfServer who server
+IsInPlace s who (lines.Made server v count) past own next = ⊥
+IsInPlace s who (lines.Fence v server) past own next = ⊥
+IsInPlace s who (lines.Enable v server) past own next = ⊥
+IsInPlace s who (lines.Vanish v server) past own next = ⊥
+IsInPlace s who (lines.Released family v release server) past own next = ⊥
 IsInPlace s who (lines.Locked v stamp operation) past own next = who ≡ actors.Node Loc
 IsInPlace s who (lines.Unlocked v) past own next = who ≡ actors.Node Loc
 IsInPlace s who (lines.Recovered v) past own next = who ≡ actors.Node Loc

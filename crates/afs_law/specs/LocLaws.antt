@@ -14,9 +14,10 @@ use Rattle.afs_rows.specs.Going.{Seek, locates, next, no_entry}
 use Rattle.afs_rows.specs.Runs.{Cell, Entry, RunsTo, locations, message_at}
 use Rattle.std.specs.Prelude.{◌⊎◌, ⊤, pos, ◌≡◌, ℕ, List, ◌∷◌, [], true, Option, Some, None}
 
--- what is told stands in a client's first table; and what refuses tells that there is no such entry
+-- a reply tells an entry, which stands in a client's first table; and what refuses tells that there is no such entry
 abbrev pub IsToldIn : Script → Carried → Type 0
-IsToldIn S (carried.Reply (tell.Location reply)) = (e : LocEntry) → entry_in reply ≡ Some e → has_location e (locations S) ≡ true
+IsToldIn S (carried.Reply (tell.Location reply)) = (e : LocEntry) × ((entry_in reply ≡ Some e) × (has_location e (locations S) ≡ true))
+IsToldIn S (carried.Reply reply) = ⊥
 IsToldIn S (carried.Refusal code) = code.0 ≡ pos no_entry
 IsToldIn S x = ⊤
 

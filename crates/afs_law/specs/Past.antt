@@ -128,6 +128,18 @@ abbrev pub has_called : Key → List Message → Bool
 has_called k [] = false
 has_called k (m ∷ ms) = if is_by_key k m.head m.carried then true else has_called k ms
 
+-- the node's last call among the messages, of whichever interface
+abbrev pub later_call : Node → Message → Carried → Option Message → Option Message
+later_call n m (carried.Call user call) older = if same_node m.head.from n then Some m else older
+later_call n m c older = older
+
+abbrev pub last_call_over : Node → Option Message → List Message → Option Message
+last_call_over n older [] = older
+last_call_over n older (m ∷ ms) = last_call_over n (later_call n m m.carried older) ms
+
+abbrev pub last_call : Node → List Message → Option Message
+last_call n ms = last_call_over n None ms
+
 -- whether a call of this key was sent since the node last began an act
 abbrev pub is_sent_since : Node → Key → List Entry → Bool
 is_sent_since n k [] = false
