@@ -6,6 +6,7 @@ use Rattle.afs_num.specs.declared.types.Node.{Node}
 use Rattle.afs_history.specs.declared.lines.Line.TheVariants as lines
 use Rattle.afs_history.specs.declared.lines.Outs.{Outs}
 use Rattle.afs_disk.specs.Fuses.{Fused}
+use Rattle.afs_disk.specs.declared.disk.Disk.{Ghosts}
 use Rattle.afs_rows.specs.Hosts.{steady}
 use Rattle.afs_volstore.specs.Stores.{Store}
 use Rattle.afs_server.specs.declared.faults.NodeFault.{NodeFault}
@@ -15,47 +16,47 @@ use Rattle.afs_host.specs.Views.{count_mark}
 use Rattle.afs_host.specs.Serving.{disk_served, Becomes, GoesOnServed, IsHandled, IsServed, KeepsMark, MakesRow, RestsServed, RunsRow}
 use Rattle.afs_host.proofs.Breaking.{down_step}
 
-module _ {D : Type 0} (seen : D → Option (List ℕ)) (left_by : D → ℕ → Option (List ℕ)) (size : D → ℕ) (may_leave : D → List ℕ → Type 0) (moment : D → ℕ) (left_since : D → ℕ → List ℕ → Type 0) (faults limit : D → ℕ) (old new : ServerRunning D) where
+module _ {D : Type 0} (w : Ghosts D) (old new : ServerRunning D) where
   abbrev Handled : ℕ → Received → Result Outs NodeFault → Type 0
-  Handled clock found result = IsHandled seen left_by size may_leave moment left_since faults limit old clock found new result
+  Handled clock found result = IsHandled w old clock found new result
 
-  pub served_so : ((disk : D) (pick : ℕ) (c : List ℕ) → left_by disk pick ≡ Some c → may_leave disk c) → ((disk : D) → left_by disk 1 ≡ seen disk) → (clock : ℕ) (found : Received) (result : Result Outs NodeFault) → CanRun old → Handled clock found result
-      → Becomes seen left_by may_leave faults limit (λ s. IsServed seen left_by size may_leave moment left_since faults limit old clock found s) new result
+  pub served_so : ((disk : D) (pick : ℕ) (c : List ℕ) → w.left_by disk pick ≡ Some c → w.may_leave disk c) → ((disk : D) → w.left_by disk 1 ≡ w.seen disk) → (clock : ℕ) (found : Received) (result : Result Outs NodeFault) → CanRun old → Handled clock found result
+      → Becomes w (λ s. IsServed w old clock found s) new result
   served_so leaves shows clock found (Ok outs) can handled = λ h up m whole place. record { luck = steady; is_luck = tt; is = handled.0 h up m whole place; blame = λ own. absurd own }
   served_so leaves shows clock found (Err nodes.OutOfMemory) can handled = handled.0
-  served_so leaves shows clock found (Err nodes.Down) can broken = down_step seen left_by may_leave leaves shows faults limit old new clock found can broken
+  served_so leaves shows clock found (Err nodes.Down) can broken = down_step w leaves shows old new clock found can broken
 
-  pub row_so : (clock : ℕ) (bytes : List ℕ) (result : Result Outs NodeFault) → RunsRow old clock bytes new result → Becomes seen left_by may_leave faults limit (λ s. MakesRow old clock bytes s) new result
+  pub row_so : (clock : ℕ) (bytes : List ℕ) (result : Result Outs NodeFault) → RunsRow old clock bytes new result → Becomes w (λ s. MakesRow old clock bytes s) new result
   row_so clock bytes (Ok outs) row = row
   row_so clock bytes (Err nodes.OutOfMemory) row = tt
   row_so clock bytes (Err nodes.Down) row = λ s line fallen. row
 
-  pub goes_on_so : (clock : ℕ) (found : Received) (result : Result Outs NodeFault) → Handled clock found result → Becomes seen left_by may_leave faults limit (λ s. GoesOnServed old s) new result
+  pub goes_on_so : (clock : ℕ) (found : Received) (result : Result Outs NodeFault) → Handled clock found result → Becomes w (λ s. GoesOnServed old s) new result
   goes_on_so clock found (Ok outs) handled = handled.1
   goes_on_so clock found (Err nodes.OutOfMemory) handled = handled.1
   goes_on_so clock found (Err nodes.Down) broken = λ s line fallen. tt
 
-  pub mark_so : (clock : ℕ) (found : Received) (result : Result Outs NodeFault) → Handled clock found result → Becomes seen left_by may_leave faults limit (λ s. KeepsMark old s) new result
+  pub mark_so : (clock : ℕ) (found : Received) (result : Result Outs NodeFault) → Handled clock found result → Becomes w (λ s. KeepsMark old s) new result
   mark_so clock found (Ok outs) handled = tt
   mark_so clock found (Err nodes.OutOfMemory) handled = tt
   mark_so clock found (Err nodes.Down) broken = λ s line fallen. fallen.mark ∙ ap (λ (t : Store (Fused D)). count_mark t.count) broken.closed
 
-  pub rests_so : (clock : ℕ) (found : Received) (result : Result Outs NodeFault) → Handled clock found result → Becomes seen left_by may_leave faults limit (λ s. RestsServed seen may_leave old.store.node s) new result
+  pub rests_so : (clock : ℕ) (found : Received) (result : Result Outs NodeFault) → Handled clock found result → Becomes w (λ s. RestsServed w old.store.node s) new result
   rests_so clock found (Ok outs) handled = tt
   rests_so clock found (Err nodes.OutOfMemory) handled = tt
   rests_so clock found (Err nodes.Down) broken = λ s line fallen crash. fallen.rests (crash ∙ ap (λ (n : Node). lines.Crash n) (ap (λ (t : Store (Fused D)). t.node) (sym broken.closed)))
 
-  pub told_so : (result : Result Outs NodeFault) → (IsSome (seen (disk_of new)) ↔ IsSome (seen (disk_of old))) → Becomes seen left_by may_leave faults limit (λ s. IsSome (seen (disk_served s)) ↔ IsSome (seen (disk_of old))) new result
+  pub told_so : (result : Result Outs NodeFault) → (IsSome (w.seen (disk_of new)) ↔ IsSome (w.seen (disk_of old))) → Becomes w (λ s. IsSome (w.seen (disk_served s)) ↔ IsSome (w.seen (disk_of old))) new result
   told_so (Ok outs) told = told
   told_so (Err nodes.OutOfMemory) told = told
   told_so (Err nodes.Down) told = λ s line fallen. ((λ tells. told.0 (fallen.told.0 tells)), (λ tells. fallen.told.1 (told.1 tells)))
 
-  pub limit_so : (result : Result Outs NodeFault) → limit (disk_of new) ≡ limit (disk_of old) → Becomes seen left_by may_leave faults limit (λ s. limit (disk_served s) ≡ limit (disk_of old)) new result
+  pub limit_so : (result : Result Outs NodeFault) → w.limit (disk_of new) ≡ w.limit (disk_of old) → Becomes w (λ s. w.limit (disk_served s) ≡ w.limit (disk_of old)) new result
   limit_so (Ok outs) same = same
   limit_so (Err nodes.OutOfMemory) same = same
   limit_so (Err nodes.Down) same = λ s line fallen. fallen.same_limit ∙ same
 
-  pub faults_so : (result : Result Outs NodeFault) → faults (disk_of old) ≤ faults (disk_of new) → Becomes seen left_by may_leave faults limit (λ s. faults (disk_of old) ≤ faults (disk_served s)) new result
+  pub faults_so : (result : Result Outs NodeFault) → w.faults (disk_of old) ≤ w.faults (disk_of new) → Becomes w (λ s. w.faults (disk_of old) ≤ w.faults (disk_served s)) new result
   faults_so (Ok outs) few = few
   faults_so (Err nodes.OutOfMemory) few = few
-  faults_so (Err nodes.Down) few = λ s line fallen. subst (λ (n : ℕ). faults (disk_of old) ≤ n) (sym fallen.same_faults) few
+  faults_so (Err nodes.Down) few = λ s line fallen. subst (λ (n : ℕ). w.faults (disk_of old) ≤ n) (sym fallen.same_faults) few

@@ -1,17 +1,17 @@
 -- What the disk of a location database that is down stands for.
-use Rattle.std.specs.Prelude.{◌≡◌, ◌+◌, ℕ, List, [], ◌∷◌, ◌++◌, Bool, true, Option, Some, None}
+use Rattle.std.specs.Prelude.{ℕ, List, [], Bool}
 use Rattle.afs_num.specs.declared.messages.Received.TheVariants.{Whole}
 use Rattle.afs_num.specs.declared.records.Mark.{Mark}
-use Rattle.afs_history.specs.declared.lines.Line.{Line}
 use Rattle.afs_journal.specs.Records.{whole_records}
-use Rattle.afs_records.specs.Durable.{mark_of}
-use Rattle.afs_records.specs.LocDurable.{loc_boot_record, LocDurable, LocStandFor}
-use Rattle.afs_records.specs.LocEffects.{loc_effect_of}
-use Rattle.afs_records.specs.LocRecords.{loc_record_at, loc_record_bytes, LocRecord}
-use Rattle.afs_rows.specs.Hosts.{at_rest, begun_from, in_boot, in_step, Fall}
+use Rattle.afs_records.specs.LocDurable.{LocDurable}
+use Rattle.afs_records.specs.LocRecords.{LocRecord}
+use Rattle.afs_rows.specs.Hosts.{begun_from, Fall}
 use Rattle.afs_rows.specs.LocRow.{loc_decides, LocLasting, LocState}
 use Rattle.afs_rows.specs.LocSteps.{loc_kind}
 use Rattle.afs_rows.specs.Steps.{Begun}
+use Rattle.afs_locstore.specs.LocFold.{loc_fold}
+use Rattle.afs_locstore.specs.declared.held.Held.{Held}
+use Rattle.afs_locstore.specs.declared.ready.Ready.{Ready}
 use Rattle.afs_locdb.specs.Handling.{loc_record_decided}
 use Rattle.afs_locdb.specs.Seen.{lasting_of}
 use Rattle.afs_host.specs.Standing.{IsKeptAs, IsKeptFound, IsKeptIn, Keeping}
@@ -20,40 +20,20 @@ use Rattle.afs_host.specs.Standing.{IsKeptAs, IsKeptFound, IsKeptIn, Keeping}
 abbrev pub loc_begun_by_disk : LocState → Bool → Fall → Begun LocState
 loc_begun_by_disk s after fall = begun_from loc_kind s after fall
 
--- the record that the interrupted step was to make, or the restart: at rest there is none
-abbrev pub loc_record_of_fall : LocState → Fall → Option LocRecord
-loc_record_of_fall s at_rest = None
-loc_record_of_fall s (in_step m clock b) = loc_record_decided s.lasting.boot (loc_decides s (Whole m))
-loc_record_of_fall s in_boot = Some (loc_boot_record (s.lasting.boot + 1))
+-- no caller has a seat before it is up
+abbrev pub loc_begun_state : LocDurable → LocState
+loc_begun_state d = record { lasting = lasting_of d; seats = [] }
 
--- the records are those of a durable part that is read so
-pub record LocStandsFor (records : List (List ℕ)) (l : LocLasting) : Type 0 where
-  pub durable : LocDurable
-  pub stands : LocStandFor records durable
-  pub read : lasting_of durable ≡ l
-
--- the records are those from before the interrupted step, and the mark tells their number
-pub record LocLiesBefore (s : LocState) (mark : Mark) (records : List (List ℕ)) : Type 0 where
-  pub before : LocStandsFor records s.lasting
-  pub marked : mark_of records ≡ mark
-
--- They are those, and then the record of the interrupted step, with which the durable part is that after it. What this record
--- tells is what the step would have told.
-pub record LocLiesAfter (s : LocState) (fall : Fall) (mark : Mark) (records : List (List ℕ)) : Type 0 where
-  pub first : List (List ℕ)
-  pub last : LocRecord
-  pub are : records ≡ first ++ loc_record_bytes last ∷ []
-  pub before : LocLiesBefore s mark first
-  pub made : loc_record_of_fall s fall ≡ Some last
-  pub read_again : loc_record_at (loc_record_bytes last) ≡ Some last
-  pub after : LocStandsFor records (loc_begun_by_disk s true fall).state.lasting
-  pub told : (ls : List Line) → (loc_begun_by_disk s true fall).before ls ≡ loc_effect_of last before.before.durable ++ ls
-
-abbrev pub loc_keeping : Keeping LocState
+abbrev pub loc_keeping : Keeping LocRecord LocDurable Held Ready LocLasting LocState
 loc_keeping = record {
-  capacity = λ s. s.lasting.capacity;
-  before = λ s mark records. LocLiesBefore s mark records;
-  after = λ s fall mark records. LocLiesAfter s fall mark records;
+  kind = loc_kind;
+  fold = loc_fold;
+  read = lasting_of;
+  lasting = λ s. s.lasting;
+  capacity = λ l. l.capacity;
+  boot = λ l. l.boot;
+  decided = λ s clock m. loc_record_decided s.lasting.boot (loc_decides s (Whole m));
+  begun = loc_begun_state;
 }
 
 abbrev pub LocLiesAs : LocState → Fall → Mark → Bool → List (List ℕ) → Type 0

@@ -1,5 +1,5 @@
 -- What becomes of a location database that was down and begins again.
-use Rattle.std.specs.Prelude.{◌≡◌, ◌≤◌, ◌⊎◌, ◌+◌, ℕ, List, [], ◌∷◌, ◌++◌, Option, Some, length, IsSome}
+use Rattle.std.specs.Prelude.{◌≡◌, ◌≤◌, ◌⊎◌, ◌+◌, ℕ, List, [], ◌∷◌, ◌++◌}
 use Rattle.afs_num.specs.declared.records.Mark.{Mark}
 use Rattle.afs_num.specs.declared.types.Node.TheVariants.{Loc}
 use Rattle.afs_history.specs.declared.lines.Line.{Line}
@@ -8,16 +8,17 @@ use Rattle.afs_history.specs.declared.lines.Outs.{Outs}
 use Rattle.afs_disk.specs.Disk.{Rose}
 use Rattle.afs_disk.specs.Fuses.{Fused}
 use Rattle.afs_disk.specs.declared.disk.Disk.{Ghosts}
-use Rattle.afs_journal.specs.Records.{whole_records}
-use Rattle.afs_records.specs.LocDurable.{loc_first_bad, LocDurable, LocStandFor}
-use Rattle.afs_rows.specs.Hosts.{at_rest, comes_up, fails_midway, goes, in_boot, is_full, settled, stays, unarmed}
-use Rattle.afs_rows.specs.LocRow.{loc_can_start, LocState}
+use Rattle.afs_records.specs.LocDurable.{LocDurable}
+use Rattle.afs_rows.specs.Hosts.{unarmed}
+use Rattle.afs_rows.specs.LocRow.{LocState}
 use Rattle.afs_rows.specs.LocSteps.{loc_kind, loc_start_row, LocHost}
 use Rattle.afs_rows.specs.Steps.{Begun}
-use Rattle.afs_locdb.specs.Seen.{lasting_of, loc_seen, Database}
+use Rattle.afs_locdb.specs.Seen.{loc_seen, Database}
 use Rattle.afs_host.specs.LocSeats.{loc_disk_of, DatabaseRunning, IsLocDown, IsLocStepDown, IsLocStepUp, LocCanRun}
+use Rattle.afs_host.specs.LocStanding.{loc_keeping}
 use Rattle.afs_host.specs.Seats.{Resting}
-use Rattle.afs_host.specs.Starting.{HasStarted}
+use Rattle.afs_host.specs.Starting.{BootsBy, BootsOverBy, HasFoundOver, HasStarted, IsRefusedOver, Sight}
+use Rattle.afs_host.specs.Views.{shown_database}
 use Rattle.afs_host.specs.declared.starting.Start.{Start}
 use Rattle.afs_host.specs.declared.starting.Start.TheVariants as starts
 
@@ -44,42 +45,21 @@ IsLocStarted {D} w old (starts.Lost s) = ⊥
 
 -- ---- whatever the disk tells
 
--- a restart over this durable part, which tells these lines first
-abbrev pub loc_begun_state : LocDurable → LocState
-loc_begun_state d = record { lasting = lasting_of d; seats = [] }
+-- it is never lost behind the record of its boot
+abbrev pub loc_sight : {D : Type 0} → Sight (Unit {0}) (Database (Fused D)) D LocState
+loc_sight {D} = record { state = λ none b. loc_seen b; shown = λ b. shown_database b; Lost = λ s. ⊥ }
 
-abbrev pub loc_begun_with : LocDurable → List Line → Begun LocState
-loc_begun_with d front = record { state = loc_begun_state d; before = λ ls. front ++ ls }
-
--- The record of the boot was put after what was found, and the database is up in that boot; or it didn't fit, or the disk failed while
--- it was written, and the database stays down. Or memory ran out before the record was begun. Where it isn't told
--- that the disk failed, its count is what it was before.
+-- so it boots over what was found
 abbrev pub LocBootsOver : {D : Type 0} → Ghosts D → LocDurable → List Line → ℕ → LocStart D → Type 0
-LocBootsOver {D} w d front before (starts.Up r outs) =
-    (settled (loc_can_start (loc_begun_state d)) comes_up ≡ comes_up) × (IsLocStepUp r [] outs (goes unarmed (loc_start_row (loc_begun_with d front))) × (w.faults (loc_disk_of r) ≡ before))
-LocBootsOver {D} w d front before (starts.Down s ls) =
-    ((settled (loc_can_start (loc_begun_state d)) is_full ≡ is_full) × ((ls ≡ front ++ lines.Full Loc ∷ []) × (w.faults s.disk ≡ before)))
-    ⊎ ((settled (loc_can_start (loc_begun_state d)) fails_midway ≡ fails_midway) × ((ls ≡ front ++ lines.Fault Loc ∷ []) × Rose before (w.faults s.disk)))
-LocBootsOver {D} w d front before (starts.Unchanged s) = w.faults s.disk ≡ before
-LocBootsOver {D} w d front before (starts.Lost s) = ⊥
+LocBootsOver {D} w d front before result = BootsOverBy loc_keeping loc_sight w loc_start_row d front before result
 
--- The disk failed before anything was found, or a record of this number can't be taken; that the database stays down is all that is told.
-pub record IsLocRefusedOver {D : Type 0} (w : Ghosts D) (old new : Resting D) (told : List Line) : Type 0 where
-  pub mark : new.mark ≡ old.mark
-  pub lines : told ≡ lines.Fault Loc ∷ []
-  pub cause : Rose (w.faults old.disk) (w.faults new.disk) ⊎ ((number : ℕ) × ((bytes : List ℕ) → w.seen old.disk ≡ Some bytes → loc_first_bad (w.limit old.disk) (whole_records bytes) ≡ Some number))
-
--- some durable part was found on the disk, and the boot is over that
-pub record LocHasFoundOver {D : Type 0} (w : Ghosts D) (old : Resting D) (result : LocStart D) : Type 0 where
-  pub durable : LocDurable
-  pub capacity : durable.capacity ≡ w.limit old.disk
-  pub front : List Line
-  pub boots : LocBootsOver w durable front (w.faults old.disk) result
+abbrev pub LocHasFoundOver : {D : Type 0} → Ghosts D → Resting D → LocStart D → Type 0
+LocHasFoundOver {D} w old result = HasFoundOver loc_keeping loc_sight w loc_start_row old result
 
 -- So it is also of a disk that doesn't tell its bytes. Of such a one nothing else is said of what was found on it.
 abbrev pub LocStartsOver : {D : Type 0} → Ghosts D → Resting D → LocStart D → Type 0
 LocStartsOver {D} w old (starts.Up r outs) = LocHasFoundOver w old (starts.Up r outs)
-LocStartsOver {D} w old (starts.Down s ls) = IsLocRefusedOver w old s ls ⊎ LocHasFoundOver w old (starts.Down s ls)
+LocStartsOver {D} w old (starts.Down s ls) = IsRefusedOver loc_keeping w old s ls ⊎ LocHasFoundOver w old (starts.Down s ls)
 LocStartsOver {D} w old (starts.Unchanged s) = w.faults s.disk ≡ w.faults old.disk
 LocStartsOver {D} w old (starts.Lost s) = ⊥
 
@@ -99,14 +79,6 @@ LocGoesOnStarted {D} old (starts.Lost s) = ⊥
 
 -- ---- the parts of a restart
 
--- A database that was made of a disk which held these records: the restart begins so, and with these lines.
-pub record IsLocFound {D : Type 0} (w : Ghosts D) (begun : Begun LocState) (records : List (List ℕ)) (front : List Line) (b : Database (Fused D)) : Type 0 where
-  pub read : lasting_of b.store.durable ≡ begun.state.lasting
-  pub before : (ls : List Line) → begun.before ls ≡ front ++ ls
-  pub stands : LocStandFor records b.store.durable
-  pub counted : b.store.count ≡ length records
-  pub told : (bytes : List ℕ) × ((w.seen b.store.disk.disk ≡ Some bytes) × (whole_records bytes ≡ records))
-
 -- The database is up over its store, whose boot has begun: it tells these lines first and then that it is up.
 pub record LocHasRisen {D : Type 0} (b : Database (Fused D)) (front : List Line) (r : DatabaseRunning D) (outs : Outs) : Type 0 where
   pub store : r.store ≡ b
@@ -121,16 +93,9 @@ LocRises {D} b front (starts.Down d ls) = ⊥
 LocRises {D} b front (starts.Unchanged d) = ⊥
 LocRises {D} b front (starts.Lost d) = ⊥
 
--- The record of the boot was put on the disk, and the database is up; or it didn't fit, or the disk failed, and it stays down. Or
--- memory ran out before that, and whatever a crash leaves has the records that were there.
+-- The record of the boot was put on the disk, or the database stays down, over a store that was made of its disk.
 abbrev pub LocBootsFrom : {D : Type 0} → Ghosts D → Begun LocState → List (List ℕ) → D → LocStart D → Type 0
-LocBootsFrom {D} w begun records disk (starts.Up r outs) =
-    (settled (loc_can_start begun.state) comes_up ≡ comes_up) × IsLocStepUp r [] outs (goes unarmed (loc_start_row begun))
-LocBootsFrom {D} w begun records disk (starts.Down d ls) =
-    ((settled (loc_can_start begun.state) is_full ≡ is_full) × IsLocStepDown w.seen w.may_leave w.limit d ls (stays begun (lines.Full Loc) at_rest))
-    ⊎ ((settled (loc_can_start begun.state) fails_midway ≡ fails_midway) × (IsLocStepDown w.seen w.may_leave w.limit d ls (stays begun (lines.Fault Loc) in_boot) × Rose (w.faults disk) (w.faults d.disk)))
-LocBootsFrom {D} w begun records disk (starts.Unchanged d) = IsSome (w.seen d.disk) → (c : List ℕ) → w.may_leave d.disk c → whole_records c ≡ records
-LocBootsFrom {D} w begun records disk (starts.Lost d) = ⊥
+LocBootsFrom {D} w begun records disk result = BootsBy loc_keeping loc_sight w loc_start_row begun records disk result
 
 -- whatever the disk tells
 abbrev pub LocGoesOnBooted : {D : Type 0} → Database (Fused D) → Mark → LocStart D → Type 0

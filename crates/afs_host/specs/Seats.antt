@@ -39,11 +39,11 @@ pub record IsHostUp {N T S : Type 0} (seen : N → T → S) (r : Running N T) (h
 
 -- One that is down fell so, and nothing is set at it. Where its disk tells, whatever a crash may leave of that stands for the
 -- host's durable part, or for that with the interrupted step; and what a read gives stands for the one that a restart may find.
-pub record IsHostDown {D S : Type 0} (seen : D → Option (List ℕ)) (may_leave : D → List ℕ → Type 0) (limit : D → ℕ) (keeping : Keeping S) (s : Resting D) (h : Host S) : Type 0 where
+pub record IsHostDown {D R T M P L S : Type 0} (seen : D → Option (List ℕ)) (may_leave : D → List ℕ → Type 0) (limit : D → ℕ) (keeping : Keeping R T M P L S) (s : Resting D) (h : Host S) : Type 0 where
   pub fall : Fall
   pub down : h.down ≡ Some fall
   pub armed : h.armed ≡ unarmed
-  pub capacity : keeping.capacity h.state ≡ limit s.disk
+  pub capacity : keeping.capacity (keeping.lasting h.state) ≡ limit s.disk
   pub lies : IsSome (seen s.disk) → (bytes : List ℕ) → may_leave s.disk bytes → IsKeptIn keeping h.state fall s.mark (whole_records bytes)
   pub found : (bytes : List ℕ) → seen s.disk ≡ Some bytes → IsKeptFound keeping h.state fall s.mark (whole_records bytes)
 
@@ -54,7 +54,7 @@ pub record IsHostStepUp {N T S : Type 0} (seen : N → T → S) (r : Running N T
   pub sent : parcels_read outs.parcels ≡ messages_spelled s.sent
 
 -- The node is down after this step, whose lines are these.
-pub record IsHostStepDown {D S : Type 0} (seen : D → Option (List ℕ)) (may_leave : D → List ℕ → Type 0) (limit : D → ℕ) (keeping : Keeping S) (r : Resting D) (told : List Line) (s : HostStep S) : Type 0 where
+pub record IsHostStepDown {D R T M P L S : Type 0} (seen : D → Option (List ℕ)) (may_leave : D → List ℕ → Type 0) (limit : D → ℕ) (keeping : Keeping R T M P L S) (r : Resting D) (told : List Line) (s : HostStep S) : Type 0 where
   pub host : IsHostDown seen may_leave limit keeping r s.host
   pub lines : told ≡ s.lines
   pub sent : s.sent ≡ []

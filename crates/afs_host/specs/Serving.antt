@@ -8,6 +8,7 @@ use Rattle.afs_history.specs.declared.lines.Line.{Line}
 use Rattle.afs_history.specs.declared.lines.Line.TheVariants as lines
 use Rattle.afs_history.specs.declared.lines.Outs.{Outs}
 use Rattle.afs_disk.specs.Disk.{IsBeyond, LeavesJust, Rose, Trips}
+use Rattle.afs_disk.specs.declared.disk.Disk.{Ghosts}
 use Rattle.afs_journal.specs.Left.{is_left_whole, ReachesCall}
 use Rattle.afs_journal.specs.Records.{whole_records}
 use Rattle.afs_model.specs.Messages.{received, received_by}
@@ -44,16 +45,15 @@ pub record HasServed {S : Type 0} (kind : Kind S) (h : Host S) (clock place : �
 
 -- So it is of each host that the server stands for, and of the message that was found, at any place: the server is up, and gave
 -- this out after the line of the place; or it went down, and that line and this are all. Or memory ran out, and it is as it was.
-abbrev pub IsServed : {D : Type 0} → (D → Option (List ℕ)) → (D → ℕ → Option (List ℕ)) → (D → ℕ) → (D → List ℕ → Type 0) → (D → ℕ) → (D → ℕ → List ℕ → Type 0) → (D → ℕ) → (D → ℕ) →
-    ServerRunning D → ℕ → Received → Served (ServerRunning D) D → Type 0
-IsServed {D} seen left_by size may_leave moment left_since faults limit old clock found (is_up r outs) =
+abbrev pub IsServed : {D : Type 0} → Ghosts D → ServerRunning D → ℕ → Received → Served (ServerRunning D) D → Type 0
+IsServed {D} w old clock found (is_up r outs) =
     (h : ServerHost) → IsUp old h → (m : Message) → found ≡ Whole m → (place : ℕ) →
-    HasServed (server_kind old.store.node) h clock place m (IsStepUp r (lines.Given place ∷ []) outs) (Rose (faults (disk_of old)) (faults (disk_of r)))
-IsServed {D} seen left_by size may_leave moment left_since faults limit old clock found (is_down s line) =
+    HasServed (server_kind old.store.node) h clock place m (IsStepUp r (lines.Given place ∷ []) outs) (Rose (w.faults (disk_of old)) (w.faults (disk_of r)))
+IsServed {D} w old clock found (is_down s line) =
     (h : ServerHost) → IsUp old h → (m : Message) → found ≡ Whole m → (place : ℕ) →
-    HasServed (server_kind old.store.node) h clock place m (IsStepDown seen may_leave limit old.store.node s (lines.Given place ∷ line ∷ [])) (Rose (faults (disk_of old)) (faults s.disk))
-IsServed {D} seen left_by size may_leave moment left_since faults limit old clock found (unchanged r) =
-    IsSame seen left_by size may_leave moment left_since old r
+    HasServed (server_kind old.store.node) h clock place m (IsStepDown w.seen w.may_leave w.limit old.store.node s (lines.Given place ∷ line ∷ [])) (Rose (w.faults (disk_of old)) (w.faults s.disk))
+IsServed {D} w old clock found (unchanged r) =
+    IsSame w.seen w.left_by w.size w.may_leave w.moment w.left_since old r
 
 -- Whatever the bytes are, the server makes the step of its row on what it finds in them; or it went down, and they are those of a
 -- message.
@@ -68,28 +68,27 @@ MakesRow {D} old clock bytes (unchanged r) = Unit {0}
 -- The store's device call failed, and with it the step: a record was begun. Whatever a crash may leave of the disk now stands for the
 -- state before the step or after it. At most four device calls came, and the last was set to trip, or the disk failed by itself. Where
 -- it was set, what a crash with each pick leaves is told by that call.
-pub record IsBroken {D : Type 0} (seen : D → Option (List ℕ)) (left_by : D → ℕ → Option (List ℕ)) (may_leave : D → List ℕ → Type 0) (faults limit : D → ℕ) (old : ServerRunning D) (clock : ℕ) (found : Received) (new : ServerRunning D) : Type 0 where
+pub record IsBroken {D : Type 0} (w : Ghosts D) (old : ServerRunning D) (clock : ℕ) (found : Received) (new : ServerRunning D) : Type 0 where
   pub armed : new.armed ≡ old.armed
   pub closed : IsClosed old.store new.store
-  pub lies : (m : Message) (b : Blow) → found ≡ Whole m → IsSome (seen (disk_of new)) → (c : List ℕ) → may_leave (disk_of new) c → Lies old.store.node (server_seen old.memory old.store) (in_step m clock b) (count_mark old.store.count) c
+  pub lies : (m : Message) (b : Blow) → found ≡ Whole m → IsSome (w.seen (disk_of new)) → (c : List ℕ) → w.may_leave (disk_of new) c → Lies old.store.node (server_seen old.memory old.store) (in_step m clock b) (count_mark old.store.count) c
   pub reached : ReachesCall (record { stop = old.store.disk.stop; fail = old.store.disk.fail }) old.store.disk.calls new.store.disk.calls
-  pub left : (m : Message) (b : Blow) → found ≡ Whole m → IsSome (seen (disk_of new)) → Trips (record { stop = old.store.disk.stop; fail = old.store.disk.fail }) new.store.disk.calls → (pick : ℕ) (c : List ℕ) → left_by (disk_of new) pick ≡ Some c
+  pub left : (m : Message) (b : Blow) → found ≡ Whole m → IsSome (w.seen (disk_of new)) → Trips (record { stop = old.store.disk.stop; fail = old.store.disk.fail }) new.store.disk.calls → (pick : ℕ) (c : List ℕ) → w.left_by (disk_of new) pick ≡ Some c
       → LiesAs old.store.node (server_seen old.memory old.store) (in_step m clock b) (count_mark old.store.count) (is_left_whole (new.store.disk.calls - old.store.disk.calls) pick) (whole_records c)
   pub saves : (m : Message) → found ≡ Whole m → device_calls (server_seen old.memory old.store) clock (decides old.store.node (server_seen old.memory old.store) clock (Whole m)) ≡ 4
   pub few : new.store.disk.calls ≤ old.store.disk.calls + 4
   pub stop : new.store.disk.stop ≡ old.store.disk.stop
   pub fail : new.store.disk.fail ≡ old.store.disk.fail
-  pub cause : Trips (record { stop = old.store.disk.stop; fail = old.store.disk.fail }) new.store.disk.calls ⊎ Rose (faults (disk_of old)) (faults (disk_of new))
-  pub capacity : old.store.durable.capacity ≡ limit (disk_of new)
+  pub cause : Trips (record { stop = old.store.disk.stop; fail = old.store.disk.fail }) new.store.disk.calls ⊎ Rose (w.faults (disk_of old)) (w.faults (disk_of new))
+  pub capacity : old.store.durable.capacity ≡ w.limit (disk_of new)
 
 -- of a server that was given a message, as long as it is one
-abbrev pub IsHandled : {D : Type 0} → (D → Option (List ℕ)) → (D → ℕ → Option (List ℕ)) → (D → ℕ) → (D → List ℕ → Type 0) → (D → ℕ) → (D → ℕ → List ℕ → Type 0) → (D → ℕ) → (D → ℕ) →
-    ServerRunning D → ℕ → Received → ServerRunning D → Result Outs NodeFault → Type 0
-IsHandled {D} seen left_by size may_leave moment left_since faults limit old clock found new (Ok outs) =
+abbrev pub IsHandled : {D : Type 0} → Ghosts D → ServerRunning D → ℕ → Received → ServerRunning D → Result Outs NodeFault → Type 0
+IsHandled {D} w old clock found new (Ok outs) =
     ((h : ServerHost) → IsUp old h → (m : Message) → found ≡ Whole m → (place : ℕ) → IsStepUp new (lines.Given place ∷ []) outs (served (server_kind old.store.node) h clock place steady m)) × GoesOn 4 50 old new
-IsHandled {D} seen left_by size may_leave moment left_since faults limit old clock found new (Err nodes.OutOfMemory) =
-    IsSame seen left_by size may_leave moment left_since old new × GoesOn 4 50 old new
-IsHandled {D} seen left_by size may_leave moment left_since faults limit old clock found new (Err nodes.Down) = IsBroken seen left_by may_leave faults limit old clock found new
+IsHandled {D} w old clock found new (Err nodes.OutOfMemory) =
+    IsSame w.seen w.left_by w.size w.may_leave w.moment w.left_since old new × GoesOn 4 50 old new
+IsHandled {D} w old clock found new (Err nodes.Down) = IsBroken w old clock found new
 
 -- the row's step was made, whatever the bytes were; or their message's was ended
 abbrev pub RunsRow : {D : Type 0} → ServerRunning D → ℕ → List ℕ → ServerRunning D → Result Outs NodeFault → Type 0
@@ -120,10 +119,10 @@ abbrev pub HasFallen : {D : Type 0} → (D → Option (List ℕ)) → (D → ℕ
 HasFallen {D} seen left_by may_leave faults limit r s line = HasGoneDown seen left_by may_leave faults limit (shown_store r.store) r.armed s line
 
 -- It is so, whatever became of the server: where its disk ended the step, that is what is left of it once it has fallen.
-abbrev pub Becomes : {D : Type 0} → (D → Option (List ℕ)) → (D → ℕ → Option (List ℕ)) → (D → List ℕ → Type 0) → (D → ℕ) → (D → ℕ) → (Served (ServerRunning D) D → Type 0) → ServerRunning D → Result Outs NodeFault → Type 0
-Becomes {D} seen left_by may_leave faults limit Is new (Ok outs) = Is (is_up new outs)
-Becomes {D} seen left_by may_leave faults limit Is new (Err nodes.OutOfMemory) = Is (unchanged new)
-Becomes {D} seen left_by may_leave faults limit Is new (Err nodes.Down) = (s : Resting D) (line : Line) → HasFallen seen left_by may_leave faults limit new s line → Is (is_down s line)
+abbrev pub Becomes : {D : Type 0} → Ghosts D → (Served (ServerRunning D) D → Type 0) → ServerRunning D → Result Outs NodeFault → Type 0
+Becomes {D} w Is new (Ok outs) = Is (is_up new outs)
+Becomes {D} w Is new (Err nodes.OutOfMemory) = Is (unchanged new)
+Becomes {D} w Is new (Err nodes.Down) = (s : Resting D) (line : Line) → HasFallen w.seen w.left_by w.may_leave w.faults w.limit new s line → Is (is_down s line)
 
 -- where it went down its mark is that from before the step, whatever its disk tells
 abbrev pub KeepsMark : {D : Type 0} → ServerRunning D → Served (ServerRunning D) D → Type 0
@@ -132,10 +131,10 @@ KeepsMark {D} old (is_down s line) = s.mark ≡ count_mark old.store.count
 KeepsMark {D} old (unchanged r) = Unit {0}
 
 -- where it was stopped, what a read gives is what its disk keeps
-abbrev pub RestsServed : {D : Type 0} → (D → Option (List ℕ)) → (D → List ℕ → Type 0) → Node → Served (ServerRunning D) D → Type 0
-RestsServed {D} seen may_leave me (is_up r outs) = Unit {0}
-RestsServed {D} seen may_leave me (is_down s line) = line ≡ lines.Crash me → IfSome (seen s.disk) (λ bytes. LeavesJust bytes (may_leave s.disk))
-RestsServed {D} seen may_leave me (unchanged r) = Unit {0}
+abbrev pub RestsServed : {D : Type 0} → Ghosts D → Node → Served (ServerRunning D) D → Type 0
+RestsServed {D} w me (is_up r outs) = Unit {0}
+RestsServed {D} w me (is_down s line) = line ≡ lines.Crash me → IfSome (w.seen s.disk) (λ bytes. LeavesJust bytes (w.may_leave s.disk))
+RestsServed {D} w me (unchanged r) = Unit {0}
 
 -- ---- while it is up it can be given what comes next
 abbrev pub GoesOnServed : {D : Type 0} → ServerRunning D → Served (ServerRunning D) D → Type 0

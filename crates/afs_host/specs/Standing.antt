@@ -1,79 +1,93 @@
--- What the disk of a server that is down stands for.
-use Rattle.std.specs.Prelude.{◌≡◌, ◌⊎◌, ◌+◌, ℕ, List, [], ◌∷◌, ◌++◌, map, Bool, true, false, Option, Some, None}
-use Rattle.afs_num.specs.declared.types.Node.{Node}
+-- What the disk of a node that is down stands for, of whatever kind the node is; and that of a file server.
+use Rattle.std.specs.Prelude.{◌≡◌, ◌⊎◌, ◌+◌, ℕ, List, [], ◌∷◌, ◌++◌, Bool, true, false, Option, Some, None}
 use Rattle.afs_num.specs.declared.messages.Message.{Message}
 use Rattle.afs_num.specs.declared.messages.Received.TheVariants.{Whole}
 use Rattle.afs_num.specs.declared.records.Mark.{Mark}
 use Rattle.afs_num.specs.declared.records.StoreRecord.{StoreRecord}
+use Rattle.afs_num.specs.declared.types.Node.{Node}
 use Rattle.afs_history.specs.declared.lines.Line.{Line}
 use Rattle.afs_journal.specs.Records.{whole_records}
-use Rattle.afs_records.specs.Changes.{boot_record}
-use Rattle.afs_records.specs.Durable.{effect_of, mark_of, Durable, StandFor}
-use Rattle.afs_records.specs.Records.{record_at, record_bytes}
-use Rattle.afs_rows.specs.Runs.{at_rest, begun_by_disk, in_boot, in_step, Fall, MayFind}
+use Rattle.afs_records.specs.Durable.{mark_of, Durable}
+use Rattle.afs_rows.specs.Hosts.{at_rest, begun_from, in_boot, in_step, Fall, Kind, MayFind}
+use Rattle.afs_rows.specs.ServerHosts.{server_kind}
 use Rattle.afs_rows.specs.ServerRow.{decides}
 use Rattle.afs_rows.specs.States.{Lasting, ServerState}
-use Rattle.afs_memory.specs.Telling.{in_words}
+use Rattle.afs_memory.specs.declared.prepared.Prepared.{Prepared}
+use Rattle.afs_store.specs.Folding.{Folding}
+use Rattle.afs_store.specs.Stores.{StandFor}
+use Rattle.afs_volstore.specs.VolumeFold.{volume_fold}
+use Rattle.afs_volstore.specs.declared.held.Held.{Held}
 use Rattle.afs_server.specs.Handling.{record_decided}
-use Rattle.afs_server.specs.Seen.{lasting_of}
-
--- the record that the interrupted step was to make, or the restart: at rest there is none
-abbrev pub record_of_fall : Node → ServerState → Fall → Option StoreRecord
-record_of_fall me s at_rest = None
-record_of_fall me s (in_step m clock b) = record_decided s.lasting.boot clock (decides me s clock (Whole m))
-record_of_fall me s in_boot = Some (boot_record (s.lasting.boot + 1))
-
--- the records are those of a durable part that is read so
-pub record StandsFor (records : List (List ℕ)) (l : Lasting) : Type 0 where
-  pub durable : Durable
-  pub stands : StandFor records durable
-  pub read : lasting_of durable ≡ l
-
--- the records are those from before the interrupted step, and the mark tells their number
-pub record LiesBefore (s : ServerState) (mark : Mark) (records : List (List ℕ)) : Type 0 where
-  pub before : StandsFor records s.lasting
-  pub marked : mark_of records ≡ mark
-
--- They are those, and then the record of the interrupted step, with which the durable part is that after it. What this record
--- tells is what the step would have told.
-pub record LiesAfter (me : Node) (s : ServerState) (fall : Fall) (mark : Mark) (records : List (List ℕ)) : Type 0 where
-  pub first : List (List ℕ)
-  pub last : StoreRecord
-  pub are : records ≡ first ++ record_bytes last ∷ []
-  pub before : LiesBefore s mark first
-  pub made : record_of_fall me s fall ≡ Some last
-  pub read_again : record_at (record_bytes last) ≡ Some last
-  pub after : StandsFor records (begun_by_disk me s true fall).state.lasting
-  pub told : (ls : List Line) → (begun_by_disk me s true fall).before ls ≡ map in_words (effect_of me last before.before.durable) ++ ls
+use Rattle.afs_server.specs.Seen.{begun_state, lasting_of}
 
 -- ---- a node of any kind
 
--- How a kind of node keeps its state on its disk: for how many bytes the disk has room; and when records are those of the state from before
--- an interrupted step, as many as a mark tells, or those of the state after it, which fell so.
-pub record Keeping (S : Type 0) : Type 1 where
-  pub capacity : S → ℕ
-  pub before : S → Mark → List (List ℕ) → Type 0
-  pub after : S → Fall → Mark → List (List ℕ) → Type 0
+-- How a kind of node, whose state is one of S, keeps that on its disk: by which records R, which make there what is one of T; what is
+-- read of this, and what of the state lasts, both as one of L, with the room of the disk and the boot in that; the record of a step that
+-- a message begins at this clock; and the state over what a restart finds.
+pub record Keeping (R T M P L S : Type 0) : Type 1 where
+  pub kind : Kind S
+  pub fold : Folding R T M P
+  pub read : T → L
+  pub lasting : S → L
+  pub capacity : L → ℕ
+  pub boot : L → ℕ
+  pub decided : S → ℕ → Message → Option R
+  pub begun : T → S
+
+-- the record that the interrupted step was to make, or the restart: at rest there is none
+abbrev pub record_of_fall : {R T M P L S : Type 0} → Keeping R T M P L S → S → Fall → Option R
+record_of_fall k s at_rest = None
+record_of_fall k s (in_step m clock b) = k.decided s clock m
+record_of_fall k s in_boot = Some (k.fold.start (k.boot (k.lasting s) + 1))
+
+-- the records are those of a disk that is read so
+pub record StandsFor {R T M P L S : Type 0} (k : Keeping R T M P L S) (records : List (List ℕ)) (l : L) : Type 0 where
+  pub durable : T
+  pub stands : StandFor k.fold records durable
+  pub read : k.read durable ≡ l
+
+-- the records are those from before the interrupted step, and the mark tells their number
+pub record LiesBefore {R T M P L S : Type 0} (k : Keeping R T M P L S) (s : S) (mark : Mark) (records : List (List ℕ)) : Type 0 where
+  pub before : StandsFor k records (k.lasting s)
+  pub marked : mark_of records ≡ mark
+
+-- They are those, and then the record of the interrupted step, with which the disk is that after it. What this record tells is what the
+-- step would have told.
+pub record LiesAfter {R T M P L S : Type 0} (k : Keeping R T M P L S) (s : S) (fall : Fall) (mark : Mark) (records : List (List ℕ)) : Type 0 where
+  pub first : List (List ℕ)
+  pub last : R
+  pub are : records ≡ first ++ k.fold.spelled last ∷ []
+  pub before : LiesBefore k s mark first
+  pub made : record_of_fall k s fall ≡ Some last
+  pub read_again : k.fold.read (k.fold.spelled last) ≡ Some last
+  pub after : StandsFor k records (k.lasting (begun_from k.kind s true fall).state)
+  pub told : (ls : List Line) → (begun_from k.kind s true fall).before ls ≡ k.fold.in_words (k.fold.effect k.kind.me last before.before.durable) ++ ls
 
 -- the one or the other
-abbrev pub IsKeptAs : {S : Type 0} → Keeping S → S → Fall → Mark → Bool → List (List ℕ) → Type 0
-IsKeptAs {S} keeping s fall mark false records = keeping.before s mark records
-IsKeptAs {S} keeping s fall mark true records = keeping.after s fall mark records
+abbrev pub IsKeptAs : {R T M P L S : Type 0} → Keeping R T M P L S → S → Fall → Mark → Bool → List (List ℕ) → Type 0
+IsKeptAs k s fall mark false records = LiesBefore k s mark records
+IsKeptAs k s fall mark true records = LiesAfter k s fall mark records
 
 -- They are those that a restart may find: where the disk was set to the blow that ended the step, that tells which.
-abbrev pub IsKeptFound : {S : Type 0} → Keeping S → S → Fall → Mark → List (List ℕ) → Type 0
-IsKeptFound {S} keeping s fall mark records = (after : Bool) × (MayFind fall after × IsKeptAs keeping s fall mark after records)
+abbrev pub IsKeptFound : {R T M P L S : Type 0} → Keeping R T M P L S → S → Fall → Mark → List (List ℕ) → Type 0
+IsKeptFound k s fall mark records = (after : Bool) × (MayFind fall after × IsKeptAs k s fall mark after records)
 
-abbrev pub IsKeptIn : {S : Type 0} → Keeping S → S → Fall → Mark → List (List ℕ) → Type 0
-IsKeptIn {S} keeping s fall mark records = keeping.before s mark records ⊎ keeping.after s fall mark records
+abbrev pub IsKeptIn : {R T M P L S : Type 0} → Keeping R T M P L S → S → Fall → Mark → List (List ℕ) → Type 0
+IsKeptIn k s fall mark records = LiesBefore k s mark records ⊎ LiesAfter k s fall mark records
 
 -- ---- a file server
 
-abbrev pub server_keeping : Node → Keeping ServerState
+abbrev pub server_keeping : Node → Keeping StoreRecord Durable Held Prepared Lasting ServerState
 server_keeping me = record {
-  capacity = λ s. s.lasting.capacity;
-  before = λ s mark records. LiesBefore s mark records;
-  after = λ s fall mark records. LiesAfter me s fall mark records;
+  kind = server_kind me;
+  fold = volume_fold;
+  read = lasting_of;
+  lasting = λ s. s.lasting;
+  capacity = λ l. l.capacity;
+  boot = λ l. l.boot;
+  decided = λ s clock m. record_decided s.lasting.boot clock (decides me s clock (Whole m));
+  begun = begun_state;
 }
 
 abbrev pub LiesAs : Node → ServerState → Fall → Mark → Bool → List (List ℕ) → Type 0

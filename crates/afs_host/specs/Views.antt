@@ -3,8 +3,12 @@ use Rattle.std.specs.Prelude.{ℕ, Bool}
 use Rattle.afs_num.specs.declared.records.Mark.{Mark}
 use Rattle.afs_num.specs.declared.types.Node.{Node}
 use Rattle.afs_disk.specs.Fuses.{Fused}
-use Rattle.afs_locdb.specs.Seen.{Database}
+use Rattle.afs_store.specs.Folding.{Folding}
+use Rattle.afs_store.specs.Stores.{StoreOf}
 use Rattle.afs_volstore.specs.Stores.{Store}
+use Rattle.afs_volstore.specs.VolumeFold.{volume_fold}
+use Rattle.afs_locstore.specs.LocFold.{loc_fold}
+use Rattle.afs_locdb.specs.Seen.{Database}
 
 -- so many records, as a mark
 abbrev pub count_mark : ℕ → Mark
@@ -19,10 +23,14 @@ pub record StoreView (D : Type 0) : Type 0 where
   pub count : ℕ
   pub capacity : ℕ
 
--- so a file server's store is seen
-abbrev pub shown_store : {D : Type 0} → Store (Fused D) → StoreView D
-shown_store {D} s = record { fuse = s.disk; node = s.node; closed = s.closed; count = s.count; capacity = s.durable.capacity }
+-- so a store of any records is seen
+abbrev pub shown_by : {R T M P D : Type 0} → Folding R T M P → StoreOf (Fused D) R T → StoreView D
+shown_by k s = record { fuse = s.disk; node = s.node; closed = s.closed; count = s.count; capacity = k.capacity s.durable }
 
--- and so the location database's
+-- a file server's
+abbrev pub shown_store : {D : Type 0} → Store (Fused D) → StoreView D
+shown_store {D} s = shown_by volume_fold s
+
+-- and the location database's
 abbrev pub shown_database : {D : Type 0} → Database (Fused D) → StoreView D
-shown_database {D} b = record { fuse = b.store.disk; node = b.store.node; closed = b.store.closed; count = b.store.count; capacity = b.store.durable.capacity }
+shown_database {D} b = shown_by loc_fold b.store

@@ -5,7 +5,9 @@ ghost use Rattle.afs_num.specs.declared.types.Node.TheVariants.{Loc};
 ghost use Rattle.afs_rows.specs.LocRow.{LocState};
 ghost use Rattle.afs_rows.specs.Steps.{Begun};
 ghost use Rattle.afs_locdb.specs.Seen.{Serves};
-ghost use Rattle.afs_host.specs.LocStarting.{loc_disk_started, IsLocFound, IsLocStarted, LocBootsFrom, LocBootsOver, LocGoesOnBooted, LocGoesOnStarted, LocRises, LocStartsOver};
+ghost use Rattle.afs_host.specs.LocStanding.{loc_keeping};
+ghost use Rattle.afs_host.specs.LocStarting.{loc_disk_started, IsLocStarted, LocBootsFrom, LocBootsOver, LocGoesOnBooted, LocGoesOnStarted, LocRises, LocStartsOver};
+ghost use Rattle.afs_host.specs.Starting.{IsFound};
 
 use crate::resting::Resting;
 use crate::running::{DatabaseRunning, Running};
@@ -54,7 +56,7 @@ fn boot<D: Disk>(
     requires up { store.store.closed ≡ false }
     requires node { store.store.node ≡ Loc }
     requires unset { (store.store.disk.stop ≡ None) × (store.store.disk.fail ≡ None) }
-    ensures boots { (begun : Begun LocState) (records : List (List ℕ)) → IsLocFound D.Disk begun records front store → LocBootsFrom D.Disk begun records store.store.disk.disk result }
+    ensures boots { (begun : Begun LocState) (records : List (List ℕ)) → IsFound loc_keeping D.Disk begun records front store.store → LocBootsFrom D.Disk begun records store.store.disk.disk result }
     ensures over { LocBootsOver D.Disk store.store.durable front (D.faults store.store.disk.disk) result }
     ensures goes_on { LocGoesOnBooted store told result }
     ensures told { IsSome (D.seen (loc_disk_started result)) ↔ IsSome (D.seen store.store.disk.disk) }

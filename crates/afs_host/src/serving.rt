@@ -22,14 +22,14 @@ impl<D: Disk> Running<FileServer, VolStore<Fuse<D>>> {
         requires can_run { CanRun self.old }
         requires draws { CanDraw self.old.memory self.old.store.drawn }
         requires now { now ≤ 1000000000 }
-        ensures served { Becomes D.seen D.left_by D.may_leave D.faults D.limit (λ s. IsServed D.seen D.left_by D.size D.may_leave D.moment D.left_since D.faults D.limit self.old now (received bytes.now) s) self.new result }
-        ensures row { Becomes D.seen D.left_by D.may_leave D.faults D.limit (λ s. MakesRow self.old now bytes.now s) self.new result }
-        ensures goes_on { Becomes D.seen D.left_by D.may_leave D.faults D.limit (λ s. GoesOnServed self.old s) self.new result }
-        ensures mark { Becomes D.seen D.left_by D.may_leave D.faults D.limit (λ s. KeepsMark self.old s) self.new result }
-        ensures rests { Becomes D.seen D.left_by D.may_leave D.faults D.limit (λ s. RestsServed D.seen D.may_leave self.old.store.node s) self.new result }
-        ensures told { Becomes D.seen D.left_by D.may_leave D.faults D.limit (λ s. IsSome (D.seen (disk_served s)) ↔ IsSome (D.seen (disk_of self.old))) self.new result }
-        ensures limit { Becomes D.seen D.left_by D.may_leave D.faults D.limit (λ s. D.limit (disk_served s) ≡ D.limit (disk_of self.old)) self.new result }
-        ensures faults { Becomes D.seen D.left_by D.may_leave D.faults D.limit (λ s. D.faults (disk_of self.old) ≤ D.faults (disk_served s)) self.new result }
+        ensures served { Becomes D.Disk (λ s. IsServed D.Disk self.old now (received bytes.now) s) self.new result }
+        ensures row { Becomes D.Disk (λ s. MakesRow self.old now bytes.now s) self.new result }
+        ensures goes_on { Becomes D.Disk (λ s. GoesOnServed self.old s) self.new result }
+        ensures mark { Becomes D.Disk (λ s. KeepsMark self.old s) self.new result }
+        ensures rests { Becomes D.Disk (λ s. RestsServed D.Disk self.old.store.node s) self.new result }
+        ensures told { Becomes D.Disk (λ s. IsSome (D.seen (disk_served s)) ↔ IsSome (D.seen (disk_of self.old))) self.new result }
+        ensures limit { Becomes D.Disk (λ s. D.limit (disk_served s) ≡ D.limit (disk_of self.old)) self.new result }
+        ensures faults { Becomes D.Disk (λ s. D.faults (disk_of self.old) ≤ D.faults (disk_served s)) self.new result }
     {
         self.handle(bytes, now)
     }
@@ -39,7 +39,7 @@ impl<D: Disk> Running<FileServer, VolStore<Fuse<D>>> {
         requires can_run { CanRun self.old }
         requires draws { CanDraw self.old.memory self.old.store.drawn }
         requires now { now ≤ 1000000000 }
-        ensures handled { IsHandled D.seen D.left_by D.size D.may_leave D.moment D.left_since D.faults D.limit self.old now (received bytes.now) self.new result }
+        ensures handled { IsHandled D.Disk self.old now (received bytes.now) self.new result }
         ensures row { RunsRow self.old now bytes.now self.new result }
         ensures told { IsSome (D.seen (disk_of self.new)) ↔ IsSome (D.seen (disk_of self.old)) }
         ensures limit { D.limit (disk_of self.new) ≡ D.limit (disk_of self.old) }

@@ -6,6 +6,7 @@ ghost use Rattle.afs_history.specs.declared.lines.Line.TheVariants as lines;
 ghost use Rattle.afs_rows.specs.States.{ServerState};
 ghost use Rattle.afs_rows.specs.Steps.{Begun};
 ghost use Rattle.afs_volstore.specs.Stores.{IsCounted};
+ghost use Rattle.afs_host.specs.Standing.{server_keeping};
 ghost use Rattle.afs_host.specs.Starting.{disk_started, BootsFrom, BootsOver, GoesOnBooted, GoesOnStarted, IsFound, IsRefused, IsStarted, Rises, StartsOver, Stays};
 
 use crate::resting::{Resting, rest_of};
@@ -147,8 +148,8 @@ fn boot<D: Disk>(
     requires unset { (store.disk.stop ≡ None) × (store.disk.fail ≡ None) }
     requires clients { clients ≤ 16 }
     requires now { now ≤ 1000000000 }
-    ensures boots { (begun : Begun ServerState) (records : List (List ℕ)) → IsFound D.seen begun records front store → BootsFrom D.seen D.may_leave D.faults D.limit begun records store.node now clients store.disk.disk result }
-    ensures over { BootsOver D.faults store.durable front store.node now clients (D.faults store.disk.disk) result }
+    ensures boots { (begun : Begun ServerState) (records : List (List ℕ)) → IsFound (server_keeping store.node) D.Disk begun records front store → BootsFrom D.Disk begun records store.node now clients store.disk.disk result }
+    ensures over { BootsOver D.Disk store.durable front store.node now clients (D.faults store.disk.disk) result }
     ensures goes_on { GoesOnBooted store told result }
     ensures told { IsSome (D.seen (disk_started result)) ↔ IsSome (D.seen store.disk.disk) }
     ensures limit { D.limit (disk_started result) ≡ D.limit store.disk.disk }
@@ -193,8 +194,8 @@ impl<D: Disk> Resting<D> {
         requires limit { D.limit self.disk ≤ 268435456 }
         requires clients { clients ≤ 16 }
         requires now { now ≤ 1000000000 }
-        ensures started { IsSome (D.seen self.disk) → IsStarted D.seen D.may_leave D.faults D.limit node now clients self result }
-        ensures over { StartsOver D.seen D.faults D.limit node now clients self result }
+        ensures started { IsSome (D.seen self.disk) → IsStarted D.Disk node now clients self result }
+        ensures over { StartsOver D.Disk node now clients self result }
         ensures goes_on { GoesOnStarted node self result }
         ensures told { IsSome (D.seen (disk_started result)) ↔ IsSome (D.seen self.disk) }
         ensures limit { D.limit (disk_started result) ≡ D.limit self.disk }

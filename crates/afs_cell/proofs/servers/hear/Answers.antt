@@ -15,11 +15,11 @@ returns-in-Ok-clause-happens g c = λ me place own.
 pub returns-in-Err-Down-clause-happens : goal.returns-in-Err-Down-clause-happens
 returns-in-Err-Down-clause-happens g c = λ me place own.
     fell_happens g.D.Disk.seen g.D.Disk.left_by g.D.Disk.may_leave g.D.Disk.faults g.D.Disk.limit me c.args.now place c.args.bytes.now c.args.seat.now c.in-Up.running c.serve.new.self c.in-Up.is own
-    (subst (λ (e : NodeFault). Becomes g.D.Disk.seen g.D.Disk.left_by g.D.Disk.may_leave g.D.Disk.faults g.D.Disk.limit (λ s. IsServed g.D.Disk.seen g.D.Disk.left_by g.D.Disk.size g.D.Disk.may_leave g.D.Disk.moment g.D.Disk.left_since g.D.Disk.faults g.D.Disk.limit c.in-Up.running c.args.now (received c.args.bytes.now) s) c.serve.new.self (Err e)) c.in-Err-Down.field-0-is c.in-Err-Down.ensures.served)
+    (subst (λ (e : NodeFault). Becomes g.D.Disk (λ s. IsServed g.D.Disk c.in-Up.running c.args.now (received c.args.bytes.now) s) c.serve.new.self (Err e)) c.in-Err-Down.field-0-is c.in-Err-Down.ensures.served)
 
 pub returns-in-Err-Down-clause-keeps : goal.returns-in-Err-Down-clause-keeps
 returns-in-Err-Down-clause-keeps g c =
     fell_keeps g.D.Disk.seen g.D.Disk.left_by g.D.Disk.may_leave g.D.Disk.faults g.D.Disk.limit c.args.seat.now c.in-Up.running c.serve.new.self c.in-Up.is
-    (subst (λ (e : NodeFault). Becomes g.D.Disk.seen g.D.Disk.left_by g.D.Disk.may_leave g.D.Disk.faults g.D.Disk.limit (λ s. IsSome (g.D.Disk.seen (disk_served s)) ↔ IsSome (g.D.Disk.seen (disk_of c.in-Up.running))) c.serve.new.self (Err e)) c.in-Err-Down.field-0-is c.in-Err-Down.ensures.told)
-    (subst (λ (e : NodeFault). Becomes g.D.Disk.seen g.D.Disk.left_by g.D.Disk.may_leave g.D.Disk.faults g.D.Disk.limit (λ s. g.D.Disk.limit (disk_served s) ≡ g.D.Disk.limit (disk_of c.in-Up.running)) c.serve.new.self (Err e)) c.in-Err-Down.field-0-is c.in-Err-Down.ensures.limit)
-    (subst (λ (e : NodeFault). Becomes g.D.Disk.seen g.D.Disk.left_by g.D.Disk.may_leave g.D.Disk.faults g.D.Disk.limit (λ s. g.D.Disk.faults (disk_of c.in-Up.running) ≤ g.D.Disk.faults (disk_served s)) c.serve.new.self (Err e)) c.in-Err-Down.field-0-is c.in-Err-Down.ensures.faults)
+    (subst (λ (e : NodeFault). Becomes g.D.Disk (λ s. IsSome (g.D.Disk.seen (disk_served s)) ↔ IsSome (g.D.Disk.seen (disk_of c.in-Up.running))) c.serve.new.self (Err e)) c.in-Err-Down.field-0-is c.in-Err-Down.ensures.told)
+    (subst (λ (e : NodeFault). Becomes g.D.Disk (λ s. g.D.Disk.limit (disk_served s) ≡ g.D.Disk.limit (disk_of c.in-Up.running)) c.serve.new.self (Err e)) c.in-Err-Down.field-0-is c.in-Err-Down.ensures.limit)
+    (subst (λ (e : NodeFault). Becomes g.D.Disk (λ s. g.D.Disk.faults (disk_of c.in-Up.running) ≤ g.D.Disk.faults (disk_served s)) c.serve.new.self (Err e)) c.in-Err-Down.field-0-is c.in-Err-Down.ensures.faults)

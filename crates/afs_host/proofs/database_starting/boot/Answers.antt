@@ -9,22 +9,24 @@ use Rattle.afs_disk.specs.Fuses.{Fused}
 use Rattle.afs_journal.specs.Records.{whole_records}
 use Rattle.afs_records.specs.LocDurable.{loc_can_boot, LocDurable}
 use Rattle.afs_records.specs.LocRecords.{LocRecord}
+use Rattle.afs_rows.specs.LocSteps.{loc_start_row}
 use Rattle.afs_store.specs.Stores.{IsEarly, StoreOf}
 use Rattle.afs_locdb.specs.Seen.{Database, SameBut}
-use Rattle.afs_host.specs.LocStarting.{LocRises}
+use Rattle.afs_host.specs.LocStanding.{loc_keeping}
+use Rattle.afs_host.specs.LocStarting.{loc_sight, LocRises}
 use Rattle.afs_host.specs.Seats.{Resting}
 use Rattle.afs_host.specs.Starting.{Stays}
 use Rattle.afs_host.specs.Views.{shown_database}
 use Rattle.afs_host.proofs.Blows.{none_cause}
-use Rattle.afs_host.proofs.Booting.{full_failed, is_true, memory_failed, was_failed}
-use Rattle.afs_host.proofs.LocBooting.{fits_loc_boot, loc_failed_boots, loc_failed_over, loc_full_boots, loc_full_over, loc_risen_boots, loc_risen_over, loc_still_there, loc_untouched, LocBooted}
+use Rattle.afs_host.proofs.Booting.{failed_boots, failed_over, full_boots, full_failed, full_over, is_true, memory_failed, still_there, untouched, was_failed}
+use Rattle.afs_host.proofs.LocRising.{fits_loc_boot, loc_fits, loc_risen_boots, loc_risen_over, LocBooted}
 use Rattle.afs_host.proofs.database_starting.boot.Goals as goal
 
 -- ---- there is no memory for the line that ends the restart
 
 pub returns-in_default-clause-boots : goal.returns-in_default-clause-boots
 returns-in_default-clause-boots g c = λ begun records found told b left.
-    loc_untouched g.D.Disk begun records c.args.front c.args.store found (c.untold.ensures.kept c.requires.up) b (subst (λ (r : Resting g.row.D.Denot). g.D.Disk.may_leave r.disk b) c.untold.ensures.value left)
+    untouched loc_keeping loc_fits g.D.Disk begun records c.args.front c.args.store.store found (c.untold.ensures.kept c.requires.up) b (subst (λ (r : Resting g.row.D.Denot). g.D.Disk.may_leave r.disk b) c.untold.ensures.value left)
 
 pub returns-in_default-clause-over : goal.returns-in_default-clause-over
 returns-in_default-clause-over g c = ap (λ (r : Resting g.row.D.Denot). g.D.Disk.faults r.disk) c.untold.ensures.value
@@ -40,7 +42,7 @@ returns-in-Ok-boot-clause-boots g c = λ begun records found.
       boot = ap (λ (t : StoreOf (Fused g.row.D.Denot) LocRecord LocDurable). t.durable.boot) e.started.1;
       revived = e.revived refl;
     } in
-    loc_risen_boots g.D.Disk begun records c.args.front store c.boot.new.self found booted c.rise.result (subst (λ (ls : List Line). LocRises c.boot.new.self ls c.rise.result) c.in-Ok.ensures.items c.rise.ensures)
+    loc_risen_boots g.D.Disk c.args.front store c.boot.new.self booted begun records found c.rise.result (subst (λ (ls : List Line). LocRises c.boot.new.self ls c.rise.result) c.in-Ok.ensures.items c.rise.ensures)
 
 pub returns-in-Ok-boot-clause-over : goal.returns-in-Ok-boot-clause-over
 returns-in-Ok-boot-clause-over g c =
@@ -64,7 +66,8 @@ returns-in-Err-Full-clause-boots g c = λ begun records found.
     let same : SameBut store c.boot.new.self = subst (λ (f : StoreFault). IsEarly {T = List Line} (Err f) (SameBut store c.boot.new.self)) is e.early in
     let up = ap (λ (b : Database (Fused g.row.D.Denot)). b.store.closed) same ∙ c.requires.up in
     let told = subst (λ (ls : List Line). Stays (shown_database c.boot.new.self) ls (lines.Full Loc) c.stay.result) c.in-Ok.ensures.items c.stay.ensures.stays in
-    loc_full_boots g.D.Disk begun records c.args.front store c.boot.new.self found same (e.full c.in-Err-Full.field-0-0 c.in-Err-Full.field-0-1 err).0 (c.stay.ensures.kept up) (c.stay.ensures.counted up) c.stay.ensures.capacity c.stay.result told
+    full_boots loc_keeping loc_fits g.D.Disk begun records c.args.front store.store found g.met.D.Disk.counts_now c.boot.new.self.store loc_sight loc_start_row (ap (λ (b : Database (Fused g.row.D.Denot)). b.store) same)
+    (e.full c.in-Err-Full.field-0-0 c.in-Err-Full.field-0-1 err).0 (c.stay.ensures.kept up) (c.stay.ensures.counted up) c.stay.ensures.capacity c.stay.result told
 
 pub returns-in-Err-Full-clause-over : goal.returns-in-Err-Full-clause-over
 returns-in-Err-Full-clause-over g c =
@@ -73,7 +76,7 @@ returns-in-Err-Full-clause-over g c =
     let is = c.in-Err-Full.field-0-is in
     let err : IsErrOf {T = List Line} {E = StoreFault} (Err c.in-Err-Full.field-0) (refusals.Full c.in-Err-Full.field-0-0 c.in-Err-Full.field-0-1) = ap (λ (f : StoreFault). Err f) is in
     let told = subst (λ (ls : List Line). Stays (shown_database c.boot.new.self) ls (lines.Full Loc) c.stay.result) c.in-Ok.ensures.items c.stay.ensures.stays in
-    loc_full_over g.D.Disk c.args.front store c.boot.new.self (e.full c.in-Err-Full.field-0-0 c.in-Err-Full.field-0-1 err).0
+    full_over loc_keeping loc_sight g.D.Disk loc_start_row c.args.front store.store c.boot.new.self.store (e.full c.in-Err-Full.field-0-0 c.in-Err-Full.field-0-1 err).0
     (e.served.quiet (λ failed. full_failed c.in-Err-Full.field-0 c.in-Err-Full.field-0-0 c.in-Err-Full.field-0-1 is failed)).1 c.stay.result told
 
 -- ---- the disk failed
@@ -87,7 +90,7 @@ returns-in-Err-Failed-clause-boots g c = λ begun records found.
     let can : loc_can_boot store.store.durable ≡ true = is_true (loc_can_boot store.store.durable) (λ none. was_failed c.in-Err-Failed.field-0 store.store.durable.journal store.store.durable.capacity is (e.room none).0) in
     let stayed = c.stay-in-Err-Failed in
     let told = subst (λ (ls : List Line). Stays (shown_database c.boot.new.self) ls (lines.Fault Loc) stayed.result) c.in-Ok.ensures.items stayed.ensures.stays in
-    loc_failed_boots g.D.Disk g.met.D.Disk.counts_now begun records c.args.front store c.boot.new.self found (record {
+    failed_boots loc_keeping loc_fits g.D.Disk begun records c.args.front store.store found g.met.D.Disk.counts_now c.boot.new.self.store loc_sight loc_start_row (record {
       store = e.failed err;
       can = can;
       fits = fits_loc_boot store.store.durable can;
@@ -107,7 +110,7 @@ returns-in-Err-Failed-clause-over g c =
     let can : loc_can_boot store.store.durable ≡ true = is_true (loc_can_boot store.store.durable) (λ none. was_failed c.in-Err-Failed.field-0 store.store.durable.journal store.store.durable.capacity is (e.room none).0) in
     let stayed = c.stay-in-Err-Failed in
     let told = subst (λ (ls : List Line). Stays (shown_database c.boot.new.self) ls (lines.Fault Loc) stayed.result) c.in-Ok.ensures.items stayed.ensures.stays in
-    loc_failed_over g.D.Disk c.args.front store c.boot.new.self can
+    failed_over loc_keeping loc_sight g.D.Disk loc_start_row c.args.front store.store c.boot.new.self.store can
     (none_cause (record { stop = store.store.disk.stop; fail = store.store.disk.fail }) c.boot.new.self.store.disk.calls _ c.requires.unset.0 c.requires.unset.1 (e.served.failed err).1) stayed.result told
 
 -- ---- memory ran out in it
@@ -120,7 +123,7 @@ returns-in-Err-OutOfMemory-clause-boots g c = λ begun records found.
     let same : SameBut store c.boot.new.self = subst (λ (f : StoreFault). IsEarly {T = List Line} (Err f) (SameBut store c.boot.new.self)) c.in-Err-OutOfMemory.field-0-is e.early in
     let up = ap (λ (b : Database (Fused g.row.D.Denot)). b.store.closed) same ∙ c.requires.up in
     subst (λ (r : Resting g.row.D.Denot). IsSome (g.D.Disk.seen r.disk) → (b : List ℕ) → g.D.Disk.may_leave r.disk b → whole_records b ≡ records) (sym left.value)
-    (loc_still_there g.D.Disk g.met.D.Disk.counts_now begun records c.args.front store c.boot.new.self found same (left.kept up) (left.counted up) (λ bytes seen.
+    (still_there loc_keeping loc_fits g.D.Disk begun records c.args.front store.store found g.met.D.Disk.counts_now c.boot.new.self.store (ap (λ (b : Database (Fused g.row.D.Denot)). b.store) same) (left.kept up) (left.counted up) (λ bytes seen.
     let only = e.any_moment bytes seen in
     record { later = only.later; each = only.each; before = only.before }))
 

@@ -5,9 +5,9 @@ use Rattle.afs_rows.specs.Hosts.{at_rest}
 use Rattle.afs_rows.specs.LocRow.{LocState}
 use Rattle.afs_disk.specs.Disk.{LeavesJust}
 use Rattle.afs_journal.specs.Records.{whole_records}
-use Rattle.afs_host.specs.LocStanding.{LocLies, LocLiesBefore}
-use Rattle.afs_host.proofs.LocLying.{kept_before}
-use Rattle.afs_host.proofs.Lying.{if_some, is_told, left_image}
+use Rattle.afs_host.specs.LocStanding.{loc_keeping, LocLies}
+use Rattle.afs_host.specs.Standing.{LiesBefore}
+use Rattle.afs_host.proofs.Lying.{if_some, is_told, kept_before, left_image}
 use Rattle.afs_host.proofs.database.Running+unit+LocDb+Fuse+D.crash.Goals as goal
 
 pub returns-clause-step : goal.returns-clause-step
@@ -24,14 +24,14 @@ returns-clause-step g c = λ h up.
       capacity = ap (λ (s : LocState). s.lasting.capacity) up.state ∙ (left.capacity ∙ sym left.limit);
       lies = λ told b l.
           subst (λ (mark : Mark). LocLies h.state at_rest mark b) (sym left.mark)
-          (inl (kept_before store.durable store.count (g.D.Disk.seen store.disk.disk) (g.D.Disk.may_leave store.disk.disk) h.state read kept counted (left.told.0 told) b
+          (inl (kept_before loc_keeping store.durable store.count (g.D.Disk.seen store.disk.disk) (g.D.Disk.may_leave store.disk.disk) h.state read kept counted (left.told.0 told) b
           (left_image (g.D.Disk.seen c.left_by.result.disk) (g.D.Disk.may_leave store.disk.disk) (g.D.Disk.may_leave c.left_by.result.disk) left.image told b l)));
       found = λ b at. (
         false,
         (
           tt,
-          subst (λ (mark : Mark). LocLiesBefore h.state mark (whole_records b)) (sym left.mark)
-              (kept_before store.durable store.count (g.D.Disk.seen store.disk.disk) (g.D.Disk.may_leave store.disk.disk) h.state read kept counted (left.told.0 (is_told (g.D.Disk.seen c.left_by.result.disk) b at)) b
+          subst (λ (mark : Mark). LiesBefore loc_keeping h.state mark (whole_records b)) (sym left.mark)
+              (kept_before loc_keeping store.durable store.count (g.D.Disk.seen store.disk.disk) (g.D.Disk.may_leave store.disk.disk) h.state read kept counted (left.told.0 (is_told (g.D.Disk.seen c.left_by.result.disk) b at)) b
               (if_some (g.D.Disk.seen c.left_by.result.disk) (λ (bytes : List ℕ). g.D.Disk.may_leave store.disk.disk bytes × LeavesJust bytes (g.D.Disk.may_leave c.left_by.result.disk)) b at left.image).0),
         ),
       );

@@ -8,18 +8,21 @@ use Rattle.afs_model.specs.Messages.{received, received_by}
 use Rattle.afs_records.specs.LocRecords.{LocRecord}
 use Rattle.afs_rows.specs.Hosts.{lowered}
 use Rattle.afs_rows.specs.LocRow.{loc_decides, loc_device_calls}
-use Rattle.afs_rows.specs.LocSteps.{loc_row}
+use Rattle.afs_rows.specs.LocSteps.{loc_begun_after, loc_row}
 use Rattle.afs_locdb.specs.Handling.{loc_calls_served, loc_decided_then, loc_record_then, Handles, IsQuiet, IsWritten}
 use Rattle.afs_locdb.specs.Seen.{loc_seen}
 use Rattle.afs_locdb.specs.declared.faults.NodeFault.{NodeFault}
 use Rattle.afs_locdb.specs.declared.faults.NodeFault.TheVariants as faults
 use Rattle.afs_server.specs.declared.faults.NodeFault.TheVariants as nodes
 use Rattle.afs_host.specs.LocSeats.{DatabaseRunning, LocCanRun}
+use Rattle.afs_host.specs.LocStanding.{loc_keeping}
 use Rattle.afs_host.specs.LocServing.{IsLocHandled, RunsLocRow}
 use Rattle.afs_host.specs.Setting.{armed_seen}
-use Rattle.afs_host.proofs.LocBreaking.{loc_ended_left, loc_ended_lies, loc_saves_calls, LocEnded}
+use Rattle.afs_host.proofs.Broken.{ended_left, ended_lies}
+use Rattle.afs_host.proofs.LocBreaking.{loc_decides_so, loc_saves_calls, LocEnded}
 use Rattle.afs_host.proofs.LocHandled.{loc_passed_goes_on, loc_passed_step, loc_quiet_then, loc_row_made, same_loc_goes_on, LocPassed}
 use Rattle.afs_host.proofs.LocHeard.{loc_message_of, loc_stands_there}
+use Rattle.afs_host.proofs.LocRising.{loc_fits}
 use Rattle.afs_host.proofs.LocStepping.{loc_made_calls, same_loc_row}
 use Rattle.afs_host.proofs.database_serving.Running+unit+LocDb+Fuse+D.handle.Goals as goal
 
@@ -107,6 +110,7 @@ returns-in-Err-Down-clause-handled g c =
     let written : (r : LocRecord) → decided ≡ Some r → IsWritten {T = Outs} r decided (Err c.in-Err-Down.field-0) = λ r w. subst (λ (f : NodeFault). IsWritten {T = Outs} r decided (Err f)) (sym is) w in
     let err : IsErrOf {T = Outs} {E = NodeFault} (Err c.in-Err-Down.field-0) faults.Down = ap (λ (f : NodeFault). Err f) is in
     let some = e.down err in
+    let next = loc_begun_after s (loc_decides s found) in
     let before = inside.store.store.disk.disk in
     let after = c.handle.new.self.store.disk.disk in
     let ended : LocEnded g.D.Disk found inside.store before after = record {
@@ -125,11 +129,12 @@ returns-in-Err-Down-clause-handled g c =
     (record {
       armed = refl;
       closed = closed;
-      lies = λ m clock b whole told x left. loc_ended_lies g.D.Disk g.met.D.Disk.counts_now found inside.store before after ended m (e.found m whole) clock b told x left;
+      lies = λ m clock b whole told x left.
+          ended_lies loc_keeping loc_fits g.D.Disk g.met.D.Disk.counts_now decided next inside.store.store.durable inside.store.store.count before after ended s m clock (loc_decides_so inside.store clock found m (e.found m whole)) b told x left;
       reached = e.reached err;
       left = λ m clock b whole told trips pick x left.
-          loc_ended_left g.D.Disk g.met.D.Disk.counts_now g.met.D.Disk.leaves found inside.store before after ended m (e.found m whole) clock b told
-          (c.handle.new.self.store.disk.calls - inside.store.store.disk.calls) (λ r w bytes seen. e.left err r w bytes seen trips) pick x left;
+          ended_left loc_keeping loc_fits g.D.Disk g.met.D.Disk.counts_now decided next inside.store.store.durable inside.store.store.count before after ended s m clock (loc_decides_so inside.store clock found m (e.found m whole)) b told
+          g.met.D.Disk.leaves (c.handle.new.self.store.disk.calls - inside.store.store.disk.calls) (λ r w bytes seen. e.left err r w bytes seen trips) pick x left;
       saves = λ m whole. ap (loc_device_calls s) (sym (same_loc_row s m found (e.found m whole)).decision) ∙ loc_saves_calls s (loc_decides s found) some;
       few = e.most.1;
       stop = ap (λ (x : Setting). x.stop) e.setting;

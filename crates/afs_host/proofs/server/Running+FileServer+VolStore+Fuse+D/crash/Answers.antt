@@ -5,7 +5,7 @@ use Rattle.afs_rows.specs.Hosts.{at_rest}
 use Rattle.afs_rows.specs.States.{ServerState}
 use Rattle.afs_disk.specs.Disk.{LeavesJust}
 use Rattle.afs_journal.specs.Records.{whole_records}
-use Rattle.afs_host.specs.Standing.{Lies, LiesBefore}
+use Rattle.afs_host.specs.Standing.{server_keeping, Lies, LiesBefore}
 use Rattle.afs_host.proofs.Lying.{if_some, is_told, kept_before, left_image}
 use Rattle.afs_host.proofs.server.Running+FileServer+VolStore+Fuse+D.crash.Goals as goal
 
@@ -20,15 +20,15 @@ returns-clause-step g c = λ h up.
       capacity = ap (λ (s : ServerState). s.lasting.capacity) up.state ∙ (left.capacity ∙ sym left.limit);
       lies = λ told b l.
           subst (λ (mark : Mark). Lies self.store.node h.state at_rest mark b) (sym left.mark)
-          (inl (kept_before self.store.durable self.store.count (g.D.Disk.seen self.store.disk.disk) (g.D.Disk.may_leave self.store.disk.disk) h.state (sym (ap (λ (s : ServerState). s.lasting) up.state))
+          (inl (kept_before (server_keeping self.store.node) self.store.durable self.store.count (g.D.Disk.seen self.store.disk.disk) (g.D.Disk.may_leave self.store.disk.disk) h.state (sym (ap (λ (s : ServerState). s.lasting) up.state))
           (left.kept c.requires.up) (left.counted c.requires.up) (left.told.0 told) b
           (left_image (g.D.Disk.seen c.left_by.result.disk) (g.D.Disk.may_leave self.store.disk.disk) (g.D.Disk.may_leave c.left_by.result.disk) left.image told b l)));
       found = λ b at. (
         false,
         (
           tt,
-          subst (λ (mark : Mark). LiesBefore h.state mark (whole_records b)) (sym left.mark)
-              (kept_before self.store.durable self.store.count (g.D.Disk.seen self.store.disk.disk) (g.D.Disk.may_leave self.store.disk.disk) h.state (sym (ap (λ (s : ServerState). s.lasting) up.state))
+          subst (λ (mark : Mark). LiesBefore (server_keeping self.store.node) h.state mark (whole_records b)) (sym left.mark)
+              (kept_before (server_keeping self.store.node) self.store.durable self.store.count (g.D.Disk.seen self.store.disk.disk) (g.D.Disk.may_leave self.store.disk.disk) h.state (sym (ap (λ (s : ServerState). s.lasting) up.state))
               (left.kept c.requires.up) (left.counted c.requires.up) (left.told.0 (is_told (g.D.Disk.seen c.left_by.result.disk) b at)) b
               (if_some (g.D.Disk.seen c.left_by.result.disk) (λ (bytes : List ℕ). g.D.Disk.may_leave self.store.disk.disk bytes × LeavesJust bytes (g.D.Disk.may_leave c.left_by.result.disk)) b at left.image).0),
         ),

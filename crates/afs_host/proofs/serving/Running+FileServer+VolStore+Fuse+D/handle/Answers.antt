@@ -8,7 +8,7 @@ use Rattle.afs_history.specs.declared.lines.Outs.{Outs}
 use Rattle.afs_disk.specs.Disk.{Setting}
 use Rattle.afs_model.specs.Messages.{received, received_by}
 use Rattle.afs_rows.specs.Hosts.{lowered}
-use Rattle.afs_rows.specs.ServerRow.{decides, device_calls, Decision}
+use Rattle.afs_rows.specs.ServerRow.{begun_after, decides, device_calls, Decision}
 use Rattle.afs_rows.specs.ServerSteps.{server_row}
 use Rattle.afs_volstore.specs.Stores.{Store}
 use Rattle.afs_disk.specs.Fuses.{Fused}
@@ -18,9 +18,12 @@ use Rattle.afs_server.specs.declared.faults.NodeFault.TheVariants as nodes
 use Rattle.afs_host.specs.Seats.{CanRun, ServerRunning}
 use Rattle.afs_host.specs.Serving.{IsBroken, IsHandled, RunsRow}
 use Rattle.afs_host.specs.Setting.{armed_seen}
-use Rattle.afs_host.proofs.Breaking.{ended_left, ended_lies, saves_calls, Ended}
+use Rattle.afs_host.specs.Standing.{server_keeping}
+use Rattle.afs_host.proofs.Breaking.{decides_so, saves_calls, ServerEnded}
+use Rattle.afs_host.proofs.Broken.{ended_left, ended_lies}
 use Rattle.afs_host.proofs.Handled.{row_made, Passed, passed_goes_on, passed_step, quiet_then, same_goes_on}
 use Rattle.afs_host.proofs.Heard.{message_of, stands_there}
+use Rattle.afs_host.proofs.Rising.{server_fits}
 use Rattle.afs_host.proofs.Stepping.{made_calls, same_row}
 use Rattle.afs_host.proofs.serving.Running+FileServer+VolStore+Fuse+D.handle.Goals as goal
 
@@ -48,7 +51,7 @@ returns-in-Ok-clause-handled g c =
       stop = ap (λ (s : Setting). s.stop) e.setting;
       fail = ap (λ (s : Setting). s.fail) e.setting;
     } in
-    subst (λ (x : ServerRunning g.row.D.Denot). IsHandled g.D.Disk.seen g.D.Disk.left_by g.D.Disk.size g.D.Disk.may_leave g.D.Disk.moment g.D.Disk.left_since g.D.Disk.faults g.D.Disk.limit x c.args.now (received c.args.bytes.now) new (Ok c.in-Ok.outs)) c.self.view_is
+    subst (λ (x : ServerRunning g.row.D.Denot). IsHandled g.D.Disk x c.args.now (received c.args.bytes.now) new (Ok c.in-Ok.outs)) c.self.view_is
     (passed_step c.args.now c.args.bytes.now old new c.in-Ok.outs can passed, passed_goes_on c.args.now c.args.bytes.now old new c.in-Ok.outs can passed)
 
 pub returns-in-Ok-clause-row : goal.returns-in-Ok-clause-row
@@ -77,7 +80,7 @@ returns-in-Err-OutOfMemory-clause-handled g c =
     let quiet = e.quiet (subst (λ (f : NodeFault). IsQuiet decided (Err f)) (sym c.in-Err-OutOfMemory.field-0-is) (quiet_then Outs decided)) in
     let stop = ap (λ (x : Setting). x.stop) quiet.1.same_setting in
     let fail = ap (λ (x : Setting). x.fail) quiet.1.same_setting in
-    subst (λ (x : ServerRunning g.row.D.Denot). IsHandled g.D.Disk.seen g.D.Disk.left_by g.D.Disk.size g.D.Disk.may_leave g.D.Disk.moment g.D.Disk.left_since g.D.Disk.faults g.D.Disk.limit x c.args.now (received c.args.bytes.now) new (Err nodes.OutOfMemory)) c.self.view_is (
+    subst (λ (x : ServerRunning g.row.D.Denot). IsHandled g.D.Disk x c.args.now (received c.args.bytes.now) new (Err nodes.OutOfMemory)) c.self.view_is (
       record {
         memory = same.0;
         armed = refl;
@@ -112,7 +115,9 @@ returns-in-Err-Down-clause-handled g c =
     let written : (r : StoreRecord) → decided ≡ Some r → IsWritten {T = Outs} r decided (Err c.in-Err-Down.field-0) = λ r w. subst (λ (f : NodeFault). IsWritten {T = Outs} r decided (Err f)) (sym is) w in
     let err : IsErrOf {T = Outs} {E = NodeFault} (Err c.in-Err-Down.field-0) nodes.Down = ap (λ (f : NodeFault). Err f) is in
     let some = e.down err in
-    let ended : Ended g.D.Disk.seen g.D.Disk.may_leave g.D.Disk.moment g.D.Disk.left_since c.args.now found old inside.store.disk.disk c.handle.new.store.disk.disk = record {
+    let k = server_keeping inside.store.node in
+    let next = begun_after inside.store.node s c.args.now (decides inside.store.node s c.args.now found) in
+    let ended : ServerEnded g.D.Disk c.args.now found old inside.store.disk.disk c.handle.new.store.disk.disk = record {
       kept = c.mark-before.ensures.kept can.up;
       counted = c.mark-before.ensures.counted can.up;
       some = some;
@@ -124,16 +129,16 @@ returns-in-Err-Down-clause-handled g c =
       effects = λ r w. e.effects r (written r w);
       told = e.told.0;
     } in
-    subst (λ (x : ServerRunning g.row.D.Denot). IsHandled g.D.Disk.seen g.D.Disk.left_by g.D.Disk.size g.D.Disk.may_leave g.D.Disk.moment g.D.Disk.left_since g.D.Disk.faults g.D.Disk.limit x c.args.now (received c.args.bytes.now) new (Err nodes.Down)) c.self.view_is
+    subst (λ (x : ServerRunning g.row.D.Denot). IsHandled g.D.Disk x c.args.now (received c.args.bytes.now) new (Err nodes.Down)) c.self.view_is
     (record {
       armed = refl;
       closed = closed;
       lies = λ m b whole told x left.
-          ended_lies g.D.Disk.seen g.D.Disk.may_leave g.D.Disk.moment g.D.Disk.left_since g.met.D.Disk.counts_now c.args.now found old inside.store.disk.disk c.handle.new.store.disk.disk ended m (e.found m whole) b told x left;
+          ended_lies k (server_fits inside.store.node) g.D.Disk g.met.D.Disk.counts_now decided next inside.store.durable inside.store.count inside.store.disk.disk c.handle.new.store.disk.disk ended s m c.args.now (decides_so old c.args.now found m (e.found m whole)) b told x left;
       reached = e.reached err;
       left = λ m b whole told trips pick x left.
-          ended_left g.D.Disk.seen g.D.Disk.left_by g.D.Disk.may_leave g.D.Disk.moment g.D.Disk.left_since g.met.D.Disk.counts_now g.met.D.Disk.leaves c.args.now found old inside.store.disk.disk c.handle.new.store.disk.disk ended m (e.found m whole) b told
-          (c.handle.new.store.disk.calls - inside.store.disk.calls) (λ r w bytes seen. e.left err r w bytes seen trips) pick x left;
+          ended_left k (server_fits inside.store.node) g.D.Disk g.met.D.Disk.counts_now decided next inside.store.durable inside.store.count inside.store.disk.disk c.handle.new.store.disk.disk ended s m c.args.now (decides_so old c.args.now found m (e.found m whole)) b told
+          g.met.D.Disk.leaves (c.handle.new.store.disk.calls - inside.store.disk.calls) (λ r w bytes seen. e.left err r w bytes seen trips) pick x left;
       saves = λ m whole. ap (device_calls s c.args.now) (sym (same_row inside.store.node s c.args.now m found (e.found m whole)).decision) ∙ saves_calls s c.args.now (decides inside.store.node s c.args.now found) some;
       few = e.most.1;
       stop = ap (λ (x : Setting). x.stop) e.setting;
