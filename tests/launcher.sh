@@ -224,6 +224,8 @@ form|replay|--wire|--disks=disks
 form|replay|--disks=disks|--wire
 form|replay|--disks|disks and more
 form|replay|--disks=a=b
+form|replay|--disks==
+form|replay|--disks=a=--wire
 form|replay|--disks|replay
 form|replay|--disks|$(printf '\303\244')
 none
@@ -232,11 +234,24 @@ none|Replay
 none|replay|
 none|replay|replay
 none|replay|--
+none|replay|--|--wire
+none|replay|--wire|--
+none|replay|--disks=disks|--
+none|replay|-
+none|replay|help
 none|replay|--help
 none|replay|-h
+none|replay|--version
+none|replay|-V
 none|replay|--Wire
+none|replay|--wir
+none|replay|--wires
 none|replay|-wire
+none|replay|-w
+none|replay|--wire=
 none|replay|--wire=1
+none|replay|--wire|true
+none|replay|--disk|disks
 none|replay|--wire|--wire
 none|replay|--disks
 none|replay|--disks|
@@ -245,10 +260,17 @@ none|replay|--disks|--wire
 none|replay|--disks|--wire|--wire
 none|replay|--wire|--disks
 none|replay|--wire|--disks=
+none|replay|--disks=-
 none|replay|--disks=-a
+none|replay|--disks=--
+none|replay|--disks=--wire|--wire
+none|replay|--disks|-
 none|replay|--disks|-a
+none|replay|--disks|--
 none|replay|--disks|disks|--disks|disks
 none|replay|--disks=disks|--disks=disks
+none|replay|--disks=disks|--disks|disks
+none|replay|--disks=disks|more
 none|replay|--wire|--disks|disks|--wire
 none|replay|--disks|disks|more
 none|replay|--wire|replay
@@ -258,11 +280,19 @@ bytes|replay|--disks|$(printf '\364\220\200\200')
 none|--wire
 none|--wire|replay
 none|--disks|disks|replay
+none|replays
 none|run
+none|run|--wire
 none|gen|1
+none|gen|+1
+none|gen|01
+none|--
+none|--|replay
 none|help|replay
 none|--help|replay
 none|-h|-h
+none|--version
+none|-V
 END
 
 # Gives each row of words to a command, as COMMAND HAS_FORM NAME WORDS..

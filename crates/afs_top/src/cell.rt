@@ -8,9 +8,10 @@ ghost use Rattle.afs_lending.specs.Outside.{OneRose};
 ghost use Rattle.afs_cell.specs.Replays.{LendingLeaves, SetUpLeaves};
 ghost use Rattle.afs_top.specs.Top.{Ends, IsBeforeReplay, IsScript};
 
+use afs_arguments::arguments::form_of;
 use afs_cell::replay;
 use afs_command::scripts::script_in;
-use afs_command::statuses::{Form, Status, form_of};
+use afs_command::statuses::{Form, Status};
 use afs_disk::Bank;
 use afs_grammar::laws::scripts_are_of_cells;
 use afs_outside::outside::{Sink, Source};
