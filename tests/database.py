@@ -8,6 +8,7 @@ number that is skipped.
 
 No ReplaceEntry gives an entry another read-write number than that of the entry whose lock is held: two entries may share a number then,
 and the reference finds the one that came first, where the database finds the one whose read-write number is lowest.
+No message comes in the database's own name: the database answers -455, and the reference runs it.
 """
 
 import random
@@ -127,7 +128,7 @@ class History:
         if kind < 0.11:
             spoiled = bytearray(data)
             spoiled[rng.randrange(len(spoiled))] ^= 1 << rng.randrange(8)
-            return bytes(spoiled)
+            return data if spoiled[4:8] == bytes(4) else bytes(spoiled)
         if kind < 0.12:
             return data[:3] + bytes([rng.choice([2, 3])]) + data[4:]
         return data

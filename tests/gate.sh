@@ -125,7 +125,7 @@ esac
 [ "\$(cat '$work/fails')" != "\${0##*/}" ]
 END
 chmod +x "$work/stand_in" "$work/kit/sleep"
-programs='edits rules links ladder wrong_programs launcher gate rows edge killed'
+programs='edits rules links ladder wrong_programs launcher plays gate rows edge killed'
 for it in $programs; do cp "$work/stand_in" "$home/tests/$it.sh"; done
 cp "$work/stand_in" "$work/kit/rt"
 cp "$work/stand_in" "$home/crates/afs_top/out/afs_top"
@@ -156,6 +156,7 @@ gate.sh
 rt ci
 wrong_programs.sh --turn 0
 launcher.sh 
+plays.sh 
 rows.sh  with $program
 edge.sh  with $program
 killed.sh 5 300 with $program"
@@ -187,7 +188,7 @@ twelve of the 2 other wrong programs took 0 minutes"
 
 for it in $programs; do
     if gate "$it.sh"; then fail "$it.sh fails, and the gate passes"; else pass; fi
-    if [ "$(wc -l < "$work/called")" -eq 11 ]; then pass; else fail "$it.sh fails, and not all is run"; fi
+    if [ "$(wc -l < "$work/called")" -eq 12 ]; then pass; else fail "$it.sh fails, and not all is run"; fi
 done
 echo '2 passed, 1 failed' > "$work/says"
 if gate rt; then fail 'rt ci fails, and the gate passes'; else pass; fi

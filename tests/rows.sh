@@ -211,9 +211,14 @@ usage '--Wire' replay --Wire
 usage '-wire' replay -wire
 usage '--wire=1' replay --wire=1
 usage '--' replay --
+usage '--wire --' replay --wire --
+usage '--version' --version
+usage '--help behind replay' replay --help
 usage 'an empty word behind replay' replay ''
 usage '--disks without a folder' replay --disks
 usage '--disks= without a folder' replay --disks=
+usage '--disks=-a' replay --disks=-a
+usage '--disks and an empty word' replay --disks ''
 usage '--disks before --wire' replay --disks --wire
 usage '--disks twice' replay --disks disks --disks disks
 usage '--disks before replay' --disks disks replay

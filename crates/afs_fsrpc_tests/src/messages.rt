@@ -3,11 +3,8 @@
 use crate::samples::{
     Interface, bytes_of_line, faults, faults_where_changed, keeps_all, refuses_all, sizes,
 };
-use afs_fsrpc::calls::decode_call;
 use afs_fsrpc::heads::read_head;
-use afs_fsrpc::replies::decode_reply;
-use afs_num::calls::FsCall;
-use afs_num::types::{Code, Half};
+use afs_num::types::Half;
 use std::alloc::Global;
 use std::fmt::Write as _;
 use std::test::Fail;
@@ -101,26 +98,12 @@ fn a_head_is_refused_with_its_fault(rt: HostRuntime) -> Result<(), Fail> {
     Ok(())
 }
 
-/// The code of a reply, and whether it has fields.
-fn code_of(alloc: Global, message: &str) -> Result<(Code, bool), Fail> {
-    let bytes = bytes_of_line(alloc, message)?;
-    let (_, code, reply) = decode_reply(alloc, &bytes)?;
-    let has_fields = reply.is_some();
-    drop(reply);
-    Ok((code, has_fields))
-}
+/// A reply with a code and a word behind it.
+const REFUSAL: &str = "2 1 101 1 1 1 0 133 0xffffffff 0";
 
 #[test]
-fn a_refusal_has_no_fields(rt: HostRuntime) -> Result<(), Fail> {
-    let (Code(code), has_fields) = code_of(rt.alloc(), "2 1 101 1 1 1 0 133 0xffffffff")?;
-    assert_eq!(rt; code, -1);
-    assert!(rt; !has_fields);
-    let more = faults(
-        rt.alloc(),
-        Interface::Files,
-        Half::Reply,
-        "2 1 101 1 1 1 0 133 0xffffffff 0",
-    )?;
+fn a_refusal_with_fields_is_refused(rt: HostRuntime) -> Result<(), Fail> {
+    let more = faults(rt.alloc(), Interface::Files, Half::Reply, REFUSAL)?;
     assert_eq!(rt; more.as_str(), "Field(1, Extra)\n");
     Ok(())
 }
@@ -145,27 +128,5 @@ fn hostile_counts_are_refused(rt: HostRuntime) -> Result<(), Fail> {
     );
     let reply = faults(rt.alloc(), Interface::Files, Half::Reply, COUNTED_REPLY)?;
     assert_eq!(rt; reply.as_str(), "Field(1, TooLong)\n");
-    Ok(())
-}
-
-/// The length that a call to fetch asks for.
-fn length_of(alloc: Global, message: &str) -> Result<Option<i32>, Fail> {
-    let bytes = bytes_of_line(alloc, message)?;
-    let (_, _, call) = decode_call(alloc, &bytes)?;
-    let length = match &call {
-        FsCall::FetchData { length, .. } => Some(*length),
-        _ => None,
-    };
-    drop(call);
-    Ok(length)
-}
-
-#[test]
-fn a_negative_length_is_a_value(rt: HostRuntime) -> Result<(), Fail> {
-    let found = length_of(
-        rt.alloc(),
-        "1 101 1 1 1 1 0 130 5 0x67756573 0x74000000 0x20000000 2 2 0 0xffffffff",
-    )?;
-    assert_eq!(rt; found, Some(-1));
     Ok(())
 }

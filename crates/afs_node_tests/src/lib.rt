@@ -1,20 +1,22 @@
-//! Tests of the nodes: the promises of a file server, a file server over a disk in memory, and a client's cache. What is wanted was
-//! worked out by hand, or is a run of another program that is played again.
+//! Tests of hostile bytes that a file server and the location database are given, each over a disk in memory. What is wanted is a run of
+//! another program that is played again.
 #![tactic(auto)]
 
 #[cfg(test)]
-mod caches;
+mod database;
+#[cfg(test)]
+mod disks;
+#[cfg(test)]
+mod hostile;
 #[cfg(test)]
 mod playing;
 #[cfg(test)]
-mod promises;
-#[cfg(test)]
-mod promises_played;
-#[cfg(test)]
-mod promises_tried;
+mod runs;
 #[cfg(test)]
 mod servers;
 #[cfg(test)]
 mod shown;
 #[cfg(test)]
 mod vectors;
+#[cfg(test)]
+mod words;

@@ -4,11 +4,10 @@ ghost use Rattle.std.specs.Prelude.{◌≡◌, ◌<◌, ◌+◌, false, IfOk, If
 ghost use Rattle.afs_num.specs.Nodes.{IsNode};
 ghost use Rattle.afs_node_tests.specs.Playing.{GoesOn};
 
-use crate::vectors::{Message, bytes_of};
-use afs_disk::{Disk, Fuse, MemDisk};
-use afs_history::lines::{Lines, Outs};
+use crate::vectors::{Message, spelled};
+use afs_disk::{Disk, MemDisk};
+use afs_history::lines::Outs;
 use afs_num::records::Mark;
-use afs_num::sequences::Octets;
 use afs_num::types::Node;
 use afs_server::FileServer;
 use afs_server::faults::NodeFault;
@@ -21,7 +20,7 @@ const MOST_STEPS: u32 = 1000;
 /// A server that is up, with what it told and sent in its last step, and how many steps it has made since it began.
 pub(crate) struct Running {
     pub(crate) server: FileServer,
-    pub(crate) store: VolStore<Fuse<MemDisk>>,
+    pub(crate) store: VolStore<MemDisk>,
     pub(crate) outs: Outs,
     pub(crate) steps: u32,
 }
@@ -41,43 +40,8 @@ impl Drop for Running {
     }
 }
 
-fn fill(disk: &mut MemDisk, bytes: &[u8]) -> Option<()> {
-    let length = bytes.len() as u64;
-    disk.room(length, length).ok()?;
-    disk.write_at(0, bytes).ok()?;
-    disk.sync().ok()
-}
-
-/// A disk in memory of this capacity, with these bytes.
-pub(crate) fn medium(alloc: Global, bytes: &[u8], capacity: u64) -> Option<MemDisk> {
-    let mut disk = MemDisk::new(alloc, capacity, Octets::new(alloc));
-    match fill(&mut disk, bytes) {
-        Some(()) => Some(disk),
-        None => {
-            drop(disk);
-            None
-        }
-    }
-}
-
-/// A store over a disk, of which this mark was told, and the lines that its last record tells.
-fn attach(
-    alloc: Global,
-    disk: Fuse<MemDisk>,
-    told: Mark,
-) -> Option<(VolStore<Fuse<MemDisk>>, Lines)>
-    ensures up { IfSome result (λ r. r.0.closed ≡ false) }
-    ensures drawn { IfSome result (λ r. r.0.drawn ≡ 0) }
-    ensures node { IfSome result (λ r. IsNode r.0.node) }
-{
-    if disk.capacity() > 268_435_456 {
-        return None;
-    }
-    VolStore::attach(alloc, disk, Node::Server(1), told).ok()
-}
-
 /// A server of two clients begins over a store.
-fn rise(alloc: Global, store: &mut VolStore<Fuse<MemDisk>>) -> Option<(FileServer, Outs)>
+fn rise(alloc: Global, store: &mut VolStore<MemDisk>) -> Option<(FileServer, Outs)>
     requires up { store.old.closed ≡ false }
     requires drawn { store.old.drawn ≡ 0 }
     requires node { IsNode store.old.node }
@@ -88,7 +52,7 @@ fn rise(alloc: Global, store: &mut VolStore<Fuse<MemDisk>>) -> Option<(FileServe
 }
 
 /// A server of two clients begins over a store that is just attached.
-fn risen(alloc: Global, store: VolStore<Fuse<MemDisk>>) -> Option<Running>
+fn risen(alloc: Global, store: VolStore<MemDisk>) -> Option<Running>
     requires up { store.closed ≡ false }
     requires drawn { store.drawn ≡ 0 }
     requires node { IsNode store.node }
@@ -113,19 +77,26 @@ fn risen(alloc: Global, store: VolStore<Fuse<MemDisk>>) -> Option<Running>
 pub(crate) fn begun(alloc: Global, disk: MemDisk, told: Mark) -> Option<Running>
     ensures { IfSome result (λ r. GoesOn r.server r.store r.steps) }
 {
-    match attach(alloc, Fuse::new(disk), told) {
-        Some((store, lines)) => {
+    if disk.capacity() > 268_435_456 {
+        drop(disk);
+        return None;
+    }
+    match VolStore::attach(alloc, disk, Node::Server(1), told) {
+        Ok((store, lines)) => {
             drop(lines);
             risen(alloc, store)
         }
-        None => None,
+        Err((_, disk)) => {
+            drop(disk);
+            None
+        }
     }
 }
 
 /// What the server does with a message, after so many steps.
 fn hears(
     server: &mut FileServer,
-    store: &mut VolStore<Fuse<MemDisk>>,
+    store: &mut VolStore<MemDisk>,
     bytes: &[u8],
     steps: u32,
 ) -> Result<Outs, NodeFault>
@@ -144,7 +115,7 @@ pub(crate) fn give(alloc: Global, running: &mut Running, message: Message) -> Op
     if running.steps >= MOST_STEPS {
         return None;
     }
-    let bytes = bytes_of(alloc, message).ok()?;
+    let bytes = spelled(alloc, message).ok()?;
     let steps = running.steps;
     running.outs = hears(
         &mut running.server,

@@ -3,17 +3,15 @@
 ghost use Rattle.std.specs.Prelude.{IfSome};
 ghost use Rattle.afs_node_tests.specs.Playing.{GoesOn};
 
-use crate::playing::{Running, begun, give, medium};
-use crate::vectors::{Message, disk};
-use afs_disk::MemDisk;
+use crate::disks::laid_out;
+use crate::playing::{Running, begun, give};
+use crate::vectors::{Message, first_record};
+use crate::words::put_hex;
 use afs_history::lines::{Line, Lines};
 use afs_num::records::Mark;
 use afs_num::types::Mem;
 use std::alloc::Global;
 use std::fmt::Write;
-
-/// The disk's room.
-const ROOM: u64 = 100_000;
 
 fn put_line(out: &mut String, line: &Line) -> Mem<()> {
     match line {
@@ -32,11 +30,9 @@ fn put_lines(out: &mut String, lines: &Lines) -> Mem<()> {
     Ok(())
 }
 
-/// Bytes in hex, on a line of their own.
+/// Bytes in hexadecimal digits, on a line of their own.
 fn put_bytes(out: &mut String, bytes: &[u8]) -> Mem<()> {
-    for byte in bytes {
-        write!(out, "{byte:02x}")?;
-    }
+    put_hex(out, bytes)?;
     out.push('\n')
 }
 
@@ -50,17 +46,11 @@ fn put_step(out: &mut String, running: &Running) -> Mem<()> {
     Ok(())
 }
 
-/// The disk at set-up.
-fn laid_out(alloc: Global) -> Option<MemDisk> {
-    let bytes = disk(alloc).ok()?;
-    medium(alloc, bytes.as_slice(), ROOM)
-}
-
 /// A server begins over the disk at set-up.
 fn started(alloc: Global) -> Option<Running>
     ensures { IfSome result (λ r. GoesOn r.server r.store r.steps) }
 {
-    let disk = laid_out(alloc)?;
+    let disk = laid_out(alloc, first_record())?;
     let told = Mark {
         generation: 0,
         records: 1,

@@ -1,11 +1,12 @@
 //! A run of the reference program: the disk at set-up, and the messages that the server is given, as words in hexadecimal digits. What
 //! takes one does so by a function, so that no other goal has those words.
 
+use crate::words::bytes_of;
 use afs_num::types::Mem;
 use std::alloc::Global;
 
 /// The first record of the disk, behind its length and its number.
-fn first_record() -> &'static str {
+pub(crate) fn first_record() -> &'static str {
     "\
     120 1 1 0 0 0 0 0 0 1 4 70726f6a 0 2 20000000 20000000 0 3e8 3 1 0 2 1 1 2 2 3 1 1 2 1 1 2 0 0 1ed 0 0 0 0 0 1 \
     17 310a300a 73797374 656d3a61 6e797573 65720931 32370a00 14 1 1 61000000 2 2 3 2 2 1 1 1 1 0 0 1a4 0 0 0 1 1 1 0 \
@@ -43,33 +44,9 @@ pub(crate) enum Message {
     UnknownHalf,
 }
 
-fn put_words(out: &mut Vec<u8>, words: &str) -> Mem<()> {
-    for word in words.split_whitespace() {
-        let number = u32::from_str_radix(word, 16).unwrap_or(0);
-        out.extend_from_slice(&number.to_be_bytes())?;
-    }
-    Ok(())
-}
-
-/// The bytes of these words.
-fn spelled(alloc: Global, words: &str) -> Mem<Vec<u8>> {
-    let mut bytes = Vec::new(alloc);
-    put_words(&mut bytes, words)?;
-    Ok(bytes)
-}
-
-/// The disk at set-up: an open gate, the record, and a closed gate.
-pub(crate) fn disk(alloc: Global) -> Mem<Vec<u8>> {
-    let mut bytes = Vec::new(alloc);
-    bytes.push(1)?;
-    put_words(&mut bytes, first_record())?;
-    bytes.push(0)?;
-    Ok(bytes)
-}
-
 /// The call with this byte at this place.
 fn changed(alloc: Global, place: usize, byte: u8) -> Mem<Vec<u8>> {
-    let mut bytes = spelled(alloc, fetch())?;
+    let mut bytes = bytes_of(alloc, fetch())?;
     if let Some(one) = bytes.get_mut(place) {
         *one = byte;
     }
@@ -78,17 +55,17 @@ fn changed(alloc: Global, place: usize, byte: u8) -> Mem<Vec<u8>> {
 
 /// The call without its last byte.
 fn cut(alloc: Global) -> Mem<Vec<u8>> {
-    let mut bytes = spelled(alloc, fetch())?;
+    let mut bytes = bytes_of(alloc, fetch())?;
     bytes.truncate(63);
     Ok(bytes)
 }
 
 /// The message's bytes.
-pub(crate) fn bytes_of(alloc: Global, message: Message) -> Mem<Vec<u8>> {
+pub(crate) fn spelled(alloc: Global, message: Message) -> Mem<Vec<u8>> {
     match message {
-        Message::SettledByOne => spelled(alloc, settled_by_one()),
-        Message::SettledByTwo => spelled(alloc, settled_by_two()),
-        Message::Fetch => spelled(alloc, fetch()),
+        Message::SettledByOne => bytes_of(alloc, settled_by_one()),
+        Message::SettledByTwo => bytes_of(alloc, settled_by_two()),
+        Message::Fetch => bytes_of(alloc, fetch()),
         Message::UnknownOperation => changed(alloc, 31, 161),
         Message::Cut => cut(alloc),
         Message::BadPad => changed(alloc, 43, 1),
