@@ -7,7 +7,8 @@ use Rattle.afs_num.specs.declared.records.StoreRecord.{StoreRecord}
 use Rattle.afs_disk.specs.Disk.{Setting}
 use Rattle.afs_journal.specs.Records.{whole_records}
 use Rattle.afs_shape.specs.Taking.{◌>>=◌}
-use Rattle.afs_records.specs.Durable.{bad_by, bad_from, first_bad, first_folded, fold_all, fold_from, folded, nothing_on, Durable}
+use Rattle.afs_fold.specs.Fold.{bad_from, first_bad, first_folded, fold_all, fold_from, folded, bad_by}
+use Rattle.afs_records.specs.Durable.{nothing_on, Durable}
 use Rattle.afs_records.specs.Records.{record_at}
 use Rattle.afs_volstore.specs.Stands.{Stands}
 use Rattle.afs_records.proofs.Forms.{bound}

@@ -1,10 +1,11 @@
 -- A text that is made place by place.
-use Rattle.std.proofs.Common.{◌≡◌, ℕ, zero, suc, ◌+◌, ◌≤◌, List, [], ◌∷◌, ◌++◌, Some, None, length, map, take, slice_get, refl, ap, sym, ◌∙◌, append_assoc, append-nil, arith}
+use Rattle.std.proofs.Common.{◌≡◌, ℕ, zero, suc, ◌+◌, ◌≤◌, Bool, List, [], ◌∷◌, ◌++◌, Some, None, length, map, take, slice_get, refl, ap, sym, ◌∙◌, append_assoc, append-nil, arith}
 use Rattle.std.specs.Prelude.{codes}
 use Rattle.std.specs.Option.{option_map}
 use Rattle.std.specs.List.{flat_map}
 use Rattle.std.proofs.lemmas.Grind.{flat_map-append}
 use Rattle.std.proofs.lemmas.List.{take_all, length-map}
+use Rattle.afs_num.specs.declared.types.Node.{Node}
 use Rattle.afs_num.specs.declared.types.Node.TheVariants.{Server}
 use Rattle.afs_num.specs.declared.histories.Version.{Version}
 use Rattle.afs_num.specs.declared.vnodes.Vnode as image
@@ -12,7 +13,10 @@ use Rattle.afs_ideal.specs.Tables.{Table}
 use Rattle.afs_ideal.specs.Volumes.{type_of, version_at, Vnode}
 use Rattle.afs_records.specs.Durable.{Durable}
 use Rattle.afs_text.specs.FinalText.{final_text, servers_text, version_line_text, vnode_text, volume_text}
+use Rattle.afs_shelves.specs.Shelving.{stored_as}
 use Rattle.afs_volume.specs.Seen.{all_seen, kind_seen, seen, IsReadable}
+use Rattle.afs_volume.specs.Taking.{stored_of}
+use Rattle.afs_volume.specs.declared.volume.Volume.{Volume}
 use Rattle.afs_final.specs.Telling.{text_at}
 
 pub pushed : {A : Type 0} (text : A → List ℕ) (xs ys : List A) (x : A) → ys ≡ xs ++ x ∷ [] → flat_map text ys ≡ flat_map text xs ++ text x
@@ -69,6 +73,13 @@ all_taken t i le = take_all i (map seen_pair t) (omega (arith, le, length-map t 
 pub shown_is : (id : ℕ) (x : image.Vnode) (v : Version) → IsReadable x → v ≡ version_at id x.vnode (seen x) → version_line_text x.kind v ≡ vnode_text id (x.vnode, seen x)
 unfolding seen
 shown_is id x v h is = ap (λ (k : ℕ). version_line_text k v) (sym h.0) ∙ ap (version_line_text (type_of (kind_seen x.kind))) is
+
+-- ---- volumes
+
+-- whether a volume is new isn't told
+pub same_volume : (server : Node) (id : ℕ) (is_new : Bool) (v : Volume) → volume_text server (id, stored_as is_new v) ≡ volume_text server (id, stored_of v)
+unfolding volume_text
+same_volume server id is_new v = refl
 
 -- ---- servers
 

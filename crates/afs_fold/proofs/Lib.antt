@@ -1,4 +1,7 @@
-pub mod Plain
+pub mod Kept
+pub mod Vanishing
 pub mod Grows
+pub mod Ordered
 pub mod Storing
 pub mod Worked
+pub mod Standing

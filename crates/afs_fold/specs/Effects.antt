@@ -11,8 +11,7 @@ use Rattle.afs_history.specs.declared.lines.Line.{Line}
 use Rattle.afs_history.specs.declared.lines.Line.TheVariants as lines
 use Rattle.afs_ideal.specs.SetUp.{first_versions}
 use Rattle.afs_ideal.specs.Tables.{Table, get}
-use Rattle.afs_records.specs.Durable.{Stored, Durable, is_flagged}
-use Rattle.afs_records.specs.Durable as landed
+use Rattle.afs_records.specs.Durable.{Stored, Durable, change_lines, is_flagged, key_in, versions_told}
 use Rattle.afs_fold.specs.Deeds.{created}
 
 -- ---- read-write volumes that go
@@ -70,7 +69,7 @@ lines_of tell (Some s) = tell s
 -- with this head and this body, taken into this durable part
 abbrev pub effect_by : Node → RecordHead → RecordBody → Durable → List Line
 effect_by server h (bodies.Change id counter unique vnodes removed) d =
-    landed.effect_by server h (bodies.Change id counter unique vnodes removed) d
+    change_lines server (key_in h) (versions_told id vnodes removed (get id d.volumes))
 effect_by server h (bodies.Boot boot) d = vanished_lines server d.volumes
 effect_by server h (bodies.Create id family name kind flags quota is_new) d =
     create_lines server id (created family name kind flags quota is_new)

@@ -1,36 +1,46 @@
 -- Laws about the fold of all records.
-use Rattle.std.specs.Prelude.{◌≡◌, ◌≤◌, ℕ, List, [], ◌∷◌, ◌++◌, length, map, true, Some}
+use Rattle.std.specs.Prelude.{◌≡◌, ◌≤◌, ◌+◌, ℕ, List, [], ◌∷◌, ◌++◌, filter, length, map, not, true, Some}
 use Rattle.std.specs.List.{AllByRecursion}
+use Rattle.afs_num.specs.declared.records.RecordHead.{RecordHead}
 use Rattle.afs_num.specs.declared.records.StoreRecord.{StoreRecord}
-use Rattle.afs_num.specs.declared.types.Node.{Node}
-use Rattle.afs_ideal.specs.Tables.{Table}
+use Rattle.afs_ideal.specs.Tables.{Table, get, set}
 use Rattle.afs_ideal.specs.VnodeMaps.{most_vnodes}
-use Rattle.afs_records.specs.Durable.{Durable, Stored}
-use Rattle.afs_records.specs.Durable as landed
+use Rattle.afs_ideal.specs.Volumes.{Edit}
+use Rattle.afs_records.specs.Changes.{boot_record, change_record, stored_after}
+use Rattle.afs_records.specs.Durable.{Durable, Stored, is_flagged, noted, placing, with_journal}
+use Rattle.afs_records.specs.Laws.{CanBeStored}
 use Rattle.afs_records.specs.Records.{record_bytes, FitsRecord}
 use Rattle.afs_records.specs.Sound.{is_sound}
 use Rattle.afs_dumps.specs.Laws.{IsTimed}
-use Rattle.afs_fold.specs.Effects.{effect_of}
-use Rattle.afs_fold.specs.Fold.{folded, fold_all, StandFor}
+use Rattle.afs_fold.specs.Fold.{folded, StandFor}
 
--- ---- what a server without volume calls keeps on its disk
+-- ---- what a server makes itself: changes and starts
 
--- none of its volumes is out of service
-abbrev pub HasOpenVolumes : Durable → Type 0
-HasOpenVolumes d = AllByRecursion (λ (p : ℕ × Stored). p.1.volume.flags ≡ 0) d.volumes
+abbrev pub volume_put : ℕ → Stored → Durable → Durable
+volume_put id s d = record d { volumes = set id s d.volumes }
 
--- What the fold of such a server makes of records, this fold makes of them, too. They tell the same, where no volume is out of service.
-pub record PlainRecordsFoldAlike : Type 0 where
-  pub one : (r : StoreRecord) (d e : Durable) → landed.folded r d ≡ Some e → folded r d ≡ Some e
-  pub all : (capacity : ℕ) (records : List (List ℕ)) (d : Durable) → landed.fold_all capacity records ≡ Some d → fold_all capacity records ≡ Some d
-  pub told : (server : Node) (r : StoreRecord) (d e : Durable) → HasOpenVolumes d → landed.folded r d ≡ Some e →
-      effect_of server r d ≡ landed.effect_of server r d
+-- The fold of a change's record puts the volume that the edits make in the place of the old one, and keeps the reply; so what
+-- is on the disk is the state.
+abbrev pub ChangesAreKept : Type 0
+ChangesAreKept = (head : RecordHead) (id time : ℕ) (es : List Edit) (s : Stored) (d : Durable) → get id d.volumes ≡ Some s → CanBeStored id es s.volume →
+    folded (change_record head id time es s.volume) d
+    ≡ Some (with_journal (placing d (change_record head id time es s.volume)).journal (noted head (volume_put id (stored_after id time es s) d)))
+
+-- what a start leaves
+abbrev pub started : Durable → Durable
+started d = with_journal (placing d (boot_record (d.boot + 1))).journal (record d {
+  boot = d.boot + 1;
+  volumes = filter (λ (p : ℕ × Stored). not (is_flagged p.1)) d.volumes;
+})
+
+abbrev pub StartsAreKept : Type 0
+StartsAreKept = (d : Durable) → folded (boot_record (d.boot + 1)) d ≡ Some (started d)
 
 -- ---- one more record
 
 -- One that can be taken stands for what the fold makes of it.
-abbrev pub OneMoreOfAllStands : Type 0
-OneMoreOfAllStands = (records : List (List ℕ)) (r : StoreRecord) (d e : Durable) → StandFor records d → FitsRecord r → folded r d ≡ Some e →
+abbrev pub OneMoreStands : Type 0
+OneMoreStands = (records : List (List ℕ)) (r : StoreRecord) (d e : Durable) → StandFor records d → FitsRecord r → folded r d ≡ Some e →
     StandFor (records ++ record_bytes r ∷ []) e
 
 -- ---- the volumes on a disk

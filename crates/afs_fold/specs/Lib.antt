@@ -1,4 +1,6 @@
 pub mod Deeds
 pub mod Fold
+pub mod SetUps
 pub mod Effects
 pub mod Laws
+pub mod Orders

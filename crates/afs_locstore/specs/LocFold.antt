@@ -45,5 +45,6 @@ loc_fold = record {
   held = λ h. parts_of h.state;
   record_of = λ p. record_of p.head p.redo;
   IsReady = IsSpelledOut;
+  Suits = λ p d. Unit {0};
   HasRoomFor = λ p h. HasRoomFor p.redo h.state;
 }

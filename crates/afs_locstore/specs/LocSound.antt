@@ -96,6 +96,7 @@ loc_sound = record {
   sized = λ j c d. refl;
   boots = λ j c d. refl;
   starts = λ n d. refl;
+  suits = λ p j c d. (λ x. x, λ x. x);
   fits = λ p ready. ready.fits;
   all = all_same;
   bad = bad_same;

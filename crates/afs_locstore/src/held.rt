@@ -99,7 +99,7 @@ impl Fold<LocRecord, Part> for Held {
         }
     }
 
-    fn ready(alloc: Global, rec: &LocRecord) -> Result<Ready, Unfit> {
+    fn ready(&self, alloc: Global, rec: &LocRecord) -> Result<Ready, Unfit> {
         match ready(alloc, rec) {
             Ok(ready) => Ok(ready),
             Err(_) => Err(Unfit::OutOfMemory),

@@ -18,36 +18,8 @@ use Rattle.afs_seats.proofs.Places.{get_seen, set_seen}
 use Rattle.afs_volume.specs.Seen.{all_seen, kind_seen, seen, IsReadable}
 use Rattle.afs_volume.proofs.Folded.{value_seen}
 use Rattle.afs_volume.proofs.Readable.{readable_kind}
+use Rattle.afs_shelves.proofs.Lists.{drop_none, drop_step}
 use Rattle.afs_memory.specs.Telling.{in_words, outcome_at, outcomes_seen, told_at, value_there, version_within}
-
--- ---- lists gone through by places
-
-drop_next : {A : Type 0} (xs : List A) (i : ℕ) (x : A) → slice_get xs i ≡ Some x → drop i xs ≡ x ∷ drop (suc i) xs
-drop_next {A} [] i x e = absurd cc
-drop_next {A} (y ∷ ys) zero x e = ap (λ (z : A). z ∷ ys) (let is : y ≡ x = cc in is)
-drop_next {A} (y ∷ ys) (suc i) x e = drop_next ys i x e
-
-pub drop_step : {A : Type 0} (xs : List A) (i : ℕ) (x : A) → slice_get xs i ≡ Some x → drop i xs ≡ x ∷ drop (i + 1) xs
-drop_step {A} xs i x e = drop_next xs i x e ∙ ap (λ (j : ℕ). x ∷ drop j xs) (let z : suc i ≡ i + 1 = omega arith in z)
-
-pub drop_end : {A : Type 0} (xs : List A) (i : ℕ) → length xs ≤ i → drop i xs ≡ []
-drop_end {A} [] i le = nothing i
-  where
-    nothing : (j : ℕ) → ◌≡◌ {A = List A} (drop j []) []
-    nothing zero = refl
-    nothing (suc j) = refl
-drop_end {A} (y ∷ ys) zero le = absurd (omega (arith, le))
-drop_end {A} (y ∷ ys) (suc i) le = drop_end ys i (omega (arith, le))
-
-drop_past : {A : Type 0} (xs : List A) (i : ℕ) → slice_get xs i ≡ None → drop (suc i) xs ≡ drop i xs
-drop_past {A} [] zero e = refl
-drop_past {A} [] (suc i) e = refl
-drop_past {A} (y ∷ ys) zero e = absurd cc
-drop_past {A} (y ∷ ys) (suc i) e = drop_past ys i e
-
--- nothing stands in a place
-pub drop_none : {A : Type 0} (xs : List A) (i : ℕ) → slice_get xs i ≡ None → drop (i + 1) xs ≡ drop i xs
-drop_none {A} xs i e = ap (λ (j : ℕ). drop j xs) (let z : i + 1 ≡ suc i = omega arith in z) ∙ drop_past xs i e
 
 -- ---- the places of images
 

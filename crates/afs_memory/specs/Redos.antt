@@ -11,6 +11,8 @@ use Rattle.afs_volume.specs.Seen.{IsReadable}
 use Rattle.afs_volume.specs.Taking.{stored_of}
 use Rattle.afs_volume.specs.declared.volume.Volume.{Volume}
 use Rattle.afs_records.specs.Durable as durable
+use Rattle.afs_records.specs.Durable.{Durable}
+use Rattle.afs_shelves.specs.Deeds.{deed_body, SuitsDeed}
 use Rattle.afs_memory.specs.declared.redo.Redo.{Redo}
 use Rattle.afs_memory.specs.declared.redo.Redo.TheVariants as redos
 
@@ -22,6 +24,7 @@ abbrev pub body_of : Redo → RecordBody
 body_of (redos.Volumes vs) = bodies.First (map told vs)
 body_of (redos.Change id c) = bodies.Change id c.counter c.unique c.vnodes c.removed
 body_of (redos.Start boot) = bodies.Boot boot
+body_of (redos.Deed deed) = deed_body deed
 
 abbrev pub record_of : RecordHead → Redo → StoreRecord
 record_of head redo = record { head = head; body = body_of redo }
@@ -35,3 +38,14 @@ abbrev pub IsReady : Redo → Type 0
 IsReady (redos.Volumes vs) = AllByRecursion IsMadeAgain vs
 IsReady (redos.Change id c) = AllByRecursion IsReadable c.vnodes
 IsReady (redos.Start boot) = Unit {0}
+IsReady (redos.Deed deed) = Unit {0}
+
+-- it is none of a change
+abbrev pub IsNoChange : Redo → Type 0
+IsNoChange (redos.Change id c) = ⊥
+IsNoChange redo = Unit {0}
+
+-- What a volume server did can be taken here, and what was made for it beforehand is what it makes here.
+abbrev pub Suits : Redo → Durable → Type 0
+Suits (redos.Deed deed) d = SuitsDeed deed d
+Suits redo d = Unit {0}

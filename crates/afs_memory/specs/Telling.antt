@@ -1,24 +1,11 @@
--- The lines of a change in words: a count that has no word is told as the last.
-use Rattle.std.specs.Prelude.{ℕ, List, [], ◌∷◌, Option, Some, None, map, min, slice_get}
-use Rattle.afs_history.specs.declared.lines.Line.{Line}
-use Rattle.afs_history.specs.declared.lines.Line.TheVariants as lines
+-- The lines of a change in words.
+use Rattle.std.specs.Prelude.{ℕ, List, [], ◌∷◌, Option, Some, None, map, slice_get}
 use Rattle.afs_num.specs.declared.histories.Version.{Version}
 use Rattle.afs_ideal.specs.Images.{Image, value_of}
-use Rattle.afs_ideal.specs.Operations.{last_count}
 use Rattle.afs_ideal.specs.Tables.{Table, get}
 use Rattle.afs_ideal.specs.Volumes.{Vnode, Volume, version_at}
 use Rattle.afs_records.specs.Durable.{gone_versions}
-
--- ---- counts
-
--- A server changes nothing whose next count has no word, so this is another version only for a record that no server made.
-abbrev pub version_within : Version → Version
-version_within v = record v { index = min v.index last_count; data_version = min v.data_version last_count }
-
-abbrev pub in_words : Line → Line
-in_words (lines.Change server key count) = lines.Change server key (min count last_count)
-in_words (lines.Version v) = lines.Version (version_within v)
-in_words l = l
+pub use Rattle.afs_shelves.specs.Words.{version_within, in_words}
 
 -- ---- what becomes of each vnode, by the place of its image
 

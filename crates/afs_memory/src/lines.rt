@@ -6,12 +6,14 @@ ghost use Rattle.std.specs.List.{AllByRecursion};
 ghost use Rattle.afs_num.specs.declared.vnodes.Vnode as image;
 ghost use Rattle.afs_ideal.specs.Operations.{last_count};
 ghost use Rattle.afs_ideal.specs.Tables.{get};
-ghost use Rattle.afs_ideal.specs.Volumes.{gone_at, version_at};
-ghost use Rattle.afs_records.specs.Durable.{effect_by, key_in, outcome_versions, versions_told, with_outcomes, with_removed};
+ghost use Rattle.afs_ideal.specs.Volumes.{gone_at};
+ghost use Rattle.afs_records.specs.Durable.{key_in, outcome_versions, versions_told, with_outcomes, with_removed};
+ghost use Rattle.afs_fold.specs.Effects.{effect_by, vanished_lines};
 ghost use Rattle.afs_volume.specs.Seen.{seen, volume_seen, IsReadable};
 ghost use Rattle.afs_volume.specs.Taking.{stored_of};
-ghost use Rattle.afs_memory.specs.Redos.{body_of, IsReady};
+ghost use Rattle.afs_memory.specs.Redos.{body_of, IsNoChange, IsReady, Suits};
 ghost use Rattle.afs_memory.specs.States.{parts_of};
+ghost use Rattle.afs_shelves.specs.Words.{AreInWords};
 ghost use Rattle.afs_memory.specs.Telling.{in_words, outcome_at, outcomes_seen, told_at, version_within};
 
 use crate::memory::State;
@@ -23,6 +25,7 @@ use afs_num::types::{Fid, Key, Mem, Node};
 use afs_num::vnodes::Vnode;
 use afs_num::volumes::Change;
 use afs_seats::Seats;
+use afs_shelves::telling::version;
 use afs_volume::Volume;
 use std::alloc::Global;
 
@@ -100,24 +103,6 @@ fn gone(id: u32, number: u32, x: &Vnode) -> Version
         data_version: x.data_version.saturating_add(1),
         body: Body::Gone,
     }
-}
-
-/// The version of a vnode with this number and image.
-#[tactic(auto, unfolding(afs_volume::specs::Seen::seen))]
-fn version(volume: &Volume, number: u32, image: &Vnode) -> Mem<Version>
-    ensures { IfOk result (λ v. v ≡ version_within (version_at volume.now.head.id number (seen image.now))) }
-{
-    let version = volume.version_of(image)?;
-    Ok(Version {
-        fid: Fid {
-            volume: volume.head().id,
-            vnode: number,
-            unique: image.unique,
-        },
-        index: image.index,
-        data_version: image.data_version,
-        body: version.body,
-    })
 }
 
 /// Tells that a vnode of a volume is gone, if it is there.
@@ -238,17 +223,35 @@ impl State {
         }
     }
 
-    /// What a record tells, before it is done.
+    /// What a start tells: the read-write volumes that it deletes.
+    pub fn vanished(&self, server: Node) -> Mem<Lines>
+        ensures value { IfOk result (λ ls. ls ≡ vanished_lines server (parts_of self.now).volumes) }
+        ensures words { IfOk result (λ ls. AreInWords ls) }
+    {
+        self.shelves.vanished(server)
+    }
+
+    /// What a record tells, before it is done. What a volume server's record tells, and that of a start, is in words as it is.
     pub fn lines(&self, server: Node, head: &RecordHead, redo: &Redo) -> Mem<Lines>
-        requires { IsReady redo.now }
-        ensures { IfOk result (λ ls. ls ≡ map in_words (effect_by server head.now (body_of redo.now) (parts_of self.now))) }
+        requires ready { IsReady redo.now }
+        requires suits { Suits redo.now (parts_of self.now) }
+        ensures value { IfOk result (λ ls. ls ≡ map in_words (effect_by server head.now (body_of redo.now) (parts_of self.now))) }
+        ensures words { IfOk result (λ ls. IsNoChange redo.now → ls ≡ effect_by server head.now (body_of redo.now) (parts_of self.now)) }
     {
         match redo {
+            Redo::Volumes(_) => Ok(Lines::new(self.alloc)),
             Redo::Change(id, change) => {
                 let versions = self.versions(*id, change.change())?;
                 change_lines(self.alloc, server, key_in(head), versions)
             }
-            _ => Ok(Lines::new(self.alloc)),
+            Redo::Start(_) => {
+                let lines = self.vanished(server)?;
+                Ok(lines)
+            }
+            Redo::Deed(deed) => {
+                let lines = self.shelves.lines(server, deed)?;
+                Ok(lines)
+            }
         }
     }
 }

@@ -1,11 +1,10 @@
 // What a server's disk keeps, in memory.
 ghost use Rattle.afs_memory.specs.Called.{AreCalled, AreCalled-prop};
-ghost use Rattle.afs_memory.specs.Numbered.{AreNumbered, AreNumbered-prop};
 
 use afs_num::sequences::Octets;
 use afs_num::types::Node;
 use afs_seats::Seats;
-use afs_volume::Volume;
+use afs_shelves::shelves::Shelves;
 use std::alloc::Global;
 
 /// The last reply to a caller.
@@ -17,14 +16,13 @@ pub struct KeptReply {
     pub reply: Octets,
 }
 
-/// The boot number, the volumes by their numbers, the stamps by families, and the kept replies by the callers' numbers.
+/// The boot number, the volumes with their forwardings, the stamps by families, and the kept replies by the callers' numbers.
 #[derive(Drop)]
 pub struct State {
     pub alloc: Global,
     pub boot: u32,
-    pub volumes: Seats<Volume>,
+    pub shelves: Shelves,
     pub stamps: Seats<u32>,
     pub kept: Seats<KeptReply>,
-    ghost numbered: { AreNumbered volumes.table } by { AreNumbered-prop volumes.table },
     ghost called: { AreCalled kept.table } by { AreCalled-prop kept.table },
 }

@@ -4,18 +4,21 @@ ghost use Rattle.std.specs.Prelude.{◌≡◌, ◌≤◌, Err, None, true, false
 ghost use Rattle.std.specs.List.{list_all, AllByRecursion};
 ghost use Rattle.afs_ideal.specs.VnodeImage.{FitsImage};
 ghost use Rattle.afs_ideal.specs.VnodeMaps.{most_vnodes};
-ghost use Rattle.afs_records.specs.Durable.{Durable, body_taken, by_number, stored_of, with_volumes};
+ghost use Rattle.afs_records.specs.Durable.{Durable, by_number, stored_of, with_volumes};
 ghost use Rattle.afs_records.specs.Records.{ascend_from, record_bytes, row, volume_form, FitsRecord};
+ghost use Rattle.afs_fold.specs.Fold.{body_taken};
 ghost use Rattle.afs_volume.specs.Assembling.{can_be_read};
 ghost use Rattle.afs_volume.specs.Listed.{listed_as};
 ghost use Rattle.afs_volume.specs.Seen.{IsReadable};
-ghost use Rattle.afs_memory.specs.Named.{IsNamed};
+ghost use Rattle.afs_memory.specs.Named.{IsNamed, IsRestored, IsRestoredThere};
 ghost use Rattle.afs_memory.specs.Preparing.{IsSpelledOut};
 ghost use Rattle.afs_memory.specs.Redoing.{FitsRedo};
-ghost use Rattle.afs_memory.specs.Redos.{body_of, record_of, told, IsMadeAgain, IsReady};
+ghost use Rattle.afs_memory.specs.Redos.{body_of, record_of, told, IsMadeAgain, IsReady, Suits};
+ghost use Rattle.afs_memory.specs.States.{parts_of};
 ghost use Rattle.afs_record.specs.declared.faults.Unfit.TheVariants.{Bad};
 
 use crate::copying::{copy_head, copy_numbers};
+use crate::memory::State;
 use crate::prepared::Prepared;
 use crate::redo::Redo;
 use afs_num::calls::FsReply;
@@ -28,6 +31,7 @@ use afs_num::volumes::Change;
 use afs_record::faults::{RecordFault, Unfit};
 use afs_record::records::{decode_record, encode_record};
 use afs_records::laws::records_are_read_again;
+use afs_shelves::deed::{Deed, RestoreDeed};
 use afs_vnode::copying::copy_vnodes;
 use afs_vnode::faults::VnodeFault;
 use afs_vnode::store::VnodeStore;
@@ -111,25 +115,32 @@ fn change_of(
     }
 }
 
-/// What a record's body says. `Bad` where the fold can take it into no store.
-pub fn redo_of(alloc: Global, body: RecordBody) -> Result<Redo, Unfit>
-    requires { (row body).Fits }
-    ensures told { IfOk result (λ r. body_of r ≡ body) }
-    ensures ready { IfOk result (λ r. IsReady r) }
-    ensures images { IfOk result (λ r. FitsRedo r) }
-    ensures bad { result ≡ Err Bad → (d : Durable) → body_taken body d ≡ None }
-{
-    match body {
-        RecordBody::First { volumes } => Ok(Redo::Volumes(volumes_of(alloc, volumes)?)),
-        RecordBody::Change {
-            id,
-            counter,
-            unique,
-            vnodes,
-            removed,
-        } => Ok(Redo::Change(id, change_of(alloc, counter, unique, vnodes, removed)?)),
-        RecordBody::Boot { boot } => Ok(Redo::Start(boot)),
-        _ => Err(Unfit::Bad),
+impl State {
+    /// What a record's body says. `Bad` where it can't be taken: of set-up and of a change it is where no store takes it; what a
+    /// volume server did is looked at here, and made for the volumes that are there.
+    pub fn redo_of(&self, body: RecordBody) -> Result<Redo, Unfit>
+        requires { (row body).Fits }
+        ensures told { IfOk result (λ r. body_of r ≡ body) }
+        ensures ready { IfOk result (λ r. IsReady r) }
+        ensures images { IfOk result (λ r. FitsRedo r) }
+        ensures suits { IfOk result (λ r. Suits r (parts_of self.now)) }
+        ensures bad { result ≡ Err Bad → body_taken body (parts_of self.now) ≡ None }
+    {
+        match body {
+            RecordBody::First { volumes } => Ok(Redo::Volumes(volumes_of(self.alloc, volumes)?)),
+            RecordBody::Change {
+                id,
+                counter,
+                unique,
+                vnodes,
+                removed,
+            } => {
+                let change = change_of(self.alloc, counter, unique, vnodes, removed)?;
+                Ok(Redo::Change(id, change))
+            }
+            RecordBody::Boot { boot } => Ok(Redo::Start(boot)),
+            body => Ok(Redo::Deed(self.shelves.deed_of(&body)?)),
+        }
     }
 }
 
@@ -148,16 +159,19 @@ fn copied(alloc: Global, rec: &StoreRecord) -> Mem<(Octets, StoreRecord)>
     }
 }
 
-/// A record made ready for its commit.
-pub fn prepared(alloc: Global, rec: &StoreRecord) -> Result<Prepared, Unfit>
-    requires { FitsRecord rec.now }
-    ensures told { IfOk result (λ p. record_of p.head p.redo ≡ rec.now) }
-    ensures spelled { IfOk result (λ p. IsSpelledOut p) }
-    ensures bad { result ≡ Err Bad → (d : Durable) → body_taken rec.now.body d ≡ None }
-{
-    let (bytes, StoreRecord { head, body }) = copied(alloc, rec)?;
-    let redo = redo_of(alloc, body)?;
-    Ok(Prepared { bytes, head, redo })
+impl State {
+    /// A record made ready for its commit. `Bad` where it can't be taken.
+    pub fn ready(&self, rec: &StoreRecord) -> Result<Prepared, Unfit>
+        requires { FitsRecord rec.now }
+        ensures told { IfOk result (λ p. record_of p.head p.redo ≡ rec.now) }
+        ensures spelled { IfOk result (λ p. IsSpelledOut p) }
+        ensures suits { IfOk result (λ p. Suits p.redo (parts_of self.now)) }
+        ensures bad { result ≡ Err Bad → body_taken rec.now.body (parts_of self.now) ≡ None }
+    {
+        let (bytes, StoreRecord { head, body }) = copied(self.alloc, rec)?;
+        let redo = self.redo_of(body)?;
+        Ok(Prepared { bytes, head, redo })
+    }
 }
 
 /// A change as a record tells it, with the names of its vnodes. Nothing is read.
@@ -192,6 +206,7 @@ fn redo_named(alloc: Global, body: &RecordBody, names: ReadyNames) -> Mem<Redo>
     ensures told { IfOk result (λ r. body_of r ≡ body.now) }
     ensures ready { IfOk result (λ r. IsReady r) }
     ensures images { IfOk result (λ r. FitsRedo r) }
+    ensures suits { IfOk result (λ r. (d : Durable) → Suits r d) }
 {
     match body {
         RecordBody::Change {
@@ -217,9 +232,42 @@ pub fn prepared_change(alloc: Global, rec: &StoreRecord, names: ReadyNames) -> M
     requires named { IsNamed rec.now.body names }
     ensures told { IfOk result (λ p. record_of p.head p.redo ≡ rec.now) }
     ensures spelled { IfOk result (λ p. IsSpelledOut p) }
+    ensures suits { IfOk result (λ p. (d : Durable) → Suits p.redo d) }
 {
     let bytes = encode_record(alloc, rec)?;
     let head = copy_head(alloc, &rec.head)?;
     let redo = redo_named(alloc, &rec.body, names)?;
+    Ok(Prepared { bytes, head, redo })
+}
+
+/// What the body of the record of a restored dump says, with the volume that the dump makes.
+fn redo_restored(alloc: Global, body: &RecordBody, volume: Volume) -> Mem<Redo>
+    requires { IsRestored body.now volume }
+    ensures told { IfOk result (λ r. body_of r ≡ body.now) }
+    ensures ready { IfOk result (λ r. IsReady r) }
+    ensures images { IfOk result (λ r. FitsRedo r) }
+    ensures suits { IfOk result (λ r. (d : Durable) → IsRestoredThere body.now volume d → Suits r d) }
+{
+    match body {
+        RecordBody::Restore { id: _, dump } => {
+            let dump = dump.copy(alloc)?;
+            Ok(Redo::Deed(Deed::Restore(RestoreDeed { dump, volume })))
+        }
+        _ => unreachable!(),
+    }
+}
+
+/// The record of a dump that is restored, which comes with the volume that the dump makes, made ready for its commit. It is
+/// spelled, and shares the dump's bytes; the dump isn't read.
+pub fn prepared_restored(alloc: Global, rec: &StoreRecord, volume: Volume) -> Mem<Prepared>
+    requires fits { FitsRecord rec.now }
+    requires restored { IsRestored rec.now.body volume }
+    ensures told { IfOk result (λ p. record_of p.head p.redo ≡ rec.now) }
+    ensures spelled { IfOk result (λ p. IsSpelledOut p) }
+    ensures suits { IfOk result (λ p. (d : Durable) → IsRestoredThere rec.now.body volume d → Suits p.redo d) }
+{
+    let bytes = encode_record(alloc, rec)?;
+    let head = copy_head(alloc, &rec.head)?;
+    let redo = redo_restored(alloc, &rec.body, volume)?;
     Ok(Prepared { bytes, head, redo })
 }

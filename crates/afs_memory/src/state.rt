@@ -1,12 +1,12 @@
 //! What is found in memory of what a disk keeps, and what a record's head and a start change there.
 
-ghost use Rattle.std.specs.Prelude.{◌≡◌, ◌≤◌, ◌<◌, ◌+◌, None, Some, [], length, IfSome, IfNone, OnOk, false, filter, nat_eq, not, slice_get, if◌then◌else◌};
-ghost use Rattle.std.specs.Option.{option_copied, option_map, option_map_or};
+ghost use Rattle.std.specs.Prelude.{◌≡◌, ◌≤◌, ◌<◌, None, Some, [], IfSome, IfNone, OnOk, nat_eq, slice_get, if◌then◌else◌};
+ghost use Rattle.std.specs.Option.{option_map};
 ghost use Rattle.afs_num.specs.Nodes.{node_number};
 ghost use Rattle.afs_ideal.specs.DirectoryLaws.{IsBytes};
 ghost use Rattle.afs_ideal.specs.Tables.{get, set, AscendsFrom};
-ghost use Rattle.afs_records.specs.Durable.{booted, is_flagged, noted, or_zero};
-ghost use Rattle.afs_volume.specs.Taking.{stored_of};
+ghost use Rattle.afs_records.specs.Durable.{booted, noted, or_zero};
+ghost use Rattle.afs_shelves.specs.Shelving.{is_new_in, shelved, stored_as};
 ghost use Rattle.afs_memory.specs.Called.{AreBytes, AreKnown, IsCaller};
 ghost use Rattle.afs_memory.specs.States.{kept_in, kept_seen, parts_of};
 
@@ -15,31 +15,13 @@ use afs_num::records::RecordHead;
 use afs_num::sequences::Octets;
 use afs_num::types::{Mem, Node};
 use afs_seats::Seats;
+use afs_shelves::shelf::Shelf;
+use afs_shelves::shelves::Shelves;
 use afs_volume::Volume;
 use std::alloc::Global;
-use std::mem::replace;
-
-/// The flag of a volume that goes at the next start.
-const DELETE_ON_SALVAGE: u32 = 1;
 
 /// The boot number of a server whose first record is just being taken.
 const FIRST_BOOT: u32 = 1;
-
-/// Whether a volume goes at the next start.
-fn is_flagged(volume: &Volume) -> bool
-    ensures { result ≡ is_flagged (stored_of volume.now) }
-{
-    volume.head().flags & DELETE_ON_SALVAGE != 0
-}
-
-/// The volumes that stay at a start. It takes no memory.
-fn unflagged(volumes: Seats<Volume>) -> Seats<Volume>
-    ensures { result.table ≡ filter (λ p. not (is_flagged (stored_of p.1))) volumes.table }
-{
-    let mut items = volumes.into_items();
-    items.retain(|item| !is_flagged(&item.1));
-    Seats::from_items(items)
-}
 
 /// Bytes are bytes.
 fn are_bytes(bytes: &[u8])
@@ -52,14 +34,15 @@ impl State {
     /// What stands on a disk without records. It takes no memory.
     pub fn new(alloc: Global) -> State
         ensures boot { result.boot ≡ 1 }
-        ensures volumes { result.volumes.table ≡ [] }
+        ensures volumes { result.shelves.volumes.table ≡ [] }
+        ensures forwardings { result.shelves.forwardings.table ≡ [] }
         ensures stamps { result.stamps.table ≡ [] }
         ensures kept { result.kept.table ≡ [] }
     {
         State {
             alloc,
             boot: FIRST_BOOT,
-            volumes: Seats::new(alloc),
+            shelves: Shelves::new(alloc),
             stamps: Seats::new(alloc),
             kept: Seats::new(alloc),
         }
@@ -67,22 +50,19 @@ impl State {
 
     /// The volume of this number.
     pub fn volume(&self, id: u32) -> Option<&Volume>
-        ensures some { IfSome result (λ v. get id (parts_of self.now).volumes ≡ Some (stored_of v.now)) }
+        ensures some { IfSome result (λ v. get id (parts_of self.now).volumes ≡ Some (stored_as (is_new_in id (parts_of self.now).volumes) v.now)) }
         ensures none { IfNone result (get id (parts_of self.now).volumes ≡ None) }
         ensures id { IfSome result (λ v. v.now.head.id ≡ id) }
     {
-        self.volumes.get(id)
+        self.shelves.volume(id)
     }
 
-    /// The volume at this place in order of the numbers, from 0.
-    pub fn volume_at(&self, place: u32) -> Option<&Volume>
-        ensures some { IfSome result (λ v. slice_get (parts_of self.now).volumes place ≡ Some (v.now.head.id, stored_of v.now)) }
+    /// The volume at this place in order of the numbers, from 0, and whether it is new.
+    pub fn shelf_at(&self, place: u32) -> Option<&Shelf>
+        ensures some { IfSome result (λ s. slice_get (parts_of self.now).volumes place ≡ Some (s.now.volume.head.id, shelved s.now)) }
         ensures none { IfNone result (slice_get (parts_of self.now).volumes place ≡ None) }
     {
-        match self.volumes.at(place as usize) {
-            Some(item) => Some(&item.1),
-            None => None,
-        }
+        self.shelves.shelf_at(place)
     }
 
     /// The stamp of this family, or 0.
@@ -117,20 +97,18 @@ impl State {
         }
     }
 
-    /// The server to which calls for a volume are to go. No record that is taken forwards one.
-    pub fn forwarding(&self, _id: u32) -> Option<Node>
-        ensures { option_map node_number result ≡ get _id (parts_of self.now).forwardings }
+    /// The server to which calls for a volume are to go.
+    pub fn forwarding(&self, id: u32) -> Option<Node>
+        ensures { option_map node_number result ≡ get id (parts_of self.now).forwardings }
     {
-        let _ = &self.boot;
-        None
+        self.shelves.forwarding(id)
     }
 
-    /// Whether a volume is new. No record that is taken makes one.
-    pub fn is_new(&self, _id: u32) -> bool
-        ensures { result ≡ option_map_or (λ s. s.is_new) (get _id (parts_of self.now).volumes) false }
+    /// Whether the volume of this number is there and new.
+    pub fn is_new(&self, id: u32) -> bool
+        ensures { result ≡ is_new_in id (parts_of self.now).volumes }
     {
-        let _ = &self.boot;
-        false
+        self.shelves.is_new(id)
     }
 
     /// Makes room for one stamp and one reply more.
@@ -151,8 +129,7 @@ impl State {
         ensures parts { parts_of self.new ≡ booted boot (parts_of self.old) }
         ensures rest { (self.new.stamps ≡ self.old.stamps) × (self.new.kept ≡ self.old.kept) }
     {
-        let volumes = replace(&mut self.volumes, Seats::new(self.alloc));
-        self.volumes = unflagged(volumes);
+        self.shelves.drop_flagged();
         self.boot = boot;
     }
 

@@ -4,14 +4,14 @@ use Rattle.std.specs.Prelude.{◌||◌, ⊤}
 use Rattle.std.proofs.lemmas.Bool.Decides.{nat_tests}
 use Rattle.afs_num.specs.declared.types.Fid.{Fid}
 use Rattle.afs_num.specs.declared.histories.Version.{Version}
-use Rattle.afs_ideal.specs.ChangeLaws.{by_vnode, Begins, IsOneChange, Raises, RaisesAt, Tells, TellsEach}
+use Rattle.afs_ideal.specs.ChangeLaws.{by_vnode, RaisesAt, Tells, TellsEach}
 use Rattle.afs_ideal.specs.Images.{Image, image_of, value_of}
 use Rattle.afs_ideal.specs.Tables.{Table, get, set, unset, AscendsFrom}
 use Rattle.afs_ideal.specs.Volumes.{amended, amends, amends_at, counted, edit_number, edited, edited_all, fresh, frees, frees_at, makes, makes_at, version_at, versions_by, Amend, Edit, Vnode, Volume}
 use Rattle.afs_ideal.proofs.Tables.{ascends_lower, ascends_set, get_set, get_unset}
 use Rattle.afs_records.specs.Changes.{gone_between, image_left, images_left, numbers_gone}
-use Rattle.afs_records.specs.Durable.{gone_versions, outcome_versions, versions_told, with_outcomes, with_removed, Stored}
-use Rattle.afs_records.specs.Laws.{CanBeStored, ChangesAreTold}
+use Rattle.afs_records.specs.Durable.{gone_versions, outcome_versions, with_outcomes, with_removed}
+use Rattle.afs_records.specs.Laws.{ChangesAreTold}
 use Rattle.afs_records.proofs.Kept.{all_keep, edited_keeps, is_edited, same_tables, value_back}
 
 -- ---- the vnodes that are left

@@ -13,11 +13,9 @@ use Rattle.afs_ideal.specs.Soundness.{HasByKind}
 use Rattle.afs_ideal.proofs.Tables.{get_below, ascends_set, ascends_unset, get_set, get_unset}
 use Rattle.afs_ideal.proofs.AccessLists.{acl_again}
 use Rattle.afs_ideal.proofs.DirectoryBytes.{spelled_is_read}
-use Rattle.afs_num.specs.declared.records.RecordHead.{RecordHead}
 use Rattle.afs_records.specs.Sound.{is_sound}
-use Rattle.afs_records.specs.Durable.{Stored, Durable, placing, with_journal, allowed, with_images, is_there, without_one, without, counted_as, changed_stored, folded, noted}
-use Rattle.afs_records.specs.Changes.{image_left, images_left, gone_between, numbers_gone, change_record, set_times, unset_times, stored_after, stored_between}
-use Rattle.afs_records.specs.Laws.{CanBeStored, volume_put}
+use Rattle.afs_records.specs.Durable.{Stored, allowed, with_images, is_there, without_one, without, counted_as, changed_stored}
+use Rattle.afs_records.specs.Changes.{image_left, images_left, gone_between, numbers_gone, set_times, unset_times, stored_after, stored_between}
 
 -- ---- a value that is spelled as an image is read again
 
@@ -321,10 +319,3 @@ pub changed_is : (id time : ℕ) (es : List Edit) (s : Stored) → AscendsFrom 1
     ≡ Some (stored_after id time es s)
 changed_is id time es s up down values few sound =
     changed_for time es s (counted (edited_all id es s.volume)) up down (λ k. all_keep id k es s.volume) (ap (λ (v : Volume). record v { counter = (edited_all id es s.volume).counter + 1 }) (same_rest id es s.volume)) values few sound
-
-pub change_kept : (head : RecordHead) (id time : ℕ) (es : List Edit) (s : Stored) (d : Durable) → get id d.volumes ≡ Some s → CanBeStored id es s.volume → is_sound (counted (edited_all id es s.volume)) ≡ true →
-    folded (change_record head id time es s.volume) d ≡ Some (with_journal (placing d (change_record head id time es s.volume)).journal (noted head (volume_put id (stored_after id time es s) d)))
-unfolding folded
-change_kept head id time es s d there can sound =
-    let values : (n : ℕ) (x : Vnode) → get n (edited_all id es s.volume).vnodes ≡ Some x → value_of (image_of n time x) ≡ Some x = λ n x e. value_back n time x (can.sound.vnodes n x e).body (can.images n x e).names in
-    rw (there, changed_is id time es s can.before can.sound.ascending values can.few sound) refl

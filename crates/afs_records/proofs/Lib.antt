@@ -6,7 +6,6 @@ pub mod Effects
 pub mod Kept
 pub mod Lengths
 pub mod Fitting
-pub mod Grows
 pub mod Worked
 pub mod LocSpelled
 pub mod LocGrows

@@ -1,17 +1,15 @@
 -- The records of the location database: what is read as one is spelled so, and what is spelled is read.
 use Rattle.std.proofs.Common.{arith, ◌≡◌, ℕ, ◌<◌, ◌^◌, Bool, true, false, cond, List, [], ◌∷◌, ◌++◌, length, not, Option, Some, None, refl, sym, ap, subst, ◌∙◌, inl, inr}
 use Rattle.std.specs.Prelude.{◌&&◌, nat_eq, nat_lt}
-use Rattle.std.specs.List.{AllByRecursion}
 use Rattle.std.proofs.lemmas.Bool.{eqb-true}
 use Rattle.afs_num.specs.declared.location_calls.LocEntry.{LocEntry}
 use Rattle.afs_num.specs.declared.location_calls.LocSite.{LocSite}
 use Rattle.afs_shape.specs.Rows.{no_entry}
-use Rattle.afs_shape.specs.Taking.{◌>>=◌}
 use Rattle.afs_shape.proofs.Codecs.{IsBytes}
-use Rattle.afs_records.specs.Forms.{Form, word_form, text_form, ◌before◌, list_form}
-use Rattle.afs_records.specs.LocRecords.{Boot, Database, Deed, EntryParts, First, FitsLocRecord, Listed, LocBody, LocRecord, Lock, deed_form, deed_made, deed_parts, each, entry_form, entry_made, entry_parts, is_empty, is_no_entry, leaves, listed_form, loc_record, loc_record_at, loc_record_bytes, loc_table, lock_form, lock_made, lock_parts, most_sites, removes, row, sets, site_form, sites_form, unlocked_by}
+use Rattle.afs_records.specs.Forms.{word_form, text_form, ◌before◌, list_form}
+use Rattle.afs_records.specs.LocRecords.{Boot, Database, Deed, First, FitsLocRecord, Listed, LocBody, LocRecord, Lock, deed_form, deed_made, deed_parts, each, entry_form, entry_made, entry_parts, is_empty, is_no_entry, leaves, listed_form, loc_record, loc_record_at, loc_record_bytes, loc_table, lock_form, lock_made, lock_parts, most_sites, removes, row, sets, site_form, sites_form, unlocked_by}
 use Rattle.afs_records.specs.Records.{body_in, flag_form, made_at_end, made_behind, most_name, server_form, spelled_in, FitsIn}
-use Rattle.afs_records.proofs.Forms.{IsSoundForm, before_sound, bound, known_sound, list_sound, only_sound, some_is, text_sound, word_sound}
+use Rattle.afs_records.proofs.Forms.{IsSoundForm, before_sound, known_sound, list_sound, only_sound, some_is, text_sound, word_sound}
 use Rattle.afs_records.proofs.Spelled.{IsRowOf, IsSoundTable, RowIsSoundIn, TakesEnd, TakesField, at_end, behind, behind_again, both_true, chosen, flag_sound, in_rows, none_is_some, server_sound, table_read, table_spelled}
 
 -- ---- an entry

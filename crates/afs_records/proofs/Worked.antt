@@ -3,31 +3,27 @@ use Rattle.std.proofs.Common.{◌≡◌, ℕ, List, [], ◌∷◌, Some, ◌++�
 use Rattle.std.specs.Prelude.{codes, true, false}
 use Rattle.std.specs.Fmt.{decimal}
 use Rattle.std.proofs.lemmas.Fmt.{decimal_digit, decimal_step}
-use Rattle.afs_num.specs.declared.types.Node.TheVariants.{Server, Client}
+use Rattle.afs_num.specs.declared.types.Node.TheVariants.{Client}
 use Rattle.afs_num.specs.declared.vnodes.Vnode.{Vnode}
 use Rattle.afs_history.specs.declared.acts.Written.TheVariants.{Hex}
 use Rattle.afs_history.specs.declared.scripts.SetupLine.TheVariants as setup
 use Rattle.afs_history.specs.declared.scripts.VolumeLine.{VolumeLine}
-use Rattle.afs_xdr.specs.Words.{word, words, opaque, pad, word_at, opaque_at, counted_at}
+use Rattle.afs_xdr.specs.Words.{word, words, opaque, pad}
 use Rattle.afs_ideal.specs.AccessLists as acls
 use Rattle.afs_ideal.specs.Directories as directories
-use Rattle.afs_ideal.specs.VnodeImage.{kind_fits, image, image_at, word_field, opaque_field, kind_field}
-use Rattle.afs_ideal.specs.Images.{value_of}
+use Rattle.afs_ideal.specs.VnodeImage.{image}
 use Rattle.afs_ideal.specs.SetUp.{new_root, led, laid_at}
-use Rattle.afs_ideal.specs.Volumes.{fresh}
-use Rattle.afs_ideal.specs.Operations.{new_file}
 use Rattle.afs_num.specs.Names.{name_ok}
 use Rattle.afs_num.specs.declared.records.StoredVolume.{StoredVolume}
 use Rattle.afs_num.specs.declared.records.RecordBody.TheVariants as bodies
 use Rattle.afs_num.specs.declared.records.StoreRecord.{StoreRecord}
-use Rattle.afs_records.specs.Records.{head_form, volume_form, record_bytes, record_at}
-use Rattle.afs_records.specs.Sound.{is_sound}
-use Rattle.afs_records.specs.Durable.{Durable, has_room, folded, fold_all}
+use Rattle.afs_records.specs.Records.{head_form, volume_form, record_bytes}
+use Rattle.afs_records.specs.Durable.{Durable, has_room}
 use Rattle.afs_records.specs.Changes.{no_head, boot_record, can_boot, first_record}
 
 -- ---- a volume with one file
 
-abbrev home : ℕ
+abbrev pub home : ℕ
 home = 536870912
 
 abbrev line : VolumeLine
@@ -84,14 +80,14 @@ volume = record {
 abbrev first : StoreRecord
 first = record { head = no_head; body = bodies.First (volume ∷ []) }
 
-abbrev first_words : List ℕ
+abbrev pub first_words : List ℕ
 first_words =
     1 ∷ 0 ∷ 0 ∷ 0 ∷ 0 ∷ 0 ∷ 0 ∷ 1 ∷ 4 ∷ 1886547818 ∷ 0 ∷ 2 ∷ 536870912 ∷ 536870912 ∷ 0 ∷ 1000 ∷ 3 ∷ 1 ∷ 0 ∷ 2 ∷ 1 ∷ 1 ∷ 2 ∷ 2 ∷ 3 ∷ 1 ∷ 1 ∷ 2 ∷ 1 ∷ 1
     ∷ 2 ∷ 0 ∷ 0 ∷ 493 ∷ 0 ∷ 0 ∷ 0 ∷ 0 ∷ 0 ∷ 1 ∷ 23 ∷ 822751242 ∷ 1937339252 ∷ 1701657185 ∷ 1853453683 ∷ 1701972273 ∷ 842467840 ∷ 20 ∷ 1 ∷ 1 ∷
     1627389952 ∷ 2 ∷ 2 ∷ 3 ∷ 2 ∷ 2 ∷ 1 ∷ 1 ∷ 1 ∷ 1 ∷ 0 ∷ 0 ∷ 420 ∷ 0 ∷ 0 ∷ 0 ∷ 1 ∷ 1 ∷ 1 ∷ 0 ∷ 3 ∷ 1633837824 ∷ []
 
 -- the reply to a store of three bytes
-abbrev reply : List ℕ
+abbrev pub reply : List ℕ
 reply = words (
     2 ∷ 1 ∷ 101 ∷ 1 ∷ 1 ∷ 1 ∷ 0 ∷ 133 ∷ 0 ∷ 1 ∷ 1 ∷ 1 ∷ 3 ∷ 2 ∷ 0 ∷ 0 ∷ 127 ∷ 127 ∷ 420 ∷ 1 ∷ 1 ∷ 0 ∷ 0 ∷ 0 ∷ 0 ∷ 2 ∷ 0 ∷ 0 ∷ 0 ∷ 0 ∷ 0 ∷ 0 ∷ 0 ∷ 0 ∷
     0 ∷ 0 ∷ [])
@@ -102,13 +98,13 @@ change = record {
   body = bodies.Change home 2 3 (record file { index = 2; data_version = 2; change_counter = 2; contents = codes "def" } ∷ []) [];
 }
 
-abbrev change_words : List ℕ
+abbrev pub change_words : List ℕ
 change_words =
     2 ∷ 0 ∷ 0 ∷ 101 ∷ 1 ∷ 1 ∷ 144 ∷ 2 ∷ 1 ∷ 101 ∷ 1 ∷ 1 ∷ 1 ∷ 0 ∷ 133 ∷ 0 ∷ 1 ∷ 1 ∷ 1 ∷ 3 ∷ 2 ∷ 0 ∷ 0 ∷ 127 ∷ 127 ∷ 420 ∷ 1 ∷ 1 ∷ 0 ∷ 0 ∷ 0 ∷ 0 ∷ 2 ∷
     0 ∷ 0 ∷ 0 ∷ 0 ∷ 0 ∷ 0 ∷ 0 ∷ 0 ∷ 0 ∷ 0 ∷ 536870912 ∷ 2 ∷ 3 ∷ 1 ∷ 2 ∷ 2 ∷ 1 ∷ 2 ∷ 2 ∷ 1 ∷ 0 ∷ 0 ∷ 420 ∷ 0 ∷ 0 ∷ 0 ∷ 1 ∷ 1 ∷ 2 ∷ 0 ∷ 3 ∷ 1684366848
     ∷ 0 ∷ []
 
-abbrev start_words : List ℕ
+abbrev pub start_words : List ℕ
 start_words =
     3 ∷ 0 ∷ 0 ∷ 0 ∷ 0 ∷ 0 ∷ 0 ∷ 2 ∷ []
 
@@ -173,38 +169,3 @@ no_start = rw start_is_32 refl
 
 a_start : can_boot (disk_of 339) ≡ true
 a_start = rw start_is_32 refl
-
--- ---- what the three stand for
-
-abbrev after : Durable
-after = record {
-  boot = 2;
-  volumes = (
-    home,
-    record {
-      volume = record {
-        family = home;
-        name = codes "proj";
-        kind = 0;
-        flags = 0;
-        quota = 1000;
-        next = 3;
-        counter = 2;
-        release = 0;
-        vnodes = (1, record new_root { names = (record { name = codes "a"; vnode = 2; unique = 2 }) ∷ [] })
-            ∷ (2, record (fresh 2 2 (new_file (record { volume = home; vnode = 1; unique = 1 }))) { index = 2; data_version = 2; contents = codes "def" }) ∷ [];
-      };
-      times = (1, 0) ∷ (2, 0) ∷ [];
-      is_new = false;
-    },
-  ) ∷ [];
-  stamps = [];
-  forwardings = [];
-  kept = (101, record { epoch = 1; number = 1; reply = reply }) ∷ [];
-  journal = 612;
-  capacity = 268435456;
-}
-
-they_stand : fold_all 268435456 (words first_words ∷ words change_words ∷ words start_words ∷ []) ≡ Some after
-unfolding record_at record_bytes head_form volume_form word opaque pad word_at opaque_at counted_at image image_at word_field opaque_field kind_field kind_fits value_of is_sound folded directories.directory_of directories.whole_at directories.count_at directories.names_at directories.name_at directories.spelled_at directories.bytes_below acls.acl_at acls.count_at acls.line_number_at acls.entry_at acls.name_at acls.named_at name_ok
-they_stand = refl

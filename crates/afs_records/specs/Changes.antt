@@ -1,5 +1,5 @@
 -- The records that a server makes: of set-up, of a change, of a start.
-use Rattle.std.specs.Prelude.{ℕ, ◌+◌, List, [], ◌∷◌, ◌++◌, length, map, Bool, false, ◌&&◌, Option, Some, None, Result, Ok, Err, nat_lt, if◌then◌else◌}
+use Rattle.std.specs.Prelude.{ℕ, ◌+◌, List, [], ◌∷◌, ◌++◌, length, map, Bool, false, ◌&&◌, Option, Some, None, Result, Ok, Err, nat_lt}
 use Rattle.std.specs.Option.{option_map}
 use Rattle.afs_num.specs.declared.types.Key.{Key}
 use Rattle.afs_num.specs.declared.volumes.VolumeHead.{VolumeHead}
@@ -16,7 +16,7 @@ use Rattle.afs_num.specs.declared.records.StoredVolume.{StoredVolume}
 use Rattle.afs_num.specs.declared.records.RecordBody.TheVariants as bodies
 use Rattle.afs_num.specs.declared.records.StoreRecord.{StoreRecord}
 use Rattle.afs_records.specs.Records.{record_bytes}
-use Rattle.afs_records.specs.Durable.{Stored, Durable, nothing_on, or_zero, has_room, first_folded}
+use Rattle.afs_records.specs.Durable.{Stored, Durable, or_zero, has_room}
 
 -- ---- heads
 
@@ -139,7 +139,3 @@ first_record ls = volumes_laid ls [] >>= λ t. Some (record_of_volumes t)
 
 abbrev pub first_length : List VolumeLine → Option ℕ
 first_length ls = option_map (λ (r : StoreRecord). length (record_bytes r)) (first_record ls)
-
--- a new disk of this capacity; None also where the first record doesn't fit
-abbrev pub set_up : ℕ → List VolumeLine → Option Durable
-set_up capacity ls = first_record ls >>= λ r. (if has_room (nothing_on capacity) r then first_folded r (nothing_on capacity) else None)

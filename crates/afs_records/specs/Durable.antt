@@ -1,5 +1,5 @@
--- What a server keeps on its disk, and how each record of its journal changes it: the fold.
-use Rattle.std.specs.Prelude.{◌≡◌, ℕ, ◌+◌, List, [], ◌∷◌, ◌++◌, length, map, filter, Bool, true, false, not, ◌&&◌, Option, Some, None, is_some, nat_eq, nat_lt, if◌then◌else◌}
+-- What a server keeps on its disk, and what its own records say of it.
+use Rattle.std.specs.Prelude.{ℕ, ◌+◌, List, [], ◌∷◌, ◌++◌, length, map, filter, Bool, false, not, ◌&&◌, Option, Some, None, is_some, nat_eq, nat_lt, if◌then◌else◌}
 use Rattle.std.specs.List.{list_all}
 use Rattle.afs_num.specs.Nodes.{node_number}
 use Rattle.afs_num.specs.declared.types.Fid.{Fid}
@@ -16,11 +16,10 @@ use Rattle.afs_ideal.specs.Images.{Image, value_of, values_of}
 use Rattle.afs_ideal.specs.Volumes.{Vnode, Volume, has_bit, version_at, gone_at}
 use Rattle.afs_num.specs.declared.records.RecordHead.{RecordHead}
 use Rattle.afs_num.specs.declared.records.StoredVolume.{StoredVolume}
-use Rattle.afs_num.specs.declared.records.RecordBody.{RecordBody}
 use Rattle.afs_num.specs.declared.records.RecordBody.TheVariants as bodies
 use Rattle.afs_num.specs.declared.records.StoreRecord.{StoreRecord}
 use Rattle.afs_num.specs.declared.records.Mark.{Mark}
-use Rattle.afs_records.specs.Records.{record_bytes, record_at}
+use Rattle.afs_records.specs.Records.{record_bytes}
 use Rattle.afs_records.specs.Sound.{is_sound}
 
 -- ---- the durable part
@@ -165,14 +164,6 @@ is_flagged s = has_bit 1 s.volume.flags
 abbrev pub booted : ℕ → Durable → Durable
 booted boot d = record d { boot = boot; volumes = filter (λ (p : ℕ × Stored). not (is_flagged p.1)) d.volumes }
 
--- the volumes of this server are neither made nor moved while it runs, so no other record is taken
-abbrev pub body_taken : RecordBody → Durable → Option Durable
-body_taken (bodies.First volumes) d = with_volumes volumes d
-body_taken (bodies.Change id counter unique vnodes removed) d =
-    get id d.volumes >>= λ s. replaced id (changed_stored counter unique vnodes removed s) d
-body_taken (bodies.Boot boot) d = Some (booted boot d)
-body_taken body d = None
-
 -- what the head says
 
 abbrev pub with_stamp : RecordHead → Durable → Durable
@@ -190,46 +181,6 @@ noted h d = with_reply h.caller h (with_stamp h d)
 
 abbrev pub with_journal : ℕ → Durable → Durable
 with_journal n d = record d { journal = n }
-
--- one record
-unfoldable pub folded : StoreRecord → Durable → Option Durable
-folded r d = body_taken r.body d >>= λ e. Some (with_journal (placing d r).journal (noted r.head e))
-
--- records from the first on: the first tells the volumes of set-up
-
-abbrev pub is_first : RecordBody → Bool
-is_first (bodies.First volumes) = true
-is_first body = false
-
-abbrev pub first_folded : StoreRecord → Durable → Option Durable
-first_folded r d = if is_first r.body then folded r d else None
-
-abbrev pub fold_from : List (List ℕ) → Durable → Option Durable
-fold_from [] d = Some d
-fold_from (bytes ∷ rest) d = record_at bytes >>= λ r. (folded r d >>= fold_from rest)
-
--- what the bytes of records stand for, on a disk of this capacity; a missing first record counts as one that can't be taken
-abbrev pub fold_all : ℕ → List (List ℕ) → Option Durable
-fold_all capacity [] = None
-fold_all capacity (bytes ∷ rest) = record_at bytes >>= λ r. (first_folded r (nothing_on capacity) >>= fold_from rest)
-
--- The records are those of a disk with this durable part.
-abbrev pub StandFor : List (List ℕ) → Durable → Type 0
-StandFor records d = fold_all d.capacity records ≡ Some d
-
--- ---- which record can't be taken: its number, from 1
-
-abbrev pub bad_by : ℕ → Option Durable → (Durable → Option ℕ) → Option ℕ
-bad_by number None next = Some number
-bad_by number (Some d) next = next d
-
-abbrev pub bad_from : ℕ → List (List ℕ) → Durable → Option ℕ
-bad_from number [] d = None
-bad_from number (bytes ∷ rest) d = bad_by number (record_at bytes >>= λ r. folded r d) (bad_from (number + 1) rest)
-
-abbrev pub first_bad : ℕ → List (List ℕ) → Option ℕ
-first_bad capacity [] = Some 1
-first_bad capacity (bytes ∷ rest) = bad_by 1 (record_at bytes >>= λ r. first_folded r (nothing_on capacity)) (bad_from 2 rest)
 
 -- ---- what a record tells: the effect of a step, as its server's entry tells it, and as a restart tells it after a step that
 -- was interrupted behind its record
@@ -266,16 +217,6 @@ key_in h = record { node = caller_or_loc h.caller; epoch = h.epoch; number = h.n
 
 abbrev pub change_lines : Node → Key → List Version → List Line
 change_lines server key versions = lines.Change server key (length versions) ∷ map lines.Version versions
-
--- The lines of a record with this body. Only a change has some: set-up makes no volume that a start deletes.
-abbrev pub effect_by : Node → RecordHead → RecordBody → Durable → List Line
-effect_by server h (bodies.Change id counter unique vnodes removed) d =
-    change_lines server (key_in h) (versions_told id vnodes removed (get id d.volumes))
-effect_by server h body d = []
-
--- of a record that is taken into this durable part
-abbrev pub effect_of : Node → StoreRecord → Durable → List Line
-effect_of server r d = effect_by server r.head r.body d
 
 -- ---- the mark: how many records stand on the disk, in its one generation
 abbrev pub mark_of : List (List ℕ) → Mark

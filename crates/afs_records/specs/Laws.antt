@@ -1,6 +1,6 @@
--- Laws about records: bytes and records are one for one, and the fold of a server's own records is what its steps do.
-use Rattle.std.specs.Prelude.{◌≡◌, ◌≤◌, ◌<◌, ◌+◌, ◌^◌, ℕ, List, [], ◌∷◌, ◌++◌, length, true, Some, filter, not}
-use Rattle.afs_ideal.specs.Tables.{get, set, AscendsFrom}
+-- Laws about records: bytes and records are one for one, and what a server's own records say and tell.
+use Rattle.std.specs.Prelude.{◌≡◌, ◌≤◌, ◌<◌, ◌^◌, ℕ, List, length, true, Some}
+use Rattle.afs_ideal.specs.Tables.{get, AscendsFrom}
 use Rattle.afs_ideal.specs.DirectoryLaws.{IsBytes}
 use Rattle.afs_ideal.specs.Images.{HasImage}
 use Rattle.afs_ideal.specs.VnodeMaps.{most_vnodes}
@@ -13,8 +13,8 @@ use Rattle.afs_num.specs.declared.records.RecordHead.{RecordHead}
 use Rattle.afs_num.specs.declared.records.StoreRecord.{StoreRecord}
 use Rattle.afs_records.specs.Records.{head_form, record_bytes, record_at, FitsRecord}
 use Rattle.afs_records.specs.Sound.{is_sound}
-use Rattle.afs_records.specs.Durable.{Stored, Durable, folded, StandFor, noted, placing, with_journal, is_flagged, versions_told}
-use Rattle.afs_records.specs.Changes.{change_record, stored_after, boot_record, images_left, numbers_gone}
+use Rattle.afs_records.specs.Durable.{Stored, versions_told}
+use Rattle.afs_records.specs.Changes.{change_record, images_left, numbers_gone}
 
 -- a record within the limits is read again from its bytes
 abbrev pub RecordsAreReadAgain : Type 0
@@ -57,37 +57,13 @@ pub record IsInWords (id time : ℕ) (es : List Edit) (before after : Volume) : 
 abbrev pub ChangesFit : Type 0
 ChangesFit = (head : RecordHead) (id time : ℕ) (es : List Edit) (v : Volume) → head_form.Fits head → CanBeStored id es v → IsInWords id time es v (counted (edited_all id es v)) → FitsRecord (change_record head id time es v)
 
-abbrev pub volume_put : ℕ → Stored → Durable → Durable
-volume_put id s d = record d { volumes = set id s d.volumes }
-
--- The fold of a change's record puts the volume that the edits make in the place of the old one, and keeps the reply; so what
--- is on the disk is the state.
-abbrev pub ChangesAreKept : Type 0
-ChangesAreKept = (head : RecordHead) (id time : ℕ) (es : List Edit) (s : Stored) (d : Durable) → get id d.volumes ≡ Some s → CanBeStored id es s.volume →
-    folded (change_record head id time es s.volume) d
-    ≡ Some (with_journal (placing d (change_record head id time es s.volume)).journal (noted head (volume_put id (stored_after id time es s) d)))
-
 -- What the record of one change tells are the versions that its edits make.
 abbrev pub ChangesAreTold : Type 0
 ChangesAreTold = (id time : ℕ) (es : List Edit) (s : Stored) → IsOneChange id es s.volume → CanBeStored id es s.volume →
     versions_told id (images_left time es (counted (edited_all id es s.volume))) (numbers_gone es s.volume (counted (edited_all id es s.volume))) (Some s)
     ≡ versions_by id es s.volume
 
--- what a start leaves
-abbrev pub started : Durable → Durable
-started d = with_journal (placing d (boot_record (d.boot + 1))).journal (record d {
-  boot = d.boot + 1;
-  volumes = filter (λ (p : ℕ × Stored). not (is_flagged p.1)) d.volumes;
-})
-
-abbrev pub StartsAreKept : Type 0
-StartsAreKept = (d : Durable) → folded (boot_record (d.boot + 1)) d ≡ Some (started d)
-
 -- How long the record of a change is doesn't depend on its time, nor on what the reply says, but on how long that is.
 abbrev pub LengthHasNoTime : Type 0
 LengthHasNoTime = (head other : RecordHead) (id time later : ℕ) (es : List Edit) (v : Volume) → length head.reply ≡ length other.reply →
     length (record_bytes (change_record head id time es v)) ≡ length (record_bytes (change_record other id later es v))
-
--- One more record, that can be taken, stands for what the fold makes of it.
-abbrev pub OneMoreStands : Type 0
-OneMoreStands = (records : List (List ℕ)) (r : StoreRecord) (d e : Durable) → StandFor records d → FitsRecord r → folded r d ≡ Some e → StandFor (records ++ record_bytes r ∷ []) e

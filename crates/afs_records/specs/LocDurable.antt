@@ -1,8 +1,6 @@
 -- What the location database keeps on its disk, and how each record of its journal changes it: the fold.
 use Rattle.std.specs.Prelude.{◌≡◌, ◌+◌, ◌&&◌, ℕ, List, [], ◌∷◌, length, Bool, true, false, not, Option, Some, None, is_some, nat_lt, if◌then◌else◌}
 use Rattle.afs_num.specs.Nodes.{node_number}
-use Rattle.afs_num.specs.declared.location_calls.LocEntry.{LocEntry}
-use Rattle.afs_num.specs.declared.records.Mark.{Mark}
 use Rattle.afs_num.specs.declared.records.RecordHead.{RecordHead}
 use Rattle.afs_num.specs.declared.types.Node.{Node}
 use Rattle.afs_history.specs.declared.scripts.VolumeLine.{VolumeLine}

@@ -1,7 +1,6 @@
 -- What a record of the location database tells: the effect of a step, as its entry tells it, and as a restart tells it behind a step
 -- that was interrupted with its record whole.
 use Rattle.std.specs.Prelude.{ℕ, List, [], ◌∷◌, ◌++◌, Bool, false, Option, Some, None, nat_eq, if◌then◌else◌}
-use Rattle.std.specs.Option.{option_map}
 use Rattle.afs_num.specs.declared.types.Node.TheVariants.{Server}
 use Rattle.afs_history.specs.declared.lines.Line.{Line}
 use Rattle.afs_history.specs.declared.lines.Line.TheVariants as lines

@@ -1,6 +1,6 @@
 //! Laws about records. Each is the contract of a function that does nothing.
 
-ghost use Rattle.afs_records.specs.Laws.{ChangesAreKept, ChangesAreTold, ChangesFit, LengthHasNoTime, OneMoreStands, PassingVolumesAreSound, ReadRecordsAreSpelled, RecordsAreReadAgain, SoundVolumesPass, StartsAreKept};
+ghost use Rattle.afs_records.specs.Laws.{ChangesAreTold, ChangesFit, LengthHasNoTime, PassingVolumesAreSound, ReadRecordsAreSpelled, RecordsAreReadAgain, SoundVolumesPass};
 ghost use Rattle.afs_records.specs.LocLaws.{LocRecordsAreReadAgain, LocStartsAreKept, OneMoreLocStands, ReadLocRecordsAreSpelled};
 
 /// A record within its limits is read again from its bytes.
@@ -28,29 +28,14 @@ pub fn changes_fit()
     ensures { ChangesFit }
 {}
 
-/// The fold of a change's record puts the volume that its edits make, and keeps the reply.
-pub fn changes_are_kept()
-    ensures { ChangesAreKept }
-{}
-
 /// What the record of one change tells are the versions that its edits make.
 pub fn changes_are_told()
     ensures { ChangesAreTold }
 {}
 
-/// The fold of a start's record raises the boot number and deletes the flagged volumes; all else stays.
-pub fn starts_are_kept()
-    ensures { StartsAreKept }
-{}
-
 /// How long the record of a change is doesn't depend on its time.
 pub fn length_has_no_time()
     ensures { LengthHasNoTime }
-{}
-
-/// One more record, that can be taken, stands for what the fold makes of it.
-pub fn one_more_stands()
-    ensures { OneMoreStands }
 {}
 
 /// A record of the location database within its limits is read again from its bytes.

@@ -20,8 +20,10 @@ use Rattle.afs_ideal.specs.Volumes.{Vnode, Volume}
 use Rattle.afs_ideal.proofs.Basics.{both_true}
 use Rattle.afs_ideal.proofs.Laid as setting
 use Rattle.afs_ideal.proofs.Tables.{get_below}
-use Rattle.afs_records.specs.Changes.{accepted, at_set_up, first_record, images_of, laid_all, no_head, record_of_volumes, set_up, stored_volume, volume_laid, volumes_laid}
-use Rattle.afs_records.specs.Durable.{allowed, by_number, first_folded, folded, has_room, most_volumes, noted, nothing_on, or_zero, place_length, stored_of, times_of, volume_with, with_journal, with_stored, with_volumes, Durable, Stored}
+use Rattle.afs_records.specs.Changes.{accepted, at_set_up, first_record, images_of, laid_all, no_head, record_of_volumes, stored_volume, volume_laid, volumes_laid}
+use Rattle.afs_fold.specs.SetUps.{set_up}
+use Rattle.afs_records.specs.Durable.{allowed, by_number, has_room, most_volumes, noted, nothing_on, or_zero, place_length, stored_of, times_of, volume_with, with_journal, with_stored, with_volumes, Durable, Stored}
+use Rattle.afs_fold.specs.Fold.{first_folded, folded}
 use Rattle.afs_records.specs.Sound.{is_sound}
 use Rattle.afs_records.proofs.Kept.{value_back}
 use Rattle.afs_records.proofs.Tested.{passes}

@@ -1,7 +1,7 @@
 -- What a script that was read gives the cell that plays it.
 use Rattle.std.specs.Prelude.{◌≡◌, ℕ, Some}
 use Rattle.afs_history.specs.declared.scripts.Script.{Script}
-use Rattle.afs_records.specs.Changes.{set_up}
+use Rattle.afs_fold.specs.SetUps.{set_up}
 use Rattle.afs_records.specs.Durable.{Durable}
 use Rattle.afs_records.specs.LocDurable.{loc_set_up, LocDurable}
 use Rattle.afs_law.specs.Cells.{IsOfCell}

@@ -6,8 +6,10 @@ ghost use Rattle.afs_num.specs.declared.records.StoreRecord as records;
 ghost use Rattle.afs_disk.specs.Disk.{LeavesJust};
 ghost use Rattle.afs_disk.specs.Words.{LeavesOnlyBy, TellsOn, SameFaults, PassesBy};
 ghost use Rattle.afs_journal.specs.Log.{IsJournal};
-ghost use Rattle.afs_records.specs.Changes.{first_record, set_up};
-ghost use Rattle.afs_records.specs.Durable.{Durable, body_taken, is_first};
+ghost use Rattle.afs_records.specs.Changes.{first_record};
+ghost use Rattle.afs_fold.specs.SetUps.{set_up};
+ghost use Rattle.afs_fold.specs.Fold.{body_taken, is_first};
+ghost use Rattle.afs_records.specs.Durable.{Durable};
 ghost use Rattle.afs_records.specs.Records.{record_bytes, FitsRecord};
 ghost use Rattle.afs_volstore.specs.Opening.{CanBeSetUp, IsSetUpFault, IsSetUpSoFar};
 ghost use Rattle.afs_volstore.specs.Stores.{IsKept, IsCausedBy, MovedBy};
@@ -60,7 +62,8 @@ pub fn create<D: Disk>(
     requires limit { D.limit disk ≤ 268435456 }
     requires lines { CanBeSetUp (map (λ l. l.now) volumes.now) }
     ensures made { IfOk result (λ s. set_up (D.limit disk) (map (λ l. l.now) volumes.now) ≡ Some s.durable) }
-    ensures rest { IfOk result (λ s. s ≡ record { durable = s.durable; disk = s.disk; node = node; prepared = None; closed = false; count = 1; drawn = 0 }) }
+    ensures rest { IfOk result (λ s. s ≡ record { durable = s.durable; disk = s.disk; node = node; prepared = None; closed = false; count = 1; drawn = 0; holds = s.holds }) }
+    ensures free { IfOk result (λ s. s.holds.table ≡ []) }
     ensures kept { IfOk result (λ s. IsKept s.durable (D.seen s.disk) (D.may_leave s.disk)) }
 
     // Where the disk told its bytes, the first record alone stands there, and every crash leaves it.

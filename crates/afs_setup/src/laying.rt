@@ -4,7 +4,8 @@ ghost use Rattle.std.specs.Prelude.{◌≡◌, ◌≤◌, ◌<◌, ◌^◌, [], 
 ghost use Rattle.std.specs.List.{AllByRecursion};
 ghost use Rattle.afs_records.specs.Changes.{first_length, first_record, laid_all, stored_volume, volume_laid, volumes_laid};
 ghost use Rattle.afs_records.specs.Durable as durable;
-ghost use Rattle.afs_records.specs.Durable.{Durable, body_taken, is_first};
+ghost use Rattle.afs_fold.specs.Fold.{body_taken, is_first};
+ghost use Rattle.afs_records.specs.Durable.{Durable};
 ghost use Rattle.afs_records.specs.Forms.{HasImageForm};
 ghost use Rattle.afs_records.specs.Records.{record_bytes, volume_form, FitsRecord};
 ghost use Rattle.afs_ideal.specs.VnodeImage.{image_words, kind_fits, FitsImage};

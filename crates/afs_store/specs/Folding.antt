@@ -30,8 +30,10 @@ pub record Folding (R T S P : Type 0) : Type 1 where
   pub fold_all : ℕ → List (List ℕ) → Option T
   pub first_bad : ℕ → List (List ℕ) → Option ℕ
   pub last_effect : Node → ℕ → List (List ℕ) → Option (List Line)
-  -- what the memory holds; of a record that was made ready, which it is, that it is ready, and that there is room for it
+  -- what the memory holds; of a record that was made ready, which it is, that it is ready, that what was made for it beforehand is
+  -- what it makes of this, and that there is room for it
   pub held : S → T
   pub record_of : P → R
   pub IsReady : P → Type 0
+  pub Suits : P → T → Type 0
   pub HasRoomFor : P → S → Type 0

@@ -1,5 +1,5 @@
 -- When records, what they make and the memory fit together.
-use Rattle.std.specs.Prelude.{◌≡◌, ℕ, ◌+◌, List, Some, true, is_some}
+use Rattle.std.specs.Prelude.{◌≡◌, ◌↔◌, ℕ, ◌+◌, List, Some, true, is_some}
 use Rattle.std.specs.Option.{option_map}
 use Rattle.afs_num.specs.declared.types.Node.{Node}
 use Rattle.afs_store.specs.Folding.{Folding}
@@ -18,6 +18,8 @@ pub record IsSound {R T S P : Type 0} (k : Folding R T S P) : Type 0 where
   pub boots : (j c : ℕ) (d : T) → k.boot (k.placed j c d) ≡ k.boot d
   -- a start can be taken at any time
   pub starts : (n : ℕ) (d : T) → is_some (k.done (k.start n) d) ≡ true
+  -- what was made beforehand doesn't depend on the place
+  pub suits : (p : P) (j c : ℕ) (d : T) → k.Suits p (k.placed j c d) ↔ k.Suits p d
   -- what was made ready has a spelling
   pub fits : (p : P) → k.IsReady p → k.Fits (k.record_of p)
   -- all records are folded one after the other

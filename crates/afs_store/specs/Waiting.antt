@@ -20,6 +20,7 @@ KeepsMemory {R} {T} {S} {P} k old new = (p : P) → k.HasRoomFor p old → k.Has
 pub record Waits {R T S P D : Type 0} (k : Folding R T S P) (limit : D → ℕ) (space : D → Room) (log : Log D) (s : S) (p : P) : Type 0 where
   pub taken : is_some (k.done (k.record_of p) (k.held s)) ≡ true
   pub ready : k.IsReady p
+  pub suits : k.Suits p (k.held s)
   pub room : k.HasRoomFor p s
   pub place : HasPlaceOn limit space (length (k.spelled (k.record_of p))) log
 

@@ -86,7 +86,7 @@ fn put_first<D: Disk, R: Drop, T: Drop, S: Fold<R, T>>(
     ensures served { ServedBy D.Disk journal.old.disk journal.new.disk result }
     ensures refusals { IfErr result (λ e. (e ≡ faults.Failed) ⊎ (e ≡ faults.OutOfMemory)) }
 {
-    let ready = match S::ready(alloc, rec) {
+    let ready = match state.ready(alloc, rec) {
         Ok(ready) => ready,
         Err(Unfit::OutOfMemory) => return Err(StoreFault::OutOfMemory),
         Err(Unfit::Bad) => unreachable!(),

@@ -103,6 +103,7 @@ impl<D: Disk, R: Drop, T: Drop, S: Fold<R, T>> Store<D, R, T, S> {
     /// but for what the next `commit` puts on the disk.
     pub fn prepare_ready(&mut self, ready: S::Ready) -> Result<(), StoreFault>
         requires ready { S.fold.IsReady ready }
+        requires suits { S.fold.Suits ready self.old.durable }
         requires taken { IsSome (S.fold.folded (S.fold.record_of ready) self.old.durable) }
         ensures ok { OnOk result (self.new ≡ record self.old { prepared = Some (S.fold.record_of ready); disk = self.new.disk }) }
         ensures err { OnErr result (SameBut self.old self.new) }
@@ -129,7 +130,7 @@ impl<D: Disk, R: Drop, T: Drop, S: Fold<R, T>> Store<D, R, T, S> {
         ensures disk { SameDiskBy D.Disk self.old.disk self.new.disk }
         ensures counts { SameCountsBy D.Disk self.old.disk self.new.disk }
     {
-        match S::ready(self.alloc, rec) {
+        match self.state.ready(self.alloc, rec) {
             Ok(ready) => self.prepare_ready(ready),
             Err(Unfit::OutOfMemory) => Err(StoreFault::OutOfMemory),
             Err(Unfit::Bad) => unreachable!(),
@@ -190,6 +191,7 @@ impl<D: Disk, R: Drop, T: Drop, S: Fold<R, T>> Store<D, R, T, S> {
         ensures room { (nat_lt (S.fold.boot self.old.durable) 4294967295 && has_room S.fold self.old.durable (S.fold.start (S.fold.boot self.old.durable + 1))) ≡ false
             → IfErr result (λ e. (e ≡ faults.OutOfMemory) ⊎ IsErrOf result (faults.Full (S.fold.journal self.old.durable) (S.fold.capacity self.old.durable))) × (IsOk result → ⊥) }
         ensures early { IsEarly result (SameBut self.old self.new) }
+        ensures still { IsEarly result (SameDiskBy D.Disk self.old.disk self.new.disk × SameCountsBy D.Disk self.old.disk self.new.disk) }
         ensures failed { IsErrOf result faults.Failed → self.new ≡ record self.old { disk = self.new.disk; prepared = None; closed = true } }
         ensures told { TellsOn D.Disk self.old.disk self.new.disk }
         ensures never { (IsErrOf result faults.Closed → ⊥) × ((n : ℕ) → IsErrOf result (faults.BadRecord n) → ⊥) }

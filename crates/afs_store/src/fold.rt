@@ -45,12 +45,13 @@ pub trait Fold<R: Drop, T: Drop>: Drop {
         ensures lines { IfOk result (λ ls. TellsOne fold node wanted bytes.now (fold.held self.old) ls) }
         ensures bad { result ≡ Err Bad → IsBadAt fold first bytes.now (fold.held self.old) };
 
-    /// Makes a record ready. `Bad` where no state can take it.
-    fn ready(alloc: Global, rec: &R) -> Result<Self::Ready, Unfit>
+    /// Makes a record ready, and what it makes of this state. `Bad` where it can't be taken.
+    fn ready(&self, alloc: Global, rec: &R) -> Result<Self::Ready, Unfit>
         requires { fold.Fits rec.now }
         ensures told { IfOk result (λ p. fold.record_of p ≡ rec.now) }
         ensures ready { IfOk result (λ p. fold.IsReady p) }
-        ensures bad { result ≡ Err Bad → (d : T) → fold.done rec.now d ≡ None };
+        ensures suits { IfOk result (λ p. fold.Suits p (fold.held self.now)) }
+        ensures bad { result ≡ Err Bad → fold.done rec.now (fold.held self.now) ≡ None };
 
     /// The bytes of a record that was made ready. It takes no memory.
     fn bytes(ready: &Self::Ready) -> &[u8]
@@ -66,6 +67,7 @@ pub trait Fold<R: Drop, T: Drop>: Drop {
     /// Does what a record says that can be taken, and for which there is room. It takes no memory.
     fn redo(&mut self, ready: Self::Ready)
         requires ready { fold.IsReady ready }
+        requires suits { fold.Suits ready (fold.held self.old) }
         requires room { fold.HasRoomFor ready self.old }
         requires taken { is_some (fold.done (fold.record_of ready) (fold.held self.old)) ≡ true }
         ensures { fold.done (fold.record_of ready) (fold.held self.old) ≡ Some (fold.held self.new) };

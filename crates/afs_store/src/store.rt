@@ -1,6 +1,6 @@
 //! A store: a state with its disk.
 
-ghost use Rattle.std.specs.Prelude.{◌≡◌, ◌<◌, ◌+◌, None, false};
+ghost use Rattle.std.specs.Prelude.{◌≡◌, ◌<◌, ◌+◌, None, Some, false, IfNone, IfSome};
 ghost use Rattle.afs_store.specs.Stores.{IsCounted, IsKept};
 
 use crate::fold::Fold;
@@ -88,6 +88,18 @@ impl<D: Disk, R: Drop, T: Drop, S: Fold<R, T>> Store<D, R, T, S> {
         ensures { self.now.durable ≡ S.fold.placed (S.fold.journal self.now.durable) (D.limit self.now.disk) (S.fold.held result.now) }
     {
         &self.state
+    }
+
+    /// The record that was made ready for the next commit, if there is one. It takes no memory.
+    pub fn prepared(&self) -> Option<&S::Ready>
+        ensures some { IfSome result (λ p. self.now.prepared ≡ Some (S.fold.record_of p.now)) }
+        ensures ready { IfSome result (λ p. S.fold.IsReady p.now × S.fold.Suits p.now self.now.durable) }
+        ensures none { IfNone result (self.now.prepared ≡ None) }
+    {
+        match &self.prepared {
+            Some(ready) => Some(ready),
+            None => None,
+        }
     }
 
     /// The node whose disk it is. It takes no memory.

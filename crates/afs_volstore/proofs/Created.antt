@@ -1,6 +1,6 @@
 -- A disk at set-up: what its first record makes of it.
 use Rattle.std.proofs.Common.{◌≡◌, ℕ, ◌+◌, ◌≤◌, Bool, true, false, not, List, [], ◌∷◌, length, Option, Some, None, is_some, nat_lt, if◌then◌else◌, refl, sym, ap, subst, ◌∙◌, arith, inl, inr}
-use Rattle.std.specs.Prelude.{Result, Ok, Err, MatchResult}
+use Rattle.std.specs.Prelude.{Result, Ok, Err, IfOk, MatchResult}
 use Rattle.std.proofs.lemmas.Bool.{le-ltb}
 use Rattle.std.specs.Option.{option_map}
 use Rattle.afs_num.specs.declared.records.StoreRecord.{StoreRecord}
@@ -8,8 +8,12 @@ use Rattle.afs_history.specs.declared.scripts.VolumeLine.{VolumeLine}
 use Rattle.afs_shape.specs.Taking.{◌>>=◌}
 use Rattle.afs_ideal.specs.Tables.{Table}
 use Rattle.afs_journal.specs.Records.{IsBeforeOrAfter}
-use Rattle.afs_records.specs.Changes.{first_record, record_of_volumes, set_up, volumes_laid}
-use Rattle.afs_records.specs.Durable.{Durable, Stored, body_taken, first_folded, fold_all, fold_from, folded, has_room, is_first, noted, nothing_on, place_length}
+use Rattle.afs_records.specs.Changes.{first_record, record_of_volumes, volumes_laid}
+use Rattle.afs_fold.specs.SetUps.{set_up}
+use Rattle.afs_num.specs.declared.records.RecordBody.{RecordBody}
+use Rattle.afs_num.specs.declared.records.RecordBody.TheVariants as bodies
+use Rattle.afs_records.specs.Durable.{has_room, noted, nothing_on, place_length, placing, with_journal, Durable, Stored}
+use Rattle.afs_fold.specs.Fold.{is_first, body_taken, first_folded, fold_all, fold_from, folded}
 use Rattle.afs_records.specs.Laws.{RecordsAreReadAgain}
 use Rattle.afs_records.specs.Records.{record_bytes, FitsRecord}
 use Rattle.afs_volstore.specs.Opening.{IsSetUpSoFar}
@@ -40,13 +44,18 @@ folds_first : (capacity : ℕ) (r : StoreRecord) (d e : Durable) → is_first r.
 folds_first capacity r d e first none taken =
     ap (λ (b : Bool). if b then folded r (nothing_on capacity) else None) first ∙ (ap (folded r) none ∙ folded_is volume_fold volume_sound r 1 capacity d e taken)
 
+-- what was put on the disk is what set-up makes
+pub set_up_is : (capacity : ℕ) (ls : List VolumeLine) (r : StoreRecord) (e : Durable) → first_record ls ≡ Some r → length (record_bytes r) + 10 ≤ capacity → first_folded r (nothing_on capacity) ≡ Some e → set_up capacity ls ≡ Some e
+set_up_is capacity ls r e is le after =
+    ap (λ (o : Option StoreRecord). o >>= λ x. (if has_room (nothing_on capacity) x then first_folded x (nothing_on capacity) else None)) is
+    ∙ (ap (λ (b : Bool). if b then first_folded r (nothing_on capacity) else None) (has_place capacity r le) ∙ after)
+
 is_made : (law : RecordsAreReadAgain) (capacity : ℕ) (ls : List VolumeLine) (r : StoreRecord) (d e : Durable) → first_record ls ≡ Some r → FitsRecord r → length (record_bytes r) + 10 ≤ capacity → nothing_on capacity ≡ placed 1 capacity d
     → option_map (noted r.head) (body_taken r.body d) ≡ Some e → IsMade capacity ls r (placed (1 + place_length r) capacity e)
 is_made law capacity ls r d e is fits le none taken =
     let after = folds_first capacity r d e (first_by (volumes_laid ls []) r is) none taken in
     record {
-      made = ap (λ (o : Option StoreRecord). o >>= λ x. (if has_room (nothing_on capacity) x then first_folded x (nothing_on capacity) else None)) is
-          ∙ (ap (λ (b : Bool). if b then first_folded r (nothing_on capacity) else None) (has_place capacity r le) ∙ after);
+      made = set_up_is capacity ls r (placed (1 + place_length r) capacity e) is le after;
       stands = ap (λ (o : Option StoreRecord). o >>= λ x. (first_folded x (nothing_on capacity) >>= fold_from [])) (law r fits)
           ∙ ap (λ (o : Option Durable). o >>= fold_from []) after;
       same = refl;
@@ -75,6 +84,10 @@ left_so_far capacity ls r c (e, made) (inr after) = inr (e, (made.made, subst (�
 pub matched_on : {T E : Type 0} (r : Result T E) (P Q : T → Type 0) (R S : E → Type 0) → MatchResult r P R → ((x : T) → P x → Q x) → ((e : E) → R e → S e) → MatchResult r Q S
 matched_on {T} {E} (Ok x) P Q R S is ok err = ok x is
 matched_on {T} {E} (Err e) P Q R S is ok err = err e is
+
+pub on_ok : {T E : Type 0} (r : Result T E) (P Q : T → Type 0) → IfOk r P → ((x : T) → P x → Q x) → IfOk r Q
+on_ok {T} {E} (Ok x) P Q is more = more x is
+on_ok {T} {E} (Err e) P Q is more = tt
 
 -- what stands on a disk without records, but for its length and capacity
 abbrev pub bare : ℕ → Durable

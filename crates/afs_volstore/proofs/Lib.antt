@@ -1,1 +1,3 @@
 pub mod Created
+pub mod Fewer
+pub mod Holds

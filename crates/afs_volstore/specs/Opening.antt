@@ -10,9 +10,12 @@ use Rattle.afs_history.specs.declared.scripts.VolumeLine.{VolumeLine}
 use Rattle.afs_shape.specs.Taking.{◌>>=◌}
 use Rattle.afs_records.specs.Records.{record_at}
 use Rattle.afs_journal.specs.Records.{whole_records}
-use Rattle.afs_records.specs.Changes.{set_up, volumes_laid}
+use Rattle.afs_records.specs.Changes.{volumes_laid}
+use Rattle.afs_fold.specs.SetUps.{set_up}
 use Rattle.afs_volstore.specs.Stands.{Stands}
-use Rattle.afs_records.specs.Durable.{Durable, effect_of, first_folded, folded, mark_of, most_volumes, nothing_on}
+use Rattle.afs_fold.specs.Effects.{effect_of}
+use Rattle.afs_fold.specs.Fold.{first_folded, folded}
+use Rattle.afs_records.specs.Durable.{mark_of, most_volumes, nothing_on, Durable}
 use Rattle.afs_volstore.specs.Laying.{HaveShortNames}
 use Rattle.afs_memory.specs.Telling.{in_words}
 pub use Rattle.afs_store.specs.Opening.{same_mark, IsAttachFault, IsFoldFault, Moved}

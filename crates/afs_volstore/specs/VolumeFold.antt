@@ -4,9 +4,11 @@ use Rattle.std.specs.Option.{option_map}
 use Rattle.afs_num.specs.declared.records.StoreRecord.{StoreRecord}
 use Rattle.afs_records.specs.Records.{record_at, record_bytes, FitsRecord}
 use Rattle.afs_records.specs.Changes.{boot_record}
-use Rattle.afs_records.specs.Durable.{body_taken, effect_of, first_bad, fold_all, folded, is_first, noted, nothing_on, Durable}
+use Rattle.afs_records.specs.Durable.{noted, nothing_on, Durable}
+use Rattle.afs_fold.specs.Fold.{is_first, body_taken, first_bad, fold_all, folded}
+use Rattle.afs_fold.specs.Effects.{effect_of}
 use Rattle.afs_memory.specs.Preparing.{IsSpelledOut}
-use Rattle.afs_memory.specs.Redos.{record_of}
+use Rattle.afs_memory.specs.Redos.{record_of, Suits}
 use Rattle.afs_memory.specs.States.{parts_of, placed, HasRoomFor}
 use Rattle.afs_memory.specs.Telling.{in_words}
 use Rattle.afs_memory.specs.declared.prepared.Prepared.{Prepared}
@@ -36,5 +38,6 @@ volume_fold = record {
   held = λ h. parts_of h.state;
   record_of = λ p. record_of p.head p.redo;
   IsReady = IsSpelledOut;
+  Suits = λ p d. Suits p.redo d;
   HasRoomFor = λ p h. HasRoomFor p.redo h.state;
 }

@@ -1,4 +1,5 @@
 -- A server's records, what they make and its memory fit together.
+use Rattle.std.specs.Prelude.{◌↔◌}
 use Rattle.std.proofs.Common.{◌≡◌, ℕ, ◌+◌, Bool, true, false, List, [], ◌∷◌, length, Option, Some, None, nat_eq, nat_lt, if◌then◌else◌, refl, ap, ◌∙◌}
 use Rattle.std.specs.Option.{option_map}
 use Rattle.afs_history.specs.declared.lines.Line.{Line}
@@ -11,9 +12,19 @@ use Rattle.afs_num.specs.declared.records.StoreRecord.{StoreRecord}
 use Rattle.afs_shape.specs.Taking.{◌>>=◌}
 use Rattle.afs_ideal.specs.Tables.{get, set}
 use Rattle.afs_records.specs.Records.{record_at}
-use Rattle.afs_records.specs.Durable.{Durable, Stored, bad_by, bad_from, body_taken, changed_stored, effect_by, effect_of, first_bad, first_folded, fold_all, fold_from, folded, most_volumes, noted, nothing_on, place_length, replaced, stored_of, with_journal, with_reply, with_stamp, with_stored, with_volumes}
+use Rattle.afs_records.specs.Durable.{changed_stored, most_volumes, noted, nothing_on, place_length, replaced, stored_of, with_journal, with_reply, with_stamp, with_stored, with_volumes, Durable, Stored}
+use Rattle.afs_fold.specs.Fold.{bad_by, bad_from, body_taken, first_bad, first_folded, fold_all, fold_from, folded}
+use Rattle.afs_fold.specs.Deeds.{can_take, clone_made, clone_put, done_by, flagged, on_stored, or_as_was}
+use Rattle.afs_fold.specs.Effects.{effect_by, effect_of}
+use Rattle.afs_dumps.specs.Restores.{finished}
 use Rattle.afs_records.proofs.Spelled.{record_read}
+use Rattle.afs_shelves.specs.Deeds.{SuitsDeed}
+use Rattle.afs_shelves.specs.declared.deed.Deed.{Deed}
+use Rattle.afs_shelves.specs.declared.deed.Deed.TheVariants as deeds
+use Rattle.afs_memory.specs.Redos.{Suits}
 use Rattle.afs_memory.specs.States.{placed}
+use Rattle.afs_memory.specs.declared.redo.Redo.{Redo}
+use Rattle.afs_memory.specs.declared.redo.Redo.TheVariants as redos
 use Rattle.afs_store.specs.Folds.{all_folded, first_unfit, folded_from, last_told, told_from, unfit_by, unfit_from}
 use Rattle.afs_store.specs.Sound.{IsSound}
 use Rattle.afs_volstore.specs.Opening.{last_effect, last_from}
@@ -43,16 +54,34 @@ change_placed : (id : ℕ) (f : Stored → Option Stored) (j c : ℕ) (d : Durab
 change_placed id f j c d None = refl
 change_placed id f j c d (Some s) = replaced_placed id (f s) j c d
 
+stored_placed : (id : ℕ) (f : Stored → Stored) (o : Option Stored) (j c : ℕ) (d : Durable) → on_stored id f o (placed j c d) ≡ placed j c (on_stored id f o d)
+stored_placed id f None j c d = refl
+stored_placed id f (Some s) j c d = refl
+
+put_placed : (source id : ℕ) (name : List ℕ) (kind release : ℕ) (s : Stored) (o : Option Stored) (j c : ℕ) (d : Durable) → clone_put source id name kind release s o (placed j c d) ≡ placed j c (clone_put source id name kind release s o d)
+put_placed source id name kind release s None j c d = refl
+put_placed source id name kind release s (Some old) j c d = refl
+
+clone_placed : (source id : ℕ) (name : List ℕ) (kind release : ℕ) (o : Option Stored) (j c : ℕ) (d : Durable) → clone_made source id name kind release o (placed j c d) ≡ placed j c (clone_made source id name kind release o d)
+clone_placed source id name kind release None j c d = refl
+clone_placed source id name kind release (Some s) j c d = put_placed source id name kind release s (get id d.volumes) j c d
+
+done_if : (b : Bool) (d e : Durable) (j c : ℕ) → d ≡ placed j c e → (if b then Some d else None) ≡ option_map (placed j c) (if b then Some e else None)
+done_if true d e j c same = ap (λ (x : Durable). Some x) same
+done_if false d e j c same = refl
+
 taken_placed : (b : RecordBody) (j c : ℕ) (d : Durable) → body_taken b (placed j c d) ≡ option_map (placed j c) (body_taken b d)
 taken_placed (bodies.First vs) j c d = volumes_placed vs j c d
 taken_placed (bodies.Change id counter unique vnodes removed) j c d = change_placed id (changed_stored counter unique vnodes removed) j c d (get id d.volumes)
 taken_placed (bodies.Boot boot) j c d = refl
-taken_placed (bodies.Create id family name kind flags quota is_new) j c d = refl
-taken_placed (bodies.Delete id) j c d = refl
-taken_placed (bodies.Clone source id name kind release) j c d = refl
-taken_placed (bodies.Restore id dump) j c d = refl
-taken_placed (bodies.Flags id flags) j c d = refl
-taken_placed (bodies.Forward id to) j c d = refl
+taken_placed (bodies.Create id family name kind flags quota is_new) j c d = done_if (can_take (bodies.Create id family name kind flags quota is_new) d) _ (done_by (bodies.Create id family name kind flags quota is_new) d) j c refl
+taken_placed (bodies.Delete id) j c d = done_if (can_take (bodies.Delete id) d) _ (done_by (bodies.Delete id) d) j c refl
+taken_placed (bodies.Clone source id name kind release) j c d =
+    done_if (can_take (bodies.Clone source id name kind release) d) _ (done_by (bodies.Clone source id name kind release) d) j c (clone_placed source id name kind release (get source d.volumes) j c d)
+taken_placed (bodies.Restore id dump) j c d =
+    done_if (can_take (bodies.Restore id dump) d) _ (done_by (bodies.Restore id dump) d) j c (stored_placed id (λ (s : Stored). or_as_was s (finished id s dump)) (get id d.volumes) j c d)
+taken_placed (bodies.Flags id flags) j c d = done_if (can_take (bodies.Flags id flags) d) _ (done_by (bodies.Flags id flags) d) j c (stored_placed id (flagged flags) (get id d.volumes) j c d)
+taken_placed (bodies.Forward id to) j c d = done_if (can_take (bodies.Forward id to) d) _ (done_by (bodies.Forward id to) d) j c refl
 taken_placed bodies.Stamp j c d = refl
 
 stamp_placed : (h : RecordHead) (j c : ℕ) (d : Durable) (b : Bool) → (if b then placed j c d else record (placed j c d) { stamps = set h.family h.stamp d.stamps }) ≡ placed j c (if b then d else record d { stamps = set h.family h.stamp d.stamps })
@@ -86,6 +115,32 @@ effect_placed_by node h (bodies.Restore id dump) j c d = refl
 effect_placed_by node h (bodies.Flags id flags) j c d = refl
 effect_placed_by node h (bodies.Forward id to) j c d = refl
 effect_placed_by node h bodies.Stamp j c d = refl
+
+-- ---- what was made beforehand is what a record makes, whatever the journal's length and the capacity
+
+suits_anywhere : (x : Deed) (j c : ℕ) (d : Durable) → SuitsDeed x (placed j c d) → SuitsDeed x d
+suits_anywhere (deeds.Create s) j c d is = record { can = is.can; made = is.made }
+suits_anywhere (deeds.Delete id) j c d is = record { can = is.can; made = is.made }
+suits_anywhere (deeds.Clone x) j c d is = record { can = is.can; made = is.made }
+suits_anywhere (deeds.Restore x) j c d is = record { can = is.can; made = is.made }
+suits_anywhere (deeds.Flags id flags) j c d is = record { can = is.can; made = is.made }
+suits_anywhere (deeds.Forward id to) j c d is = record { can = is.can; made = is.made }
+suits_anywhere deeds.Stamp j c d is = record { can = is.can; made = is.made }
+
+suits_there : (x : Deed) (j c : ℕ) (d : Durable) → SuitsDeed x d → SuitsDeed x (placed j c d)
+suits_there (deeds.Create s) j c d is = record { can = is.can; made = is.made }
+suits_there (deeds.Delete id) j c d is = record { can = is.can; made = is.made }
+suits_there (deeds.Clone x) j c d is = record { can = is.can; made = is.made }
+suits_there (deeds.Restore x) j c d is = record { can = is.can; made = is.made }
+suits_there (deeds.Flags id flags) j c d is = record { can = is.can; made = is.made }
+suits_there (deeds.Forward id to) j c d is = record { can = is.can; made = is.made }
+suits_there deeds.Stamp j c d is = record { can = is.can; made = is.made }
+
+suits : (r : Redo) (j c : ℕ) (d : Durable) → Suits r (placed j c d) ↔ Suits r d
+suits (redos.Volumes vs) j c d = (λ is. is, λ is. is)
+suits (redos.Change id change) j c d = (λ is. is, λ is. is)
+suits (redos.Start boot) j c d = (λ is. is, λ is. is)
+suits (redos.Deed x) j c d = (suits_anywhere x j c d, suits_there x j c d)
 
 -- ---- all records are folded one after the other
 
@@ -138,6 +193,7 @@ volume_sound = record {
   sized = λ j c d. refl;
   boots = λ j c d. refl;
   starts = λ n d. refl;
+  suits = λ p j c d. suits p.redo j c d;
   fits = λ p ready. ready.fits;
   all = all_same;
   bad = bad_same;

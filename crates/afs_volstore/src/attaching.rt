@@ -3,20 +3,20 @@
 ghost use Rattle.std.specs.Prelude.{◌≡◌, ◌<◌, Err, None, Some, true, IfOk, OnOk};
 ghost use Rattle.std.specs.Option.{option_map};
 ghost use Rattle.afs_num.specs.declared.faults.StoreFault.TheVariants as faults;
-ghost use Rattle.afs_records.specs.Durable.{body_taken, is_first, noted};
+ghost use Rattle.afs_fold.specs.Fold.{body_taken, is_first};
+ghost use Rattle.afs_records.specs.Durable.{noted};
 ghost use Rattle.afs_records.specs.Records.{record_at, record_bytes, FitsRecord};
 ghost use Rattle.afs_memory.specs.Called.{IsCaller};
 ghost use Rattle.afs_store.specs.Folds.{IsBadAt, TakesNone, TakesOne, TellsOne};
 ghost use Rattle.afs_volstore.specs.VolumeFold.{volume_fold};
 ghost use Rattle.afs_memory.specs.Redoing.{FitsRedo};
-ghost use Rattle.afs_memory.specs.Redos.{body_of, IsReady};
+ghost use Rattle.afs_memory.specs.Redos.{body_of, IsReady, Suits};
 ghost use Rattle.afs_memory.specs.States.{parts_of};
 ghost use Rattle.afs_record.specs.declared.faults.Unfit.TheVariants.{Bad};
 
 use crate::altering::change_in;
 use afs_history::lines::Lines;
 use afs_memory::memory::State;
-use afs_memory::readying::redo_of;
 use afs_memory::redo::Redo;
 use afs_memory::redoing::put_volumes;
 use afs_num::faults::StoreFault;
@@ -31,21 +31,28 @@ use std::alloc::Global;
 fn take_body(state: &mut State, redo: Redo) -> Result<(), Unfit>
     requires ready { IsReady redo }
     requires images { FitsRedo redo }
+    requires suits { Suits redo (parts_of state.old) }
     ensures taken { OnOk result (body_taken (body_of redo) (parts_of state.old) ≡ Some (parts_of state.new)) }
     ensures bad { result ≡ Err Bad → body_taken (body_of redo) (parts_of state.old) ≡ None }
 {
     match redo {
         Redo::Volumes(added) => {
-            state.volumes.reserve(added.len())?;
-            if put_volumes(&mut state.volumes, added) {
+            state.shelves.volumes.reserve(added.len())?;
+            if put_volumes(&mut state.shelves.volumes, added) {
                 Ok(())
             } else {
                 Err(Unfit::Bad)
             }
         }
-        Redo::Change(id, change) => change_in(state.alloc, &mut state.volumes, id, change),
+        Redo::Change(id, change) => {
+            change_in(state.alloc, &mut state.shelves.volumes, id, change)
+        }
         Redo::Start(boot) => {
             state.start(boot);
+            Ok(())
+        }
+        Redo::Deed(deed) => {
+            state.take_deed(deed)?;
             Ok(())
         }
     }
@@ -56,6 +63,7 @@ fn take(state: &mut State, head: RecordHead, redo: Redo) -> Result<(), Unfit>
     requires caller { IsCaller head.caller }
     requires ready { IsReady redo }
     requires images { FitsRedo redo }
+    requires suits { Suits redo (parts_of state.old) }
     ensures taken { OnOk result (option_map (noted head) (body_taken (body_of redo) (parts_of state.old)) ≡ Some (parts_of state.new)) }
     ensures bad { result ≡ Err Bad → body_taken (body_of redo) (parts_of state.old) ≡ None }
 {
@@ -109,7 +117,7 @@ pub(crate) fn take_one(
 {
     let rec = read(alloc, first, bytes)?;
     let StoreRecord { head, body } = rec;
-    let redo = redo_of(alloc, body)?;
+    let redo = state.redo_of(body)?;
     let lines = if wanted {
         state.lines(server, &head, &redo)?
     } else {

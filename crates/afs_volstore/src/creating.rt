@@ -6,7 +6,8 @@ ghost use Rattle.afs_disk.specs.Words.{LeavesOnlyBy, TellsOn, SameFaults, Passes
 ghost use Rattle.afs_journal.specs.Log.{IsJournal};
 ghost use Rattle.afs_journal.specs.Records.{IsBeforeOrAfter};
 ghost use Rattle.afs_records.specs.Changes.{boot_record, no_head};
-ghost use Rattle.afs_records.specs.Durable.{Durable, body_taken, first_folded, is_first, nothing_on};
+ghost use Rattle.afs_fold.specs.Fold.{body_taken, first_folded, is_first};
+ghost use Rattle.afs_records.specs.Durable.{nothing_on, Durable};
 ghost use Rattle.afs_records.specs.Records.{head_form, record_bytes, FitsRecord};
 ghost use Rattle.afs_volstore.specs.Stores.{IsKept};
 ghost use Rattle.afs_store.specs.Words.{IsCausedBy, MovedBy};
@@ -19,6 +20,7 @@ use afs_num::faults::StoreFault;
 use afs_num::records::{RecordBody, RecordHead, StoreRecord};
 use afs_num::sequences::Octets;
 use afs_num::types::Node;
+use afs_seats::Seats;
 pub use afs_store::beginning::begin;
 use afs_store::beginning::filled as first_put;
 use std::alloc::Global;
@@ -64,7 +66,8 @@ pub fn filled<D: Disk>(
     requires begun { IsSome (D.seen journal.disk) → IsJournal [] (D.seen journal.disk) (D.may_leave journal.disk) }
     requires room { length (record_bytes rec.now) + 10 ≤ D.limit journal.disk }
     ensures made { IfOk result (λ s. first_folded rec.now (nothing_on (D.limit journal.disk)) ≡ Some s.durable) }
-    ensures rest { IfOk result (λ s. s ≡ record { durable = s.durable; disk = s.disk; node = node; prepared = None; closed = false; count = 1; drawn = 0 }) }
+    ensures rest { IfOk result (λ s. s ≡ record { durable = s.durable; disk = s.disk; node = node; prepared = None; closed = false; count = 1; drawn = 0; holds = s.holds }) }
+    ensures free { IfOk result (λ s. s.holds.table ≡ []) }
     ensures kept { IfOk result (λ s. IsKept s.durable (D.seen s.disk) (D.may_leave s.disk)) }
     ensures first { IfOk result (λ s. IsSome (D.seen journal.disk) → IsJournal (record_bytes rec.now ∷ []) (D.seen s.disk) (D.may_leave s.disk)) }
     ensures told { MatchResult result (λ s. TellsOn D.Disk journal.disk s.disk) (λ e. TellsOn D.Disk journal.disk e.1) }
@@ -77,7 +80,11 @@ pub fn filled<D: Disk>(
     ensures err { IfErr result (λ e. MovedBy 4 D.Disk journal.disk e.1 × IsCausedBy D.Disk journal.disk e.1 e.0) }
 {
     match first_put::<D, StoreRecord, Part, Held>(alloc, journal, node, rec) {
-        Ok(store) => Ok(VolStore { alloc, store }),
+        Ok(store) => Ok(VolStore {
+            alloc,
+            store,
+            holds: Seats::new(alloc),
+        }),
         Err(refused) => Err(refused),
     }
 }

@@ -1,11 +1,15 @@
 //! A server's memory, as its store changes it.
 
+ghost use Rattle.std.specs.Prelude.{◌≡◌};
+ghost use Rattle.afs_fold.specs.Orders.{AreFew, AreFew-prop};
+ghost use Rattle.afs_memory.specs.States.{parts_of};
+ghost use Rattle.afs_volstore.specs.Unfitting.{unfit_of};
+
 use crate::attaching::take_one;
 use crate::creating::start_record;
 use afs_history::lines::Lines;
 use afs_memory::memory::State;
 use afs_memory::prepared::Prepared;
-use afs_memory::readying::prepared;
 use afs_num::records::StoreRecord;
 use afs_num::types::{Mem, Node};
 use afs_record::faults;
@@ -25,10 +29,21 @@ impl Model for Part {
     ghost view = { λ _. nothing_on 0 };
 }
 
-/// What a server's memory holds: its volumes, and what stands beside them.
+/// What a server's memory holds: its volumes, no more of them than a server may have, and what stands beside them.
 #[derive(Drop)]
 pub struct Held {
     pub state: State,
+    ghost few: { AreFew (parts_of state).volumes } by { AreFew-prop (parts_of state).volumes },
+}
+
+/// Why a record isn't taken, as the store says it.
+fn unfit(fault: faults::Unfit) -> Unfit
+    ensures { result ≡ unfit_of fault }
+{
+    match fault {
+        faults::Unfit::Bad => Unfit::Bad,
+        faults::Unfit::OutOfMemory => Unfit::OutOfMemory,
+    }
 }
 
 impl Fold<StoreRecord, Part> for Held {
@@ -57,16 +72,18 @@ impl Fold<StoreRecord, Part> for Held {
     ) -> Result<Lines, Unfit> {
         match take_one(alloc, node, &mut self.state, first, wanted, bytes) {
             Ok(lines) => Ok(lines),
-            Err(faults::Unfit::Bad) => Err(Unfit::Bad),
-            Err(faults::Unfit::OutOfMemory) => Err(Unfit::OutOfMemory),
+            Err(fault) => {
+                // The record may have been done by half, so nothing of this is kept.
+                self.state = State::new(alloc);
+                Err(unfit(fault))
+            }
         }
     }
 
-    fn ready(alloc: Global, rec: &StoreRecord) -> Result<Prepared, Unfit> {
-        match prepared(alloc, rec) {
+    fn ready(&self, _alloc: Global, rec: &StoreRecord) -> Result<Prepared, Unfit> {
+        match self.state.ready(rec) {
             Ok(ready) => Ok(ready),
-            Err(faults::Unfit::Bad) => Err(Unfit::Bad),
-            Err(faults::Unfit::OutOfMemory) => Err(Unfit::OutOfMemory),
+            Err(fault) => Err(unfit(fault)),
         }
     }
 

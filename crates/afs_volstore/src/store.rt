@@ -1,11 +1,11 @@
 //! A server's store: its volumes and what stands beside them, on a disk.
 
-ghost use Rattle.std.specs.Prelude.{◌≡◌, ◌<◌, ◌+◌, None, Some, false, slice_get, IfNone, IfSome};
-ghost use Rattle.std.specs.Option.{option_map, option_map_or};
+ghost use Rattle.std.specs.Prelude.{◌≡◌, ◌≤◌, ◌<◌, ◌+◌, Bool, None, Some, false, length, slice_get, IfNone, IfSome};
+ghost use Rattle.std.specs.Option.{option_map};
 ghost use Rattle.afs_num.specs.Nodes.{node_number};
 ghost use Rattle.afs_ideal.specs.Tables.{get, AscendsFrom};
-ghost use Rattle.afs_records.specs.Durable.{stamp_of};
-ghost use Rattle.afs_volume.specs.Taking.{stored_of};
+ghost use Rattle.afs_records.specs.Durable.{most_volumes, stamp_of};
+ghost use Rattle.afs_shelves.specs.Shelving.{is_new_in, stored_as};
 ghost use Rattle.afs_memory.specs.Called.{AreBytes, AreKnown};
 ghost use Rattle.afs_volstore.specs.Stores.{IsCounted, IsKept};
 
@@ -13,24 +13,27 @@ use crate::held::{Held, Part};
 use afs_disk::Disk;
 use afs_num::records::{Mark, StoreRecord};
 use afs_num::types::{Key, Node};
+use afs_seats::Seats;
 use afs_store::Store;
 use afs_volume::Volume;
 use std::alloc::Global;
 use std::marker::Model;
 
-/// All volumes of a server with its boot number, its stamps and the replies that outlive it, on its disk.
+/// All volumes of a server with its boot number, its stamps, its forwardings and the replies that outlive it, on its disk; and in
+/// memory alone the volumes that transactions hold, each with whether it is busy.
 #[derive(Drop)]
 pub struct VolStore<D: Disk> {
     pub(crate) alloc: Global,
     pub(crate) store: Store<D, StoreRecord, Part, Held>,
+    pub(crate) holds: Seats<bool>,
 }
 
 impl<D: Disk> Model for VolStore<D> {
-    ghost use Rattle.afs_volstore.specs.Stores.{Store};
+    ghost use Rattle.afs_volstore.specs.Stores.{store_of, Store};
 
     ghost Value = { Store D };
 
-    ghost view = { λ s. s.store };
+    ghost view = { λ s. store_of s.store s.holds };
 }
 
 impl<D: Disk> VolStore<D> {
@@ -46,19 +49,23 @@ impl<D: Disk> VolStore<D> {
 
     /// The volume of this number. It takes no memory.
     pub fn volume(&self, id: u32) -> Option<&Volume>
-        ensures some { IfSome result (λ v. get id self.now.durable.volumes ≡ Some (stored_of v.now)) }
+        ensures some { IfSome result (λ v. get id self.now.durable.volumes ≡ Some (stored_as (is_new_in id self.now.durable.volumes) v.now)) }
         ensures none { IfNone result (get id self.now.durable.volumes ≡ None) }
         ensures id { IfSome result (λ v. v.now.head.id ≡ id) }
     {
         self.store.state().state.volume(id)
     }
 
-    /// The volume at this place in order of the numbers, from 0. It takes no memory.
+    /// The volume at this place in order of the numbers, from 0. There are no more than a server may have. It takes no memory.
     pub fn volume_at(&self, place: u32) -> Option<&Volume>
-        ensures some { IfSome result (λ v. slice_get self.now.durable.volumes place ≡ Some (v.now.head.id, stored_of v.now)) }
+        ensures some { IfSome result (λ v. (is_new : Bool) × (slice_get self.now.durable.volumes place ≡ Some (v.now.head.id, stored_as is_new v.now))) }
         ensures none { IfNone result (slice_get self.now.durable.volumes place ≡ None) }
+        ensures few { length self.now.durable.volumes ≤ most_volumes }
     {
-        self.store.state().state.volume_at(place)
+        match self.store.state().state.shelf_at(place) {
+            Some(shelf) => Some(&shelf.volume),
+            None => None,
+        }
     }
 
     /// The stamp of this family of volumes, 0 where it has none. It takes no memory.
@@ -117,7 +124,7 @@ impl<D: Disk> VolStore<D> {
 
     /// Whether the volume is there and is new: made under no stamp, and never yet with flags 0. It takes no memory.
     pub fn is_new(&self, id: u32) -> bool
-        ensures { result ≡ option_map_or (λ s. s.is_new) (get id self.now.durable.volumes) false }
+        ensures { result ≡ is_new_in id self.now.durable.volumes }
     {
         self.store.state().state.is_new(id)
     }
@@ -156,7 +163,11 @@ impl<D: Disk> VolStore<D> {
     pub fn into_disk(self) -> D
         ensures { result ≡ self.disk }
     {
-        let VolStore { alloc: _, store } = self;
+        let VolStore {
+            alloc: _,
+            store,
+            holds: _,
+        } = self;
         store.into_disk()
     }
 }

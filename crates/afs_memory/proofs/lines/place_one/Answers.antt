@@ -2,8 +2,9 @@ use Rattle.std.proofs.Common.{ap, sym, refl, drop, List}
 use Rattle.afs_num.specs.declared.vnodes.Vnode as image
 use Rattle.afs_records.specs.Durable.{with_outcomes}
 use Rattle.afs_memory.specs.Telling.{outcomes_seen}
-use Rattle.afs_memory.proofs.Redone.{on_ok}
-use Rattle.afs_memory.proofs.Told.{drop_none, one_placed}
+use Rattle.afs_shelves.proofs.Lists.{on_ok}
+use Rattle.afs_shelves.proofs.Lists.{drop_none}
+use Rattle.afs_memory.proofs.Told.{one_placed}
 use Rattle.afs_memory.proofs.lines.place_one.Goals as goal
 
 pub returns-in-Some : goal.returns-in-Some

@@ -1,8 +1,9 @@
 use Rattle.std.proofs.Common.{ℕ, ap, sym, List}
 use Rattle.afs_records.specs.Durable.{with_removed}
 use Rattle.afs_memory.specs.Telling.{outcomes_seen}
-use Rattle.afs_memory.proofs.Redone.{on_ok}
-use Rattle.afs_memory.proofs.Told.{drop_none, one_gone}
+use Rattle.afs_shelves.proofs.Lists.{on_ok}
+use Rattle.afs_shelves.proofs.Lists.{drop_none}
+use Rattle.afs_memory.proofs.Told.{one_gone}
 use Rattle.afs_memory.proofs.lines.take_away.Goals as goal
 
 pub returns-in-Some : goal.returns-in-Some

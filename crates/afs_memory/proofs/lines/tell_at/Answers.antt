@@ -3,8 +3,9 @@ use Rattle.afs_ideal.specs.Tables.{Table}
 use Rattle.afs_records.specs.Durable.{outcome_versions}
 use Rattle.afs_volume.specs.Seen.{volume_seen}
 use Rattle.afs_memory.specs.Telling.{outcomes_seen, version_within}
-use Rattle.afs_memory.proofs.Redone.{on_ok}
-use Rattle.afs_memory.proofs.Told.{drop_none, one_told}
+use Rattle.afs_shelves.proofs.Lists.{on_ok}
+use Rattle.afs_shelves.proofs.Lists.{drop_none}
+use Rattle.afs_memory.proofs.Told.{one_told}
 use Rattle.afs_memory.proofs.lines.tell_at.Goals as goal
 
 pub returns-in-Some : goal.returns-in-Some

@@ -6,7 +6,7 @@ use Rattle.afs_ideal.specs.Volumes.{gone_at}
 use Rattle.afs_volume.specs.Seen.{seen}
 use Rattle.afs_vnode.specs.Stores.{Held}
 use Rattle.afs_memory.specs.Telling.{version_within}
-use Rattle.afs_memory.proofs.Redone.{on_ok}
+use Rattle.afs_shelves.proofs.Lists.{on_ok}
 use Rattle.afs_memory.proofs.Told.{told_gone, told_none}
 use Rattle.afs_memory.proofs.lines.tell_gone.Goals as goal
 

@@ -3,7 +3,7 @@ use Rattle.afs_num.specs.declared.histories.Version.{Version}
 use Rattle.afs_ideal.specs.Volumes.{Vnode}
 use Rattle.afs_volume.specs.Seen.{volume_seen}
 use Rattle.afs_memory.specs.Telling.{outcome_at, told_at, value_there, version_within}
-use Rattle.afs_memory.proofs.Redone.{on_ok}
+use Rattle.afs_shelves.proofs.Lists.{on_ok}
 use Rattle.afs_memory.proofs.Told.{outcome_there}
 use Rattle.afs_memory.proofs.lines.tell_one.Goals as goal
 
@@ -14,7 +14,7 @@ returns-in_ok-version-in-Some-image_at c =
     on_ok c.push.result (c.push.new.self ≡ c.args.versions.now ++ c.in_ok-version-in-Some-image_at.field-0 ∷ []) _
     (λ pushed. pushed
     ∙ ap (λ (l : List Version). c.args.versions.now ++ l)
-    (ap (λ (v : Version). v ∷ []) c.in_ok-version-in-Some-image_at.ensures
+    (ap (λ (v : Version). v ∷ []) (sym c.in_ok-version-in-Some-image_at.ensures.within ∙ ap version_within c.in_ok-version-in-Some-image_at.ensures.value)
     ∙ sym (ap (λ (o : Option Vnode). map version_within (told_at c.args.volume.now.head.id (volume_seen c.args.volume.now.head c.args.volume.now.vnodes.table) c.args.number o)) (is ∙ there))))
     c.push.ensures.ok
 

@@ -1,13 +1,23 @@
-use Rattle.std.proofs.Common.{◌≡◌, ◌∙◌, ◌+◌, ◌≤◌, Bor, [], List, ℕ, Some, ap, inl, is_some, length, map, rules}
+use Rattle.std.proofs.Common.{◌≡◌, ◌∙◌, ◌+◌, ◌≤◌, Bor, [], List, ℕ, Some, ap, inl, is_some, length, map, rules, sym}
 use Rattle.afs_disk.specs.Disk.{LeavesOnly}
 use Rattle.afs_journal.specs.Records.{whole_records, IsBeforeOrAfter}
 use Rattle.afs_journal.proofs.Moments.{and_on, begins, weaker}
 use Rattle.afs_history.specs.declared.scripts.VolumeLine.{VolumeLine}
-use Rattle.afs_records.specs.Durable.{Durable}
+use Rattle.afs_fold.specs.Fold.{first_folded}
+use Rattle.afs_records.specs.Durable.{nothing_on, Durable}
 use Rattle.afs_records.specs.Records.{record_bytes}
 use Rattle.afs_volstore.specs.Opening.{IsSetUpSoFar}
-use Rattle.afs_volstore.proofs.Created.{left_so_far, made_on, matched_on, not_none, nothing_there, IsMade}
+use Rattle.afs_volstore.proofs.Created.{left_so_far, made_on, matched_on, not_none, nothing_there, on_ok, set_up_is, IsMade}
 use Rattle.afs_setup.proofs.creating.create.Goals as goal
+
+pub returns-clause-made : goal.returns-clause-made
+returns-clause-made g c =
+    let limit = g.D.Disk.limit c.args.disk in
+    let ls = map (λ (l : Bor VolumeLine). l.now) c.args.volumes.now in
+    let rec = c.in-Ok.first.0 in
+    let le : length (record_bytes rec) + 10 ≤ limit = search rules in
+    on_ok c.filled-store.result _ _ c.filled-store.ensures.made
+    (λ s after. set_up_is limit ls rec s.durable c.in-Ok.ensures.value le (ap (λ (n : ℕ). first_folded rec (nothing_on n)) (sym c.in-Ok-begin.ensures.ok.0.same_limit) ∙ after))
 
 pub returns-in-Err-clause-any_moment : goal.returns-in-Err-clause-any_moment
 returns-in-Err-clause-any_moment g c = λ told only.

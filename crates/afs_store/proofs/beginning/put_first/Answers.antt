@@ -8,7 +8,7 @@ use Rattle.afs_store.proofs.Folding.{none_is_taken}
 use Rattle.afs_store.proofs.beginning.put_first.Goals as goal
 
 pub unreachable-requires : goal.unreachable-requires
-unreachable-requires g c = none_is_taken (g.S.Fold.fold.done c.args.rec.now (g.S.Fold.fold.held c.args.state.now)) c.requires.taken (c.ready.ensures.bad (search rules) (g.S.Fold.fold.held c.args.state.now))
+unreachable-requires g c = none_is_taken (g.S.Fold.fold.done c.args.rec.now (g.S.Fold.fold.held c.args.state.now)) c.requires.taken (c.ready.ensures.bad (search rules))
 
 pub append-requires-clause-room : goal.append-requires-clause-room
 append-requires-clause-room g c = subst (λ (b : List ℕ). HasPlaceOn g.D.Disk.limit g.D.Disk.space (length b) c.place.new.journal) (sym c.bytes.ensures) c.in_ok-place.ensures.room
@@ -18,6 +18,9 @@ redo-requires-clause-taken g c =
     let k = g.S.Fold.fold in
     ap (λ (r : g.row.R.Denot). is_some (k.done r (k.held c.place.new.state))) c.in-Ok.ensures.told
     ∙ (ap (λ (d : g.row.T.Denot). is_some (k.done c.args.rec.now d)) c.place.ensures.held ∙ c.requires.taken)
+
+pub redo-requires-clause-suits : goal.redo-requires-clause-suits
+redo-requires-clause-suits g c = subst (λ (d : g.row.T.Denot). g.S.Fold.fold.Suits c.in-Ok.ready d) (sym c.place.ensures.held) c.in-Ok.ensures.suits
 
 pub returns-clause-held : goal.returns-clause-held
 returns-clause-held g c =

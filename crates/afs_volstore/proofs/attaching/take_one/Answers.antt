@@ -1,7 +1,8 @@
 use Rattle.std.proofs.Common.{◌∙◌, ap, sym, rules}
 use Rattle.std.specs.Option.{option_map}
 use Rattle.afs_num.specs.declared.records.RecordBody.{RecordBody}
-use Rattle.afs_records.specs.Durable.{body_taken, noted}
+use Rattle.afs_fold.specs.Fold.{body_taken}
+use Rattle.afs_records.specs.Durable.{noted}
 use Rattle.afs_memory.specs.States.{parts_of}
 use Rattle.afs_store.proofs.Folding.{bad_alone, takes_one}
 use Rattle.afs_volstore.specs.VolumeFold.{volume_fold}
@@ -11,7 +12,7 @@ use Rattle.afs_volstore.proofs.attaching.take_one.Goals as goal
 
 pub returns-in_err-redo-clause-bad : goal.returns-in_err-redo-clause-bad
 returns-in_err-redo-clause-bad c = λ e.
-    bad_alone volume_fold volume_sound c.args.first c.args.bytes.now c.in_ok-rec.rec (parts_of c.args.state.now) c.in_ok-rec.ensures.read (ap (option_map (noted c.in_ok-rec.rec.head)) (c.in_err-redo.ensures.bad (search rules) (parts_of c.args.state.now)))
+    bad_alone volume_fold volume_sound c.args.first c.args.bytes.now c.in_ok-rec.rec (parts_of c.args.state.now) c.in_ok-rec.ensures.read (ap (option_map (noted c.in_ok-rec.rec.head)) (c.in_err-redo.ensures.bad (search rules)))
 
 pub take-requires-clause-caller : goal.take-requires-clause-caller
 take-requires-clause-caller c = fits_caller c.in_ok-rec.rec c.in_ok-rec.ensures.fits.0

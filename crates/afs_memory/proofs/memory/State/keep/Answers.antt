@@ -13,6 +13,5 @@ invariant_of-self c =
     let put : c.put.new.self.table ≡ set c.number.result reply c.args.self.now.kept.table = search rules in
     let known : is_known (node_number c.in-Some.caller) ≡ true = subst IsCaller c.in-Some.is c.requires.caller in
     record {
-      numbered = c.args.self.now.numbered;
       called = still_called c.number.result reply c.args.self.now.kept.table c.put.new.self.table put (sym c.number.ensures, (ap is_known c.number.ensures ∙ known, subst IsBytes c.as_slice.ensures c.are_bytes.ensures)) c.args.self.now.called;
     }

@@ -1,5 +1,5 @@
 use Rattle.afs_memory.specs.States.{kept_seen}
-use Rattle.afs_memory.proofs.Held.{seen_none, seen_some}
+use Rattle.afs_shelves.proofs.Found.{seen_none, seen_some}
 use Rattle.afs_memory.proofs.memory.State.kept.Goals as goal
 
 pub returns-clause-some : goal.returns-clause-some

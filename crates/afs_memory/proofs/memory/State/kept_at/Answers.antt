@@ -1,5 +1,6 @@
 use Rattle.afs_memory.specs.States.{kept_seen}
-use Rattle.afs_memory.proofs.Held.{all_bytes, all_known, nth_none, nth_reply}
+use Rattle.afs_shelves.proofs.Found.{nth_none}
+use Rattle.afs_memory.proofs.Held.{all_bytes, all_known, nth_reply}
 use Rattle.afs_seats.proofs.Seen.{seen_up}
 use Rattle.afs_memory.proofs.memory.State.kept_at.Goals as goal
 

@@ -80,6 +80,12 @@ redo-requires-clause-ready g c =
     let waits : Waits g.S.Fold.fold g.D.Disk.limit g.D.Disk.space c.self.inside.journal c.self.inside.state c.in-Some.ready = subst (WaitsReady g.S.Fold.fold g.D.Disk.limit g.D.Disk.space c.self.inside.journal c.self.inside.state) is c.self.invariant.ready in
     waits.ready
 
+pub redo-requires-clause-suits : goal.redo-requires-clause-suits
+redo-requires-clause-suits g c =
+    let is : c.self.inside.prepared ≡ Some c.in-Some.ready = sym c.replace.ensures.value ∙ c.in-Some.is in
+    let waits : Waits g.S.Fold.fold g.D.Disk.limit g.D.Disk.space c.self.inside.journal c.self.inside.state c.in-Some.ready = subst (WaitsReady g.S.Fold.fold g.D.Disk.limit g.D.Disk.space c.self.inside.journal c.self.inside.state) is c.self.invariant.ready in
+    waits.suits
+
 pub redo-requires-clause-room : goal.redo-requires-clause-room
 redo-requires-clause-room g c =
     let is : c.self.inside.prepared ≡ Some c.in-Some.ready = sym c.replace.ensures.value ∙ c.in-Some.is in

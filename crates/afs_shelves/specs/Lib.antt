@@ -1,0 +1,4 @@
+pub mod Deeds
+pub mod Numbered
+pub mod Shelving
+pub mod Words
