@@ -10,4 +10,5 @@ pub mod Short
 pub mod Spelled
 pub mod Timed
 pub mod Turned
+pub mod Withdrawing
 pub mod Withdrawn

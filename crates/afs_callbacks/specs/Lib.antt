@@ -1,4 +1,5 @@
 pub mod Answering
+pub mod Besides
 pub mod Hearing
 pub mod Saving
 pub mod States

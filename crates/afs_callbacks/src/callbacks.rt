@@ -50,7 +50,7 @@ impl Model for Callbacks {
 }
 
 /// The breaks that are owed once those have ended whose time has come.
-fn lasting_breaks(alloc: Global, promises: &Promises, now: u32) -> Mem<Vec<OwedBreak>>
+pub(crate) fn lasting_breaks(alloc: Global, promises: &Promises, now: u32) -> Mem<Vec<OwedBreak>>
     ensures { IfOk result (λ os. os.items ≡ lasting_breaks now promises.now.owed) }
 {
     let mut lasting = Vec::new(alloc);

@@ -3,6 +3,7 @@
 #![tactic(auto)]
 
 pub mod answering;
+pub mod besides;
 mod callbacks;
 mod hearing;
 pub mod restoring;

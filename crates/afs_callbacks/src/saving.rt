@@ -236,7 +236,11 @@ fn owe_each(owed: &mut Vec<OwedBreak>, last: u32, withdrawn: &[Promise]) -> Mem<
 }
 
 /// The breaks that become owed for these promises.
-fn new_breaks(alloc: Global, promises: &Promises, withdrawn: &[Promise]) -> Mem<Vec<OwedBreak>>
+pub(crate) fn new_breaks(
+    alloc: Global,
+    promises: &Promises,
+    withdrawn: &[Promise],
+) -> Mem<Vec<OwedBreak>>
     requires draws { promises.now.last_owed + length withdrawn.now < 4000000000 }
     requires promised { All IsPromiseToNode withdrawn.now }
     ensures breaks { IfOk result (λ os. os.items ≡ owes_from promises.now.last_owed withdrawn.now) }
@@ -270,7 +274,11 @@ fn add_alls(waits: &mut Sequence<u32>, owed: &[OwedBreak]) -> Mem<()>
 }
 
 /// What the reply to a change waits for: its own breaks, and those on all that are owed.
-fn waits_for(alloc: Global, breaks: &[OwedBreak], owed: &[OwedBreak]) -> Mem<Sequence<u32>>
+pub(crate) fn waits_for(
+    alloc: Global,
+    breaks: &[OwedBreak],
+    owed: &[OwedBreak],
+) -> Mem<Sequence<u32>>
     ensures { IfOk result (λ ws. ws ≡ numbers breaks.now ++ alls owed.now) }
 {
     let mut waits = Sequence::new(alloc);

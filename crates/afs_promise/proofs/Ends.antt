@@ -36,7 +36,7 @@ held_parts latest (x ∷ xs) ys = by (is_held latest x) (held_parts latest xs ys
     by true later = ap (λ (l : List Promise). x.promise ∷ l) later
     by false later = later
 
-filters_swap : (p q : Promise → Bool) (xs : List Promise) → filter p (filter q xs) ≡ filter q (filter p xs)
+pub filters_swap : (p q : Promise → Bool) (xs : List Promise) → filter p (filter q xs) ≡ filter q (filter p xs)
 filters_swap p q [] = refl
 filters_swap p q (x ∷ xs) = by (p x) (q x) refl refl (filters_swap p q xs)
   where

@@ -1,5 +1,5 @@
 -- The promises on a volume go.
-use Rattle.std.proofs.Common.{◌≡◌, inl, inr, ℕ, suc, ◌+◌, ◌<◌, ◌≤◌, ◌&&◌, ◌||◌, Bool, true, false, not, List, [], ◌∷◌, length, filter, drop, get_or, Option, nat_eq, if◌then◌else◌, refl, ap, sym, ◌∙◌, arith, drop-cons}
+use Rattle.std.proofs.Common.{◌≡◌, inl, inr, ℕ, suc, ◌+◌, ◌<◌, ◌≤◌, ◌&&◌, ◌||◌, Bool, true, false, not, List, [], ◌∷◌, length, filter, drop, get_or, Option, nat_eq, nat_lt, if◌then◌else◌, refl, ap, sym, ◌∙◌, arith, drop-cons}
 use Rattle.std.specs.List.{list_any}
 use Rattle.std.specs.List.Sorted.{IsPermutation}
 use Rattle.std.proofs.lemmas.Bool.Decides.{nat_tests}
@@ -12,8 +12,9 @@ use Rattle.afs_num.specs.declared.types.Node.TheVariants.{Loc, Server, Client, A
 use Rattle.afs_breaks.specs.declared.types.Promise.{Promise}
 use Rattle.afs_promise.specs.declared.types.Grant.{Grant}
 use Rattle.afs_promise.specs.declared.types.Holding.{Holding}
-use Rattle.afs_breaks.specs.Promises.{is_promise, without_promise, is_on, hits_on, left_off}
-use Rattle.afs_promise.specs.Granting.{is_held, held, promises_in, is_held_on, held_on, IsIn}
+use Rattle.afs_breaks.specs.Promises.{is_promise, without_promise, is_on, hits_on, lasting, left_off}
+use Rattle.afs_promise.specs.Granting.{is_held, held, lasting_grants, promises_in, is_held_on, held_on, IsIn}
+use Rattle.afs_promise.proofs.Ends.{filters_swap}
 use Rattle.afs_promise.proofs.Hits.{fids_are_one}
 use Rattle.afs_promise.proofs.Logs.{in_filter}
 use Rattle.afs_promise.proofs.Sorted.{moved_in}
@@ -28,6 +29,20 @@ on_promises latest v (g ∷ gs) = by (is_on v g.promise) (is_held latest g) refl
     by true false e later = later
     by false true e later = rw e later
     by false false e later = later
+
+promises_last : (now : ℕ) (gs : List Grant) → promises_in (lasting_grants now gs) ≡ lasting now (promises_in gs)
+promises_last now [] = refl
+promises_last now (g ∷ gs) = by (nat_lt now g.promise.expiry) (promises_last now gs)
+  where
+    by : (t : Bool) → promises_in (lasting_grants now gs) ≡ lasting now (promises_in gs) → promises_in (if t then g ∷ lasting_grants now gs else lasting_grants now gs) ≡ (if t then g.promise ∷ lasting now (promises_in gs) else lasting now (promises_in gs))
+    by true later = ap (λ (ps : List Promise). g.promise ∷ ps) later
+    by false later = later
+
+-- of the promises on the volume those that last are those on the volume that last
+pub on_lasting : (latest : Holding → Option Grant) (v now : ℕ) (log : List Grant) → promises_in (lasting_grants now (held_on latest v log)) ≡ hits_on v (lasting now (held latest log))
+on_lasting latest v now log =
+    promises_last now (held_on latest v log)
+    ∙ (ap (lasting now) (on_promises latest v log) ∙ filters_swap (λ (p : Promise). nat_lt now p.expiry) (is_on v) (held latest log))
 
 pub on_few : (latest : Holding → Option Grant) (v : ℕ) (log : List Grant) → length (held_on latest v log) ≤ length (held latest log)
 on_few latest v [] = omega arith

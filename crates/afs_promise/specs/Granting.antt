@@ -117,3 +117,7 @@ is_held_on latest volume g = nat_eq g.promise.fid.volume volume && is_held lates
 
 abbrev pub held_on : (Holding → Option Grant) → ℕ → List Grant → List Grant
 held_on latest volume gs = filter (is_held_on latest volume) gs
+
+-- those whose expiry is above the clock
+abbrev pub lasting_grants : ℕ → List Grant → List Grant
+lasting_grants now gs = filter (λ g. nat_lt now g.promise.expiry) gs

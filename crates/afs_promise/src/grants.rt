@@ -1,6 +1,6 @@
 //! The promises that are held, in the order of granting.
 
-ghost use Rattle.std.specs.Prelude.{◌≡◌, ◌+◌, ◌<◌, ◌≤◌, ◌++◌, [], length, true, IsOk, OnOk, OnErr, IfNone, List};
+ghost use Rattle.std.specs.Prelude.{◌≡◌, ◌+◌, ◌<◌, ◌≤◌, ◌++◌, [], length, true, IfOk, IsOk, OnOk, OnErr, IfNone, List};
 ghost use Rattle.std.specs.List.{list_any};
 ghost use Rattle.std.specs.Option.{option_to_list};
 ghost use Rattle.std.specs.Vec.{vec_capacity, vec_len};
@@ -12,7 +12,7 @@ ghost use Rattle.afs_promise.specs.Granting.{promises_in};
 
 use crate::by_client::{add_in_order, found_by, oldest};
 use crate::latest::{is_held, note, remove};
-use crate::log::{end_due, gather, goes_on, reach, sort_by_fid};
+use crate::log::{end_due, gather, goes_on, keep_lasting, reach, sort_by_fid};
 use crate::types::{Grant, Holding};
 use afs_breaks::types::Promise;
 use afs_num::types::{Fid, Mem, Node};
@@ -187,6 +187,18 @@ impl Grants {
         let next = self.next;
         add_in_order(&found, next, now, out)?;
         Ok(())
+    }
+
+    /// The promises on the volume whose expiry is above the clock, by fid, those on one fid in the order of granting.
+    pub fn hits_on(&self, volume: u32, now: u32) -> Mem<Vec<Grant>>
+        ensures { IfOk result (λ gs. promises_in gs.items ≡ by_fid (hits_on volume (lasting now self.now.promises))) }
+    {
+        let alloc = *self.log.allocator();
+        let mut found = Vec::with_capacity(alloc, self.count)?;
+        gather(&self.log, &self.latest, volume, &mut found);
+        keep_lasting(&mut found, now);
+        sort_by_fid(&mut found);
+        Ok(found)
     }
 
     /// Removes every promise on the volume, and gives them by fid, those on one fid in the order of granting.

@@ -7,7 +7,7 @@ ghost use Rattle.std.specs.Vec.{vec_capacity, vec_len};
 ghost use Rattle.indexmap.specs.IndexMap.{get, spare};
 ghost use Rattle.afs_promise.specs.declared.types.Holding.{Holding};
 ghost use Rattle.afs_breaks.specs.Promises.{by_fid};
-ghost use Rattle.afs_promise.specs.Granting.{holding_in, same_holding, is_held_on, is_due, ends, reach, goes_on, promises_in, held_on, Rises};
+ghost use Rattle.afs_promise.specs.Granting.{holding_in, same_holding, is_held_on, is_due, ends, reach, goes_on, lasting_grants, promises_in, held_on, Rises};
 
 use crate::latest::{is_held, remove};
 use crate::types::{Grant, Holding};
@@ -40,6 +40,13 @@ pub fn gather(log: &[Grant], latest: &IndexMap<Holding, Grant>, volume: u32, gon
             add(gone, *grant);
         }
     }
+}
+
+/// Leaves out those whose expiry isn't above the clock.
+pub fn keep_lasting(grants: &mut Vec<Grant>, now: u32)
+    ensures { grants.new.items ≡ lasting_grants now grants.old.items }
+{
+    grants.retain(|g| g.promise.expiry > now);
 }
 
 /// Puts grants in the order of their fids, those on one fid in the order of granting.

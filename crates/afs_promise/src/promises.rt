@@ -2,7 +2,7 @@ ghost use Rattle.std.specs.Prelude.{◌≡◌, ◌+◌, ◌<◌, ◌≤◌, ◌+
 ghost use Rattle.std.specs.Vec.{vec_capacity};
 ghost use Rattle.afs_breaks.specs.declared.types.Promise.{Promise};
 ghost use Rattle.afs_promise.specs.Granting.{promises_in};
-ghost use Rattle.afs_breaks.specs.Promises.{no_lists, grants, grants_all, gives_up, with_promises, owes_all, owes_from, hits, left, lasting, withdraws, withdraws_volume, withdrawn, ends, expired};
+ghost use Rattle.afs_breaks.specs.Promises.{no_lists, grants, grants_all, gives_up, with_promises, owes_all, owes_from, by_fid, hits, hits_on, left, lasting, withdraws, withdraws_volume, withdrawn, ends, expired};
 ghost use Rattle.afs_promise.specs.Found.{without_found};
 
 use crate::grants::Grants;
@@ -18,8 +18,8 @@ use std::marker::Model;
 /// A promise has its room among the owed breaks from its grant on, so it becomes owed without memory. To grant, to
 /// give up and to look for one promise takes constant time on average, and so does `expire` for each promise that
 /// ends, where expiries never fall from one grant to the next. `withdraw` looks for a promise of each client, once
-/// for each break and once more. `withdraw_volume` goes through all promises once. Of a break, `settled` and `quit`
-/// take constant time, and to owe and to expire it takes time with the logarithm of the number of breaks.
+/// for each break and once more. `withdraw_volume` and `hits_on` go through all promises once. Of a break, `settled`
+/// and `quit` take constant time, and to owe and to expire it takes time with the logarithm of the number of breaks.
 #[derive(Drop)]
 pub struct Promises {
     grants: Grants,
@@ -134,6 +134,16 @@ fn take_found(grants: &mut Grants, owed: &mut OwedList, found: &[Promise]) -> Me
     Ok(())
 }
 
+/// Adds the promises of grants.
+fn add_promises(out: &mut Vec<Promise>, grants: &[Grant]) -> Mem<()>
+    ensures { OnOk result (out.new.items ≡ out.old.items ++ promises_in grants.now) }
+{
+    for grant in grants {
+        out.push(grant.promise)?;
+    }
+    Ok(())
+}
+
 impl Promises {
     /// No promises, and nothing owed. It takes no memory.
     pub fn new(alloc: Global) -> Promises
@@ -208,6 +218,16 @@ impl Promises {
                 Err(error)
             }
         }
+    }
+
+    /// Adds the promises that a withdrawal on the volume takes where the clock is at `now`: by ascending vnode, of one vnode number the
+    /// lower unique first, and of one fid in the order of granting.
+    pub fn hits_on(&self, volume: u32, now: u32, out: &mut Vec<Promise>) -> Mem<()>
+        ensures { OnOk result (out.new.items ≡ out.old.items ++ by_fid (hits_on volume (lasting now self.now.promises))) }
+    {
+        let found = self.grants.hits_on(volume, now)?;
+        add_promises(out, &found)?;
+        Ok(())
     }
 
     /// Withdraws the promises on the fid but that of `except`: their breaks become owed, in the order of granting. It
