@@ -1,0 +1,12 @@
+use Rattle.std.proofs.Common.{◌≡◌, ◌≤◌, ◌+◌, drop}
+use Rattle.afs_volrows.specs.VolRow.{holds_of}
+use Rattle.afs_volserv.specs.Seen.{AreAlone}
+use Rattle.afs_volserv.proofs.holding.free_all.Given as goal
+
+abbrev pub invariant-loop-item : goal.invariant-loop-item
+invariant-loop-item g l = record {
+  holds : l.store.holds.table ≡ holds_of (drop l.item-index l.former);
+  alone : AreAlone (drop l.item-index l.former);
+  room : l.fn.store.holds.room + l.item-index ≤ l.store.holds.room;
+  rest : l.store ≡ record l.fn.store { holds = l.store.holds };
+}

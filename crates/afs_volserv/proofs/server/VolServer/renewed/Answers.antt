@@ -1,0 +1,9 @@
+use Rattle.std.proofs.Common.{◌∙◌}
+use Rattle.afs_sendings.specs.Pieces.{renews}
+use Rattle.afs_volserv.proofs.server.VolServer.renewed.Goals as goal
+
+pub returns-clause-way : goal.returns-clause-way
+returns-clause-way g c = c.in_ok-renew.ensures.way ∙ (λ i. renews (c.stand.ensures i).node (c.stand.ensures i).boot c.args.node c.args.known c.args.call.now c.args.first.now (c.in_ok-pieces.ensures.way i))
+
+pub returns-clause-to : goal.returns-clause-to
+returns-clause-to g c = c.in_ok-renew.ensures.to (c.in_ok-pieces.ensures.to c.requires.serves.calls)

@@ -1,0 +1,33 @@
+use Rattle.afs_volserv.proofs.Written.{can_put, planned_taken, same_prepared, serves_still, took}
+use Rattle.afs_volserv.proofs.server.VolServer.save.Goals as goal
+
+pub prepare-requires-clause-taken : goal.prepare-requires-clause-taken
+prepare-requires-clause-taken g c =
+    planned_taken c.args.now c.args.head.now c.args.saving c.args.self.now c.args.callbacks.now c.args.store.now c.in_ok-planned.planned c.in_ok-planned.ensures.planned c.requires.can
+
+pub put_or_answer-requires-clause-serves : goal.put_or_answer-requires-clause-serves
+put_or_answer-requires-clause-serves g c =
+    let s = c.args.store.now in
+    let mid = c.prepare.new.store in
+    serves_still c.args.self.now c.args.callbacks.now s mid (same_prepared c.in_ok-planned.planned.rec s mid c.in_ok-room.room c.in_ok-room.ensures.prepares) c.requires.serves
+
+pub put_or_answer-requires-clause-can : goal.put_or_answer-requires-clause-can
+put_or_answer-requires-clause-can g c =
+    let s = c.args.store.now in
+    let mid = c.prepare.new.store in
+    let p = c.in_ok-planned.planned in
+    let asks = c.requires in
+    can_put c.args.self.now c.args.callbacks.now s mid (same_prepared p.rec s mid c.in_ok-room.room c.in_ok-room.ensures.prepares) c.args.now c.args.head.now c.args.saving p c.in_ok-planned.ensures.planned
+    asks.serves asks.draws asks.room asks.up asks.runs asks.can
+
+pub returns : goal.returns
+returns g c =
+    let s = c.args.store.now in
+    let mid = c.prepare.new.store in
+    let p = c.in_ok-planned.planned in
+    let room = c.in_ok-room.ensures in
+    let put = c.put_or_answer in
+    let asks = c.requires in
+    took g.D.Disk c.args.now c.args.head.now c.args.call.now c.args.saving c.args.self.now put.new.self c.args.callbacks.now put.new.callbacks s mid put.new.store p c.in_ok-planned.ensures.planned
+    put.result c.in_ok-room.room room.room (same_prepared p.rec s mid c.in_ok-room.room room.prepares) room.disk room.counts asks.serves asks.beside asks.can asks.head.0
+    put.ensures.puts put.ensures.words put.ensures.disk put.ensures.full put.ensures.up

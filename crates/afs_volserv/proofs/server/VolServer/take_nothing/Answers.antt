@@ -1,0 +1,20 @@
+use Rattle.std.proofs.Common.{refl}
+use Rattle.afs_server.proofs.Still.{out_of_memory}
+use Rattle.afs_volrows.specs.VolSteps.{drops}
+use Rattle.afs_volserv.specs.Handling.{vol_turn_then}
+use Rattle.afs_volserv.proofs.Taken.{steps_took, wants_took}
+use Rattle.afs_volserv.proofs.server.VolServer.take_nothing.Goals as goal
+
+pub returns : goal.returns
+returns g c =
+    let s = c.args.store.now in
+    let k = c.args.callbacks.now in
+    let old = c.args.self.now in
+    steps_took g.D.Disk drops (vol_turn_then old k s c.args.now drops) old c.pass.new.self k c.pass.new.callbacks s c.pass.new.store c.in_ok-outs.outs refl c.in_ok-outs.ensures
+
+pub returns-in_err-outs : goal.returns-in_err-outs
+returns-in_err-outs g c =
+    let s = c.args.store.now in
+    let k = c.args.callbacks.now in
+    let old = c.args.self.now in
+    wants_took g.D.Disk drops (vol_turn_then old k s c.args.now drops) old c.pass.new.self k c.pass.new.callbacks s c.pass.new.store c.from_residual.result (out_of_memory c.from_residual.result c.from_residual.ensures.1) c.in_err-outs.ensures
