@@ -16,7 +16,8 @@ use Rattle.afs_ideal.proofs.Laid as setting
 use Rattle.afs_ideal.specs.SoundnessLaws.{FirstVolumes}
 use Rattle.afs_ideal.proofs.Tables.{ascends_lower, ascends_set, get_below}
 use Rattle.afs_records.specs.Changes.{accepted, at_set_up, laid_all, record_of_volumes, stored_volume, volume_laid, volumes_laid}
-use Rattle.afs_records.specs.Durable.{allowed, by_number, first_folded, folded, has_room, most_volumes, nothing_on, or_zero, place_length, stored_of, times_of, volume_with, with_stored, with_volumes, Durable, Stored}
+use Rattle.afs_records.specs.Durable.{allowed, by_number, has_room, most_volumes, nothing_on, or_zero, place_length, stored_of, times_of, volume_with, with_stored, with_volumes, Durable, Stored}
+use Rattle.afs_fold.specs.Fold.{first_folded, folded}
 use Rattle.afs_records.specs.Sound.{is_sound}
 use Rattle.afs_records.proofs.Kept.{value_back}
 use Rattle.afs_rows.specs.Runs.{counts_later, first_lasting, first_stored, first_volumes, placed_at, unless_there, volumes_at}

@@ -6,7 +6,7 @@ use Rattle.afs_records.proofs.Effects.{changes_told}
 use Rattle.afs_num.specs.declared.messages.Message.{Message}
 use Rattle.afs_model.specs.Messages.{spelled}
 use Rattle.afs_records.proofs.Tested.{passes}
-use Rattle.afs_records.proofs.Kept.{change_kept}
+use Rattle.afs_fold.proofs.Kept.{change_kept}
 use Rattle.afs_records.specs.Laws.{CanBeStored}
 use Rattle.afs_num.specs.declared.types.Head.{Head}
 -- What a server's disk keeps: the callers by their numbers, and the volumes with what stands beside them.
@@ -25,7 +25,9 @@ use Rattle.afs_rows.specs.ServerRow.{seat_placed, is_unflagged, Change, record_o
 use Rattle.afs_rows.specs.States.{Seat, kept_of, kept_by_number, volume_in, Lasting, durable_of}
 use Rattle.afs_model.specs.Calls.{call_seat}
 use Rattle.afs_records.specs.Changes.{at_set_up, keeping, boot_record, images_left, numbers_gone}
-use Rattle.afs_records.specs.Durable.{Stored, Kept, folded, change_lines, effect_of, versions_told}
+use Rattle.afs_records.specs.Durable.{Stored, Kept, change_lines, versions_told}
+use Rattle.afs_fold.specs.Effects.{effect_of}
+use Rattle.afs_fold.specs.Fold.{folded}
 
 -- ---- callers by their numbers
 

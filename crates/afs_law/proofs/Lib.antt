@@ -147,3 +147,4 @@ pub mod KeptRuns
 pub mod Wrong
 pub mod Database
 pub mod DatabaseRuns
+pub mod Clientele

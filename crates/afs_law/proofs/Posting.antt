@@ -189,7 +189,7 @@ after_backs me x clock (refuses head code) = refl
 after_backs me x clock (shows head r) = refl
 after_backs me x clock (saves head c) = refl
 
-disk_backs : (me : Node) (x : ServerState) (after : Bool) (fall : Fall) → (begun_by_disk me x after fall).state.backs ≡ x.backs
+pub disk_backs : (me : Node) (x : ServerState) (after : Bool) (fall : Fall) → (begun_by_disk me x after fall).state.backs ≡ x.backs
 disk_backs me x after at_rest = refl
 disk_backs me x false (in_step m clock hit) = refl
 disk_backs me x true (in_step m clock hit) = after_backs me x clock (decides me x clock (Whole m))

@@ -20,7 +20,9 @@ use Rattle.afs_num.specs.declared.types.Node.TheVariants.{Client, Server, Loc}
 use Rattle.afs_ideal.specs.Tables.{get, Table}
 use Rattle.afs_num.specs.Nodes.{IsNode}
 use Rattle.afs_records.specs.Changes.{boot_record}
-use Rattle.afs_records.specs.Durable.{folded, Stored, has_room, effect_of, Durable}
+use Rattle.afs_records.specs.Durable.{Stored, has_room, Durable}
+use Rattle.afs_fold.specs.Effects.{effect_of}
+use Rattle.afs_fold.specs.Fold.{folded}
 use Rattle.afs_records.specs.Laws.{CanBeStored}
 use Rattle.std.specs.List.{AllByRecursion}
 use Rattle.afs_ideal.specs.Told.{live, Agrees}
@@ -49,7 +51,7 @@ use Rattle.std.specs.Prelude.{⊤, pos, ◌⊎◌, ◌≤◌, ◌<◌, None, Som
 use Rattle.afs_num.specs.declared.types.Fid.{Fid}
 use Rattle.afs_num.specs.declared.types.Node.{Node}
 use Rattle.afs_history.specs.declared.scripts.VolumeLine.{VolumeLine}
-use Rattle.afs_records.specs.Changes as disks
+use Rattle.afs_fold.specs.SetUps as set_ups
 use Rattle.afs_history.specs.declared.scripts.Script.{Script}
 use Rattle.afs_num.specs.declared.histories.Body.{Body}
 use Rattle.afs_num.specs.declared.histories.Body.TheVariants as bodies
@@ -288,7 +290,7 @@ AscendBy n (v ∷ vs) = (n ≤ v.id) × AscendBy (v.id + 1) vs
 -- What set-up puts on a disk of this capacity is what the server begins with, where the volumes of the script have ascending
 -- numbers, as those of each script that can be read.
 abbrev pub SetUpsAreFirst : Type 0
-SetUpsAreFirst = (capacity server : ℕ) (vs : List VolumeLine) (d : Durable) → AscendBy 0 vs → disks.set_up capacity (placed_lines server vs) ≡ Some d →
+SetUpsAreFirst = (capacity server : ℕ) (vs : List VolumeLine) (d : Durable) → AscendBy 0 vs → set_ups.set_up capacity (placed_lines server vs) ≡ Some d →
     d ≡ durable_of (first_lasting capacity (first_stored (volumes_at server vs)))
 
 -- ---- what holds between any two entries of a run

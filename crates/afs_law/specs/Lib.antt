@@ -13,3 +13,4 @@ pub mod ServerParts
 pub mod ClientParts
 pub mod Database
 pub mod DatabaseRuns
+pub mod Clientele

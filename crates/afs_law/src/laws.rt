@@ -1,6 +1,7 @@
 //! Laws about the runs of a script. Each is the contract of a function that does nothing.
 
 ghost use Rattle.afs_law.specs.Laws.{AcknowledgedAreKept, AcknowledgedAreMade, AnswersAreRecent, ChangesAreFolded, EffectsAreTold, KeysRunOnce, ReadsAreNewest, RunsAreLegal, RunsAreOne, RunsEndWell, SetUpsAreFirst, StartsAreFolded, VolumesAreTold, PairsAreKnown, TrustedIsGood, RoomlessAreRefused, UnservedAreRefused, CallsRunOnce, RepliesAreCaused, RepliesWereRun, KeptWereRun, DurableAreChanges, GrantsAreKept, BreaksAreOwed, RepliesFollowDrops, UnawaitedAreUntrusted, DeadAreUntrusted};
+ghost use Rattle.afs_law.specs.Clientele.{CellsServeClients};
 ghost use Rattle.afs_law.specs.Database.{LocChangesAreFolded, LocChangesKeepOrder, LocStartsAreFolded};
 ghost use Rattle.afs_law.specs.DatabaseRuns.{LocAnswersByItsRow, LocBootsRise, LocCallsRunOnce, LocChangesAreOnce, LocJournalIsFolded, LocKeepsItsJournal, LocRunsEvents, LocSetUpsAreFirst, LocStaysSettled};
 ghost use Rattle.afs_law.specs.ClientParts.{AnswersAreDue, AnswersAreGood, CachedAreFetched, ChangesAreAlone, GiftsAreDropped, ReadsAreGood, WaitsAreSilent};
@@ -333,4 +334,9 @@ pub fn loc_stays_settled()
 /// Over all its boots no call runs again that changed something.
 pub fn loc_changes_are_once()
     ensures { LocChangesAreOnce }
+{}
+
+/// In a run each message on its way to a server is a client's, and so is that in whose step a server went down.
+pub fn cells_serve_clients()
+    ensures { CellsServeClients }
 {}
