@@ -30,10 +30,11 @@ use Rattle.afs_schedule.specs.Schedules.{act_input, client_act, is_idle, left_by
 use Rattle.afs_text.specs.Telling.{told, sent_by}
 use Rattle.afs_clients.specs.Happening.{entry_of, ClientHears, ClientMakes, HasBegun, HasFallen, HasRisen, HasTimedOut, IsAsked, IsVoidClient}
 use Rattle.afs_clients.specs.Places.{put_place}
+use Rattle.afs_cell.specs.SeatSteps.{IsRestingHost}
 use Rattle.afs_cell.specs.Steps.{IsAt, Plays}
 use Rattle.afs_cell.specs.Worlds.{falls, IsClient, WorldState}
 use Rattle.afs_host.specs.LocSeated.{IsLocHost}
-use Rattle.afs_host.specs.Seated.{IsHost}
+use Rattle.afs_cell.proofs.Reached.{reached_on}
 use Rattle.afs_clients.specs.declared.clients.ClientSeat.{ClientSeat}
 use Rattle.afs_clients.specs.declared.happening.ClientInput.{ClientInput}
 use Rattle.afs_clients.specs.declared.happening.ClientInput.TheVariants as client
@@ -128,7 +129,8 @@ module _ {D : Type 0} (seen : D → Option (List ℕ)) (may_leave : D → List �
     cell = record {
       loc = subst (λ (h : LocHost). IsLocHost seen may_leave limit w.database h) (sym link.moves.loc) at.cell.loc;
       host_count = link.moves.host_count ∙ at.cell.host_count;
-      hosts = λ j z here. subst (λ (h : ℕ → ServerHost). IsHost seen may_leave limit (Server j) z (h j)) (sym link.moves.hosts) (at.cell.hosts j z here);
+      hosts = λ j z here. subst (λ (h : ℕ → ServerHost). IsRestingHost seen may_leave limit (Server j) z (h j)) (sym link.moves.hosts) (at.cell.hosts j z here);
+      reached = reached_on t.cell link.input at.cell.reached;
       count = link.moves.count ∙ (at.cell.count ∙ sym (length_put n now w.clients));
       clients =
           each_put (λ (j : ℕ) (z : ClientSeat). IsClient z (t.cell.clients j) (t.cell.away j)) (λ (j : ℕ) (z : ClientSeat). IsClient z ((moved t.cell link.input).cell.clients j) ((moved t.cell link.input).cell.away j)) n now was w.clients found at.cell.clients

@@ -19,6 +19,7 @@ use Rattle.afs_cell.specs.Steps.{IsAt, Plays, Stepped, Steps}
 use Rattle.afs_cell.specs.Worlds.{most_entries, most_ticks, AllTell, IsSafe, WorldState}
 use Rattle.afs_cell.specs.declared.faults.WorldFault.{WorldFault}
 use Rattle.afs_cell.specs.declared.faults.WorldFault.TheVariants as faulty
+use Rattle.afs_cell.proofs.Reached.{reached_on}
 use Rattle.afs_cell.proofs.ClientSteps.{moved_nothing}
 use Rattle.afs_cell.proofs.Counts.{counts_still}
 use Rattle.afs_cell.proofs.Links.{message_found, Voided}
@@ -69,7 +70,7 @@ module _ {D : Type 0} (seen : D → Option (List ℕ)) (may_leave : D → List �
     is_one = refl;
     history = told-still w.wire w.history (tick_entry (suc k)) all refl;
     at = record {
-      cell = record { loc = at.cell.loc; host_count = at.cell.host_count; hosts = at.cell.hosts; count = at.cell.count; clients = at.cell.clients; sent = at.cell.sent; handed = at.cell.handed; clock = ap (λ (c : ℕ). c + suc k) at.cell.clock };
+      cell = record { loc = at.cell.loc; host_count = at.cell.host_count; hosts = at.cell.hosts; count = at.cell.count; clients = at.cell.clients; sent = at.cell.sent; handed = at.cell.handed; reached = reached_on t.cell (ticks (suc k)) at.cell.reached; clock = ap (λ (c : ℕ). c + suc k) at.cell.clock };
       acts = at.acts;
     };
     counts = counts_still faults (ticks (suc k)) (moved t.cell (ticks (suc k))).entry w refl;

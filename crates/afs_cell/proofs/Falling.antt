@@ -12,9 +12,9 @@ use Rattle.afs_history.specs.declared.lines.Line.TheVariants as lines
 use Rattle.afs_history.specs.declared.lines.Outs.{Outs}
 use Rattle.afs_disk.specs.Disk.{Rose}
 use Rattle.afs_model.specs.Messages.{received}
-use Rattle.afs_rows.specs.ServerHosts.{ServerHost, server_kind}
 use Rattle.afs_rows.specs.Hosts.{HostStep}
-use Rattle.afs_rows.specs.States.{ServerState}
+use Rattle.afs_volrows.specs.NodeHosts.{node_kind, NodeHost}
+use Rattle.afs_volrows.specs.VolStates.{NodeState}
 use Rattle.afs_host.specs.Seats.{disk_of, IsStepDown, IsUp, Resting, ServerRunning}
 use Rattle.afs_host.specs.Serving.{HasServed, HasFallen}
 use Rattle.afs_host.specs.declared.seats.Seat.TheVariants.{Down, Up}
@@ -46,7 +46,7 @@ module _ {D : Type 0} (seen : D → Option (List ℕ)) (left_by : D → ℕ → 
   by_fall Is r each (Down s) happened.Lost falls = (each s falls.0 falls.1).1
 
   pub fell_happens : (you : Node) (clock place : ℕ) (bytes : List ℕ) (seat : ServerSeat D) (was r : ServerRunning D) → seat ≡ Up was → IsSeatOf you seat
-      → ((s : Resting D) (line : Line) → HasFallen seen left_by may_leave faults limit r s line → (h : ServerHost) → IsUp was h → (m : Message) → received bytes ≡ Whole m → (place : ℕ) → HasServed (server_kind was.store.node) h clock place m (IsStepDown seen may_leave limit was.store.node s (lines.Given place ∷ line ∷ [])) (Rose (faults (disk_of was)) (faults s.disk)))
+      → ((s : Resting D) (line : Line) → HasFallen seen left_by may_leave faults limit r s line → (h : NodeHost) → IsUp was h → (m : Message) → received bytes ≡ Whole m → (place : ℕ) → HasServed (node_kind was.store.node) h clock place m (IsStepDown seen may_leave limit was.store.node s (lines.Given place ∷ line ∷ [])) (Rose (faults (disk_of was)) (faults s.disk)))
       → SeatBecomes seen left_by may_leave faults limit (λ s what. SeatHappens seen may_leave faults limit you (lines.Given place ∷ []) IsFallen (HasHeard you clock place bytes) seat s what) (Up r) None
   fell_happens you clock place bytes seat was r is own served =
       by_fall (λ s what. SeatHappens seen may_leave faults limit you (lines.Given place ∷ []) IsFallen (HasHeard you clock place bytes) seat s what) r
@@ -75,7 +75,7 @@ module _ {D : Type 0} (seen : D → Option (List ℕ)) (left_by : D → ℕ → 
   up_at old was seat found up = (seat, (at_here i seat was old found, up))
 
   -- what became of it in its place, and of what stands there once it has fallen
-  module _ (front : List Line) (IsVoid : ServerHost → Type 0) (Has : ServerHost → (HostStep ServerState → Type 0) → Type 0 → Type 0) (old : List (ServerSeat D)) (was seat : ServerSeat D) (found : at_place old i ≡ Some was) where
+  module _ (front : List Line) (IsVoid : NodeHost → Type 0) (Has : NodeHost → (HostStep NodeState → Type 0) → Type 0 → Type 0) (old : List (ServerSeat D)) (was seat : ServerSeat D) (found : at_place old i ≡ Some was) where
     pub server_changed : (new : List (ServerSeat D)) (what : Happened) → new ≡ put_place i seat old → SeatHappens seen may_leave faults limit (Server i) front IsVoid Has was seat what → SeatGoes (Server i) was seat what → SeatKeeps seen faults limit was seat
         → ServersHappened seen may_leave faults limit i front IsVoid Has old new what
     server_changed new what put happens goes keeps = inr (record { was = was; now = seat; found = found; put = put; takes = record { happens = happens; goes = goes; keeps = keeps } })

@@ -4,6 +4,7 @@ use Rattle.std.specs.Prelude.{IsSome, ◌↔◌}
 use Rattle.std.proofs.lemmas.List.Elements.{All-nil}
 use Rattle.afs_num.specs.declared.faults.StoreFault.{StoreFault}
 use Rattle.afs_num.specs.declared.faults.StoreFault.TheVariants as store
+use Rattle.afs_num.specs.Nodes.{IsNode}
 use Rattle.afs_num.specs.declared.types.Node.{Node}
 use Rattle.afs_num.specs.declared.types.Node.TheVariants.{Server}
 use Rattle.afs_history.specs.declared.scripts.Script.{Script}
@@ -11,13 +12,20 @@ use Rattle.afs_history.specs.declared.scripts.VolumeLine.{VolumeLine}
 use Rattle.afs_disk.specs.Disk.{LeavesJust, Rose, Setting}
 use Rattle.afs_disk.specs.Fuses.{Fused}
 use Rattle.afs_journal.specs.Records.{whole_records}
-use Rattle.afs_records.specs.Changes.{set_up}
+use Rattle.afs_fold.specs.SetUps.{set_up}
 use Rattle.afs_records.specs.Durable.{Durable}
 use Rattle.afs_grammar.specs.CellScripts.{IsCellScript}
 use Rattle.afs_grammar.specs.Lines.{volumes_at}
 use Rattle.afs_law.specs.Laws.{SetUpsAreFirst}
 use Rattle.afs_scripts.specs.SetUps.{NumbersAscend, SetUpsAreAccepted}
-use Rattle.afs_server.specs.Seen.{first_memory, state_seen, Memory, Serves}
+use Rattle.afs_server.specs.Seen.{first_memory, lasting_of, state_seen, Memory, Serves}
+use Rattle.afs_rows.specs.Runs.{first_host}
+use Rattle.afs_rows.specs.States.{ServerState}
+use Rattle.afs_volrows.specs.VolStates.{fresh_vol, NodeState, VolState}
+use Rattle.afs_volserv.specs.Seen.{vol_seen, ServesVolumes}
+use Rattle.afs_node.specs.Seen.{ServesNode}
+use Rattle.afs_node.specs.declared.node.ServerNode.{ServerNode}
+use Rattle.afs_cell.specs.declared.faults.SetupFault.TheVariants as seating
 use Rattle.afs_callbacks.specs.States.{IsPromiseToNode}
 use Rattle.afs_server_parts.specs.Turning.{IsBreakToNode}
 use Rattle.afs_volstore.specs.Opening.{IsSetUpFault, IsSetUpSoFar}
@@ -44,20 +52,28 @@ own_rose last before now own_before own_now (rose, inr own) = own
 abbrev pub setting_of : {D : Type 0} → Fused D → Setting
 setting_of {D} f = record { stop = f.stop; fail = f.fail }
 
+-- both states of a node
+abbrev node_of : ServerState → VolState → NodeState
+node_of x y = record { file = x; vol = y }
+
+abbrev first_server_state : Script → ℕ → ServerState
+first_server_state s i = (first_host s i).state
+
 module _ {D : Type 0} (seen : D → Option (List ℕ)) (may_leave : D → List ℕ → Type 0) (faults limit : D → ℕ) (s : Script) (h : IsCellScript s) (i : ℕ) (old : D) (ls : List VolumeLine) where
   -- what is set up is what the script says
   set_up_is : (t : Durable) → ls ≡ volumes_at i s.volumes → limit old ≡ s.capacity → set_up (limit old) ls ≡ Some t → set_up s.capacity (volumes_at i s.volumes) ≡ Some t
   set_up_is t lines capacity made = sym (ap₂ (λ (n : ℕ) (vs : List VolumeLine). set_up n vs) capacity lines) ∙ made
 
   pub first_store : SetUpsAreFirst → NumbersAscend → (t : Store (Fused D)) → ls ≡ volumes_at i s.volumes → limit old ≡ s.capacity → set_up (limit old) ls ≡ Some t.durable
-      → t ≡ record { durable = t.durable; disk = t.disk; node = Server i; prepared = None; closed = false; count = 1; drawn = 0 }
+      → t ≡ record { durable = t.durable; disk = t.disk; node = Server i; prepared = None; closed = false; count = 1; drawn = 0; holds = t.holds } → t.holds.table ≡ []
       → setting_of t.disk ≡ unset → t.disk.calls ≤ 12 → limit t.disk.disk ≡ limit old → faults t.disk.disk ≡ faults old → (IsSome (seen t.disk.disk) ↔ IsSome (seen old)) → IsKept t.durable (seen t.disk.disk) (may_leave t.disk.disk)
       → IsFirstStore seen may_leave faults limit s i old t
-  first_store first ascend t lines capacity made rest set few same quiet told kept =
+  first_store first ascend t lines capacity made rest free set few same quiet told kept =
       let is = set_up_is t.durable lines capacity made in
       record {
         durable_is = first s.capacity i s.volumes t.durable (ascend s h) is;
         rest = rest;
+        free = free;
         unset = (ap (λ (x : Setting). x.stop) set, ap (λ (x : Setting). x.fail) set);
         few = few;
         same_limit = same;
@@ -109,7 +125,7 @@ module _ {D : Type 0} (seen : D → Option (List ℕ)) (may_leave : D → List �
     };
   }
 
-  -- the server over such a store
+  -- the file server over such a store
   pub first_serves : (old : D) (t : Store (Fused D)) (m : Memory) → 1 ≤ i → i ≤ 8 → IsFirstStore seen may_leave faults limit s i old t → m ≡ first_memory → Serves t.node m t.durable
   first_serves old t m low high first is =
       let node : Server i ≡ t.node = sym (ap (λ (x : Store (Fused D)). x.node) first.rest) in
@@ -122,15 +138,19 @@ module _ {D : Type 0} (seen : D → Option (List ℕ)) (may_leave : D → List �
         calls = λ n. tt;
       })))
 
-  pub first_server : (old : D) (t : Store (Fused D)) (m : Memory) (r : ServerRunning D) → IsFirstStore seen may_leave faults limit s i old t → m ≡ first_memory → r ≡ record { memory = m; store = t; armed = record { stop = None; fail = None } } → CanRun r → IsFirstServer seen may_leave faults limit s i old r
-  first_server old t m r first is value can =
+  -- the node over it
+  pub first_server : (old : D) (t : Store (Fused D)) (m : ServerNode) (r : ServerRunning D) → IsFirstStore seen may_leave faults limit s i old t → m.file ≡ first_memory → vol_seen m.vol ≡ fresh_vol (lasting_of t.durable).kept → r ≡ record { memory = m; store = t; armed = record { stop = None; fail = None } } → CanRun r → IsFirstServer seen may_leave faults limit s i old r
+  first_server old t m r first is fresh value can =
       let stored : r.store ≡ t = ap (λ (x : ServerRunning D). x.store) value in
       let node : t.node ≡ Server i = ap (λ (x : Store (Fused D)). x.node) first.rest in
       let drawn : t.drawn ≡ 0 = ap (λ (x : Store (Fused D)). x.drawn) first.rest in
-      let memory : r.memory ≡ first_memory = ap (λ (x : ServerRunning D). x.memory) value ∙ is in
-      let none : r.memory.lists.last_owed + length r.memory.lists.promises ≡ 0 = ap (λ (x : Memory). x.lists.last_owed + length x.lists.promises) memory in
+      let memory : r.memory.file ≡ first_memory = ap (λ (x : ServerRunning D). x.memory.file) value ∙ is in
+      let volumes : vol_seen r.memory.vol ≡ fresh_vol [] = ap (λ (x : ServerRunning D). vol_seen x.memory.vol) value ∙ (fresh ∙ ap (λ (d : Durable). fresh_vol (lasting_of d).kept) first.durable_is) in
+      let none : r.memory.file.lists.last_owed + length r.memory.file.lists.promises ≡ 0 = ap (λ (x : Memory). x.lists.last_owed + length x.lists.promises) memory in
       let few : r.store.disk.calls ≤ 12 = subst (λ (x : Store (Fused D)). x.disk.calls ≤ 12) (sym stored) first.few in
       let drew : r.store.drawn ≡ 0 = ap (λ (x : Store (Fused D)). x.drawn) stored ∙ drawn in
+      let file : state_seen r.memory.file r.store.durable r.store.drawn ≡ first_server_state s i =
+      ap₂ (λ (x : Memory) (y : Store (Fused D)). state_seen x y.durable y.drawn) memory stored ∙ ap₂ (λ (d : Durable) (n : ℕ). state_seen first_memory d n) first.durable_is drawn in
       record {
         ready = record {
           node = ap (λ (x : Store (Fused D)). x.node) stored ∙ node;
@@ -140,7 +160,7 @@ module _ {D : Type 0} (seen : D → Option (List ℕ)) (may_leave : D → List �
           device_calls = omega (arith, few);
         };
         host = record {
-          state = sym (ap₂ (λ (x : Memory) (y : Store (Fused D)). state_seen x y.durable y.drawn) memory stored ∙ ap₂ (λ (d : Durable) (n : ℕ). state_seen first_memory d n) first.durable_is drawn);
+          state = sym (ap₂ (λ (x : ServerState) (y : VolState). node_of x y) file volumes);
           down = refl;
           armed = sym (ap (λ (x : ServerRunning D). x.armed) value);
         };
@@ -148,3 +168,20 @@ module _ {D : Type 0} (seen : D → Option (List ℕ)) (may_leave : D → List �
         quiet = ap (λ (x : Store (Fused D)). faults x.disk.disk) stored ∙ first.quiet;
         left = subst (λ (x : Store (Fused D)). IsLeftAt seen may_leave s i old x.disk.disk) (sym stored) first.left;
       }
+
+  pub first_is_node : IsCellScript s → (old : D) (t : Store (Fused D)) → 1 ≤ i → i ≤ s.servers → IsFirstStore seen may_leave faults limit s i old t → IsNode t.node
+  first_is_node script old t low high first =
+      let most = script.servers.1 in
+      subst IsNode (sym (ap (λ (x : Store (Fused D)). x.node) first.rest)) (server_is_node i low (omega (arith, high, most)))
+
+  pub node_serves : IsCellScript s → (old : D) (t : Store (Fused D)) (m : ServerNode) → 1 ≤ i → i ≤ s.servers → IsFirstStore seen may_leave faults limit s i old t → m.file ≡ first_memory → ServesVolumes m.vol t → ServesNode m t
+  node_serves script old t m low high first is volumes =
+      let most = script.servers.1 in
+      record { file = first_serves old t m.file low (omega (arith, high, most)) first is; volumes = volumes }
+
+  -- memory ran out behind it: its disk is handed back
+  pub unseated : (old : D) (t : Store (Fused D)) → IsFirstStore seen may_leave faults limit s i old t → IsRefusedAt seen may_leave faults limit s i old (seating.OutOfMemory, t.disk.disk)
+  unseated old t first = record { cause = first.quiet; back = record { same_limit = first.same_limit; no_fewer = omega (arith, first.quiet); left = first.left } }
+
+  pub unseated_with : (old : D) (t : Store (Fused D)) → IsFirstStore seen may_leave faults limit s i old t → (d : D) → d ≡ t.disk.disk → IsRefusedAt seen may_leave faults limit s i old (seating.OutOfMemory, d)
+  unseated_with old t first d is = subst (λ (x : D). IsRefusedAt seen may_leave faults limit s i old (seating.OutOfMemory, x)) (sym is) (unseated old t first)

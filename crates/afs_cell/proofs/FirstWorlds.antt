@@ -12,13 +12,15 @@ use Rattle.afs_rows.specs.Going.{ClientState}
 use Rattle.afs_rows.specs.Runs.{first_client, first_host, start}
 use Rattle.afs_host.specs.declared.seats.Seat.TheVariants.{Down, Up}
 use Rattle.afs_schedule.specs.Schedules.{tasks_of}
+use Rattle.afs_cell.specs.SeatSteps.{IsRestingHost}
+use Rattle.afs_cell.proofs.Reached.{reached_first}
 use Rattle.afs_cell.specs.FirstSeats.{AreFirstHosts, AreFirstSeats, IsFirstSeat}
 use Rattle.afs_clients.specs.Places.{Each}
 use Rattle.afs_clients.specs.Seating.{AreFirstClients, IsFirstClient}
 use Rattle.afs_cell.specs.Steps.{IsFirst}
 use Rattle.afs_cell.specs.Lends.{AreLent, LentTell}
 use Rattle.afs_host.specs.LocSeats.{DatabaseRunning}
-use Rattle.afs_host.specs.Seated.{seat_disk, IsHost, IsReadySeat, ServerSeat}
+use Rattle.afs_host.specs.Seated.{seat_disk, IsReadySeat, ServerSeat}
 use Rattle.afs_cell.specs.Worlds.{none_gone, AllTell, IsCell, IsClient, IsReadyClient, IsSafe, IsWorld, LetGo, WorldState}
 use Rattle.afs_clients.specs.declared.clients.ClientSeat.{ClientSeat}
 use Rattle.afs_cell.proofs.FirstSeated.{count_seats}
@@ -90,8 +92,8 @@ module _ {D : Type 0} (seen : D → Option (List ℕ)) (may_leave : D → List �
   ready_seat capacity n l (Up r) e h = h.ready
   ready_seat capacity n l (Down r) e h = absurd h
 
-  host_seat : (capacity n : ℕ) (l : Lent D) (seat : ServerSeat D) → limit l.disk ≡ capacity → IsFirstSeat seen may_leave faults limit s n l.disk seat → IsHost seen may_leave limit (Server n) seat (first_host s n)
-  host_seat capacity n l (Up r) e h = h.host
+  host_seat : (capacity n : ℕ) (l : Lent D) (seat : ServerSeat D) → limit l.disk ≡ capacity → IsFirstSeat seen may_leave faults limit s n l.disk seat → IsRestingHost seen may_leave limit (Server n) seat (first_host s n)
+  host_seat capacity n l (Up r) e h = ([], h.host)
   host_seat capacity n l (Down r) e h = absurd h
 
   held_seat : (capacity n : ℕ) (l : Lent D) (seat : ServerSeat D) → limit l.disk ≡ capacity → IsFirstSeat seen may_leave faults limit s n l.disk seat → limit (seat_disk seat) ≡ capacity
@@ -120,12 +122,13 @@ module _ {D : Type 0} (seen : D → Option (List ℕ)) (may_leave : D → List �
     is_cell = record {
       loc = hosts.0.host;
       host_count = sym seats_are;
-      hosts = each_seat (λ (i : ℕ) (seat : ServerSeat D). IsHost seen may_leave limit (Server i) seat (first_host s i)) (host_seat s.capacity);
+      hosts = each_seat (λ (i : ℕ) (seat : ServerSeat D). IsRestingHost seen may_leave limit (Server i) seat (first_host s i)) (host_seat s.capacity);
       count = sym count;
       clients = each_client s (λ (n : ℕ) (c : ClientSeat). IsClient c (first_client s n) false) cs (λ n c first. record { state_is = first.state; away_is = first.up }) clients;
       sent = refl;
       clock = refl;
       handed = refl;
+      reached = reached_first s;
     }
 
     pub is_first : IsFirst seen may_leave limit s (first_world database ss cs)

@@ -18,7 +18,12 @@ use Rattle.afs_rows.specs.LocSteps.{loc_begun_after}
 use Rattle.afs_rows.specs.ServerHosts.{begun_by_disk}
 use Rattle.afs_rows.specs.Hosts.{at_rest, in_boot, in_step, Fall, MayBegin, MayFind}
 use Rattle.afs_rows.specs.ServerRow.{begun_after, decides, drops, refuses, repeats, saves, shows, tells_boot, Decision}
-use Rattle.afs_rows.specs.States.{Lasting, ServerState}
+use Rattle.afs_rows.specs.States.{Lasting, Seat, ServerState}
+use Rattle.afs_rows.specs.Steps.{Begun}
+use Rattle.afs_volrows.specs.RestingHosts.{resting_host, resting_state}
+use Rattle.afs_volrows.specs.VolStates.{NodeState}
+use Rattle.afs_volrows.proofs.HostResting.{hosts_rest}
+use Rattle.afs_volrows.proofs.HostPlain.{hosts_plain}
 use Rattle.afs_host.specs.Seats.{IsDown, Resting}
 use Rattle.afs_host.specs.Standing.{LiesAs}
 use Rattle.afs_host.specs.declared.seats.Seat.TheVariants.{Down, Up}
@@ -30,7 +35,8 @@ use Rattle.afs_host.specs.LocSeats.{IsLocDown}
 use Rattle.afs_host.specs.LocStanding.{loc_begun_by_disk, LocLiesAs}
 use Rattle.afs_host.specs.Seated.{seat_disk, IsHost, IsReadySeat, ServerSeat}
 use Rattle.afs_clients.specs.Places.{Each}
-use Rattle.afs_cell.specs.Worlds.{AllHold, IsCell, IsSafe, WorldState}
+use Rattle.afs_cell.specs.Worlds.{AllHold, IsCell, IsSafe, WorldState, IsReached}
+use Rattle.afs_cell.proofs.Reached.{of_client, open_there}
 use Rattle.afs_clients.proofs.Numbers.{none_some, some_is}
 
 -- ---- a step leaves the capacity as it is
@@ -94,29 +100,32 @@ module _ {D : Type 0} (seen : D → Option (List ℕ)) (may_leave : D → List �
   abbrev StandsFor : Cell → ℕ → D → List ℕ → Type 0
   StandsFor c i disk bytes = (d : Durable) × (MayBeRead c i d × (Stands bytes d × (d.capacity ≡ limit disk)))
 
-  may_begin : (c : Cell) (i : ℕ) (x : Resting D) (down : IsDown seen may_leave limit (Server i) x (c.hosts i)) (after : Bool) → MayFind down.fall after → MayBegin (c.hosts i).down after
-  may_begin c i x down after may = subst (λ (o : Option Fall). MayBegin o after) (sym down.down) may
+  may_begin : (c : Cell) (i : ℕ) (callers : List Seat) (x : Resting D) (down : IsDown seen may_leave limit (Server i) x (resting_host callers (c.hosts i))) (after : Bool) → MayFind down.fall after → MayBegin (c.hosts i).down after
+  may_begin c i callers x down after may = subst (λ (o : Option Fall). MayBegin o after) (sym down.down) may
 
-  lies_so : (c : Cell) (i : ℕ) (x : Resting D) (down : IsDown seen may_leave limit (Server i) x (c.hosts i)) (bytes : List ℕ) (after : Bool) → MayFind down.fall after → LiesAs (Server i) (c.hosts i).state down.fall x.mark after (whole_records bytes) → StandsFor c i x.disk bytes
-  lies_so c i x down bytes false may before =
+  lies_so : (c : Cell) (i : ℕ) (callers : List Seat) (x : Resting D) (down : IsDown seen may_leave limit (Server i) x (resting_host callers (c.hosts i))) → IsReached c → (bytes : List ℕ) (after : Bool) → MayFind down.fall after → LiesAs (Server i) (resting_state callers (c.hosts i).state) down.fall x.mark after (whole_records bytes) → StandsFor c i x.disk bytes
+  lies_so c i callers x down reached bytes false may before =
       let d = before.before.durable in
-      (d, ((false, (may_begin c i x down false may, before.before.read)), (before.before.stands, ap (λ (l : Lasting). l.capacity) before.before.read ∙ down.capacity)))
-  lies_so c i x down bytes true may after =
-      let d = after.after.durable in (
+      (d, ((false, (may_begin c i callers x down false may, before.before.read)), (before.before.stands, ap (λ (l : Lasting). l.capacity) before.before.read ∙ down.capacity)))
+  lies_so c i callers x down reached bytes true may after =
+      let d = after.after.durable in
+      let read = after.after.read
+      ∙ (ap (λ (b : Begun NodeState). b.state.file.lasting) (hosts_rest.begins (Server i) callers (c.hosts i).state true down.fall (of_client c i down.fall reached down.down))
+      ∙ ap (λ (b : Begun ServerState). b.state.lasting) (hosts_plain.begins (Server i) (c.hosts i).state true down.fall (open_there c reached i))) in (
         d,
         (
-          (true, (may_begin c i x down true may, subst (λ (o : Option Fall). IsReadAfter (Server i) (c.hosts i).state o d) (sym down.down) after.after.read)),
-          (after.after.stands, ap (λ (l : Lasting). l.capacity) after.after.read ∙ (capacity_after (Server i) (c.hosts i).state down.fall ∙ down.capacity)),
+          (true, (may_begin c i callers x down true may, subst (λ (o : Option Fall). IsReadAfter (Server i) (c.hosts i).state o d) (sym down.down) read)),
+          (after.after.stands, ap (λ (l : Lasting). l.capacity) read ∙ (capacity_after (Server i) (c.hosts i).state down.fall ∙ down.capacity)),
         ),
       )
 
-  seat_stands : (c : Cell) (i entries : ℕ) (seat : ServerSeat D) → IsHost seen may_leave limit (Server i) seat (c.hosts i) → IsReadySeat (Server i) entries seat → IsKeptSeat seen may_leave limit seat → (bytes : List ℕ) → seen (seat_disk seat) ≡ Some bytes → StandsFor c i (seat_disk seat) bytes
-  seat_stands c i entries (Up r) up ready kept bytes e =
+  seat_stands : (c : Cell) (i entries : ℕ) (callers : List Seat) (seat : ServerSeat D) → IsHost seen may_leave limit (Server i) seat (resting_host callers (c.hosts i)) → IsReadySeat (Server i) entries seat → IsKeptSeat seen may_leave limit seat → IsReached c → (bytes : List ℕ) → seen (seat_disk seat) ≡ Some bytes → StandsFor c i (seat_disk seat) bytes
+  seat_stands c i entries callers (Up r) up ready kept reached bytes e =
       let stands = kept.0 ready.can_run.up in
-      (r.store.durable, ((false, (subst (λ (o : Option Fall). MayBegin o false) (sym up.down) tt, sym (ap (λ (x : ServerState). x.lasting) up.state))), (stands.stands bytes e, kept.1)))
-  seat_stands c i entries (Down x) down ready kept bytes e =
+      (r.store.durable, ((false, (subst (λ (o : Option Fall). MayBegin o false) (sym up.down) tt, sym (ap (λ (x : NodeState). x.file.lasting) up.state))), (stands.stands bytes e, kept.1)))
+  seat_stands c i entries callers (Down x) down ready kept reached bytes e =
       let found = down.found bytes e in
-      lies_so c i x down bytes found.0 found.1.0 found.1.1
+      lies_so c i callers x down reached bytes found.0 found.1.0 found.1.1
 
   -- ---- what the location database's disk stands for
 
@@ -152,6 +161,7 @@ module _ {D : Type 0} (seen : D → Option (List ℕ)) (may_leave : D → List �
     loc_seat_stands c (length w.history) w.database cell.loc (safe.database going) loc_kept,
     λ n l found bytes e.
         let at = seat_of 1 w.servers kept n l found in
+        let host = cell.hosts n at.seat at.found in
         subst (λ (disk : D). seen disk ≡ Some bytes → StandsFor c n disk bytes) (sym at.is)
-        (seat_stands c n (length w.history) at.seat (cell.hosts n at.seat at.found) (safe.servers going n at.seat at.found) at.kept bytes) e,
+        (seat_stands c n (length w.history) host.0 at.seat host.1 (safe.servers going n at.seat at.found) at.kept cell.reached bytes) e,
   )

@@ -43,3 +43,4 @@ mod Ended
 mod Returned
 mod WrittenOn
 mod PlayedOn
+mod Reached

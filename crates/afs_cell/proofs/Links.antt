@@ -5,6 +5,7 @@ use Rattle.afs_num.specs.declared.messages.Message.{Message}
 use Rattle.afs_num.specs.declared.types.Node.{Node}
 use Rattle.afs_num.specs.declared.types.Node.TheVariants.{Server}
 use Rattle.afs_num.specs.declared.types.Parcel.{Parcel}
+use Rattle.afs_history.specs.declared.lines.Line.{Line}
 use Rattle.afs_history.specs.declared.lines.Line.TheVariants as lines
 use Rattle.afs_history.specs.declared.lines.Outs.{Outs}
 use Rattle.afs_history.specs.declared.scripts.Event.TheVariants as events
@@ -13,11 +14,15 @@ use Rattle.afs_rows.specs.Runs.{back_timed, given_at, given_to, gives, has_host,
 use Rattle.afs_rows.specs.Hosts.{comes_up, fails_early, fails_midway, gives_out, is_full, steady, at_rest, in_boot, in_step, leaves_after, Fall, Luck, MayBegin, Outcome, crashed, restarted, served, set_to_fail, set_to_stop, Fails, GivesOut, HostStep}
 use Rattle.afs_schedule.specs.Schedules.{at_server, left_by, IsInput, IsLuck, Turn}
 use Rattle.afs_rows.specs.Hosts as host
-use Rattle.afs_rows.specs.ServerHosts.{timed_out, woken, server_kind}
-use Rattle.afs_rows.specs.States.{ServerState}
+use Rattle.afs_rows.specs.ServerHosts.{timed_out, woken, server_kind, ServerHost}
+use Rattle.afs_rows.specs.States.{Seat, ServerState}
+use Rattle.afs_volrows.specs.RestingHosts.{begun_there, callers_after, ended_there, resting_host, resting_step}
+use Rattle.afs_volrows.specs.VolStates.{NodeState}
+use Rattle.afs_volrows.proofs.HostPlain.{hosts_plain}
+use Rattle.afs_volrows.proofs.HostResting.{hosts_rest}
 use Rattle.afs_host.proofs.Placed.{moved_crashed, moved_restarted, moved_served, moved_set_to_fail, moved_set_to_stop, moved_timed_out, moved_woken}
 use Rattle.afs_clients.specs.Happening.{IsGiven}
-use Rattle.afs_cell.specs.SeatSteps.{HasHeard, HasStep, IsFallen, IsSeatStep, IsVoidServer}
+use Rattle.afs_cell.specs.SeatSteps.{resting_seat, HasHeard, HasStep, HasTimedOut, IsSeatStep, IsStepOf, IsVoidServer}
 use Rattle.afs_cell.specs.Worlds.{falls, IsCell, WorldState}
 use Rattle.afs_host.specs.Seated.{seat_disk, ServerSeat}
 use Rattle.afs_clients.specs.declared.happening.ServerInput.{ServerInput}
@@ -26,6 +31,7 @@ use Rattle.afs_cell.proofs.Counts.{Blames}
 use Rattle.afs_cell.proofs.Parcels.{places_agree, AtPlace, Carries}
 use Rattle.afs_clients.proofs.Numbers.{host_there}
 use Rattle.afs_cell.proofs.HostSteps.{ServerLinked}
+use Rattle.afs_cell.proofs.Reached.{clients_there, of_client, open_there}
 
 -- ---- the same words of two crates
 
@@ -72,20 +78,31 @@ module _ {D : Type 0} (seen : D → Option (List ℕ)) (may_leave : D → List �
   luck_blames steady place was now h = inl refl
   luck_blames (gives_out call) place was now h = inr (refl, h tt)
 
+  -- what the node stands for behind a step whose volume server rests
+  rested : (i : ℕ) (now : ServerSeat D) (front : List Line) (outs : Outs) (callers : List Seat) (x : HostStep NodeState) (s : HostStep ServerState) → x ≡ resting_step callers s
+      → IsSeatStep seen may_leave limit (Server i) now front outs x → IsStepOf (resting_seat seen may_leave limit (Server i)) now front outs s
+  rested i now front outs callers x s is good =
+      let h = subst (λ (y : HostStep NodeState). IsSeatStep seen may_leave limit (Server i) now front outs y) is good in
+      record { host = (callers, h.host); lines = h.lines; sent = h.sent }
+
   -- a message
   pub link_message : (t : Turn) (w : WorldState D) (i place : ℕ) (p : Parcel) (was now : ServerSeat D) (outs : Outs) → IsCell seen may_leave limit w t.cell → at_place w.servers i ≡ Some was → at_place w.wire place ≡ Some p → p.head.to ≡ Server i
-      → HasHeard (Server i) t.cell.clock place p.bytes (t.cell.hosts i) (IsSeatStep seen may_leave limit (Server i) now (lines.Given place ∷ []) outs) (Rose (faults (seat_disk was)) (faults (seat_disk now)))
+      → (callers : List Seat) → HasHeard (Server i) t.cell.clock place p.bytes (resting_host callers (t.cell.hosts i)) (IsSeatStep seen may_leave limit (Server i) now (lines.Given place ∷ []) outs) (Rose (faults (seat_disk was)) (faults (seat_disk now)))
       → ServerLinked seen may_leave faults limit (IsInput t (events.Deliver place)) t i was now (lines.Given place ∷ []) outs
-  link_message t w i place p was now outs cell here at to heard =
+  link_message t w i place p was now outs cell here at to callers heard =
       let f = message_found w t.cell place p cell at in
       let s = heard.1 f.message f.carries.bytes in
+      let mine = sym (ap (λ h. h.to) f.carries.head) ∙ to in
       record {
         input = gives place s.luck;
         is_one = (s.luck, (refl, luck_is s.luck s.is_luck));
         step = served (server_kind (Server i)) (t.cell.hosts i) t.cell.clock place s.luck f.message;
-        moves = moved_served t.cell i place s.luck f.message f.at (sym (ap (λ h. h.to) f.carries.head) ∙ to) (host_there w.servers i was t.cell here cell.host_count) heard.0;
+        moves = moved_served t.cell i place s.luck f.message f.at mine (host_there w.servers i was t.cell here cell.host_count) heard.0;
         left = refl;
-        good = s.is;
+        good =
+            rested i now (lines.Given place ∷ []) outs callers _ _
+            (hosts_rest.served_it (Server i) callers (t.cell.hosts i) t.cell.clock place s.luck f.message ((clients_there t.cell cell.reached).given i place f.message f.at mine)
+            ∙ ap (resting_step callers) (hosts_plain.served_it (Server i) (t.cell.hosts i) t.cell.clock place s.luck f.message (open_there t.cell cell.reached i))) s.is;
         blames = luck_blames s.luck place (seat_disk was) (seat_disk now) s.blame;
       }
 
@@ -95,38 +112,44 @@ module _ {D : Type 0} (seen : D → Option (List ℕ)) (may_leave : D → List �
   outcome_blames i after fails_midway was now h = inr (refl, h tt)
   outcome_blames i after is_full was now h = inl refl
 
-  -- what it is given else
-  pub link_input : (t : Turn) (w : WorldState D) (i : ℕ) (input : ServerInput) (was now : ServerSeat D) (outs : Outs) → IsCell seen may_leave limit w t.cell → at_place w.servers i ≡ Some was
-      → HasStep (Server i) t.cell.clock t.cell.count input (t.cell.hosts i) (IsSeatStep seen may_leave limit (Server i) now [] outs) (Rose (faults (seat_disk was)) (faults (seat_disk now)))
-      → ServerLinked seen may_leave faults limit (IsGiven i input t) t i was now [] outs
-  link_input t w i (server.TimeOut callee) was now outs cell here h = record {
+  -- one of its calls is timed out: its volume server has none
+  link_late : (t : Turn) (w : WorldState D) (i : ℕ) (callee : Node) (was now : ServerSeat D) (outs : Outs) → IsCell seen may_leave limit w t.cell → at_place w.servers i ≡ Some was → (callers : List Seat) → (t.cell.hosts i).down ≡ None
+      → HasTimedOut (Server i) t.cell.clock callee (resting_host callers (t.cell.hosts i)) (IsSeatStep seen may_leave limit (Server i) now [] outs) → ServerLinked seen may_leave faults limit (IsGiven i (server.TimeOut callee) t) t i was now [] outs
+  link_late t w i callee was now outs cell here callers up (inl (b, (called, good))) = record {
     input = server_waits i callee;
     is_one = refl;
-    step = timed_out (Server i) (t.cell.hosts i) t.cell.clock callee h.1.0;
-    moves = moved_timed_out t.cell i callee h.1.0 h.1.1.0 (host_there w.servers i was t.cell here cell.host_count) h.0;
+    step = timed_out (Server i) (t.cell.hosts i) t.cell.clock callee b;
+    moves = moved_timed_out t.cell i callee b called (host_there w.servers i was t.cell here cell.host_count) up;
     left = refl;
-    good = h.1.1.1;
+    good = rested i now [] outs callers _ _ (hosts_rest.timed (Server i) callers (t.cell.hosts i) t.cell.clock callee b) good;
     blames = inl refl;
   }
-  link_input t w i server.Wake was now outs cell here h = record {
+  link_late t w i callee was now outs cell here callers up (inr (c, (called, good))) = absurd cc
+
+  -- what it is given else
+  pub link_input : (t : Turn) (w : WorldState D) (i : ℕ) (input : ServerInput) (was now : ServerSeat D) (outs : Outs) → IsCell seen may_leave limit w t.cell → at_place w.servers i ≡ Some was
+      → (callers : List Seat) → HasStep (Server i) t.cell.clock t.cell.count input (resting_host callers (t.cell.hosts i)) (IsSeatStep seen may_leave limit (Server i) now [] outs) (Rose (faults (seat_disk was)) (faults (seat_disk now)))
+      → ServerLinked seen may_leave faults limit (IsGiven i input t) t i was now [] outs
+  link_input t w i (server.TimeOut callee) was now outs cell here callers h = link_late t w i callee was now outs cell here callers h.0 h.1
+  link_input t w i server.Wake was now outs cell here callers h = record {
     input = wakes i;
     is_one = refl;
     step = woken (Server i) (t.cell.hosts i) t.cell.clock;
     moves = moved_woken t.cell i (host_there w.servers i was t.cell here cell.host_count) h.0;
     left = refl;
-    good = h.1;
+    good = rested i now [] outs callers _ _ (hosts_rest.passed (Server i) callers (t.cell.hosts i) t.cell.clock) h.1;
     blames = inl refl;
   }
-  link_input t w i (server.Crash pick) was now outs cell here h = record {
+  link_input t w i (server.Crash pick) was now outs cell here callers h = record {
     input = stops i;
     is_one = is_numbered t.cell i (stops i) (host_there w.servers i was t.cell here cell.host_count);
     step = crashed (server_kind (Server i)) (t.cell.hosts i);
     moves = moved_crashed t.cell i (host_there w.servers i was t.cell here cell.host_count) h.0;
     left = refl;
-    good = h.1;
+    good = rested i now [] outs callers _ _ refl h.1;
     blames = inl refl;
   }
-  link_input t w i server.Restart was now outs cell here h = record {
+  link_input t w i server.Restart was now outs cell here callers h = record {
     input = starts_again i h.1.1.after h.1.1.outcome;
     is_one = (
       h.1.1.after,
@@ -138,25 +161,29 @@ module _ {D : Type 0} (seen : D → Option (List ℕ)) (may_leave : D → List �
     step = restarted (server_kind (Server i)) (t.cell.hosts i) t.cell.clock t.cell.count h.1.1.after h.1.1.outcome h.0;
     moves = moved_restarted t.cell i h.1.1.after h.1.1.outcome h.0 (host_there w.servers i was t.cell here cell.host_count) h.1.0;
     left = refl;
-    good = h.1.1.is;
+    good =
+        (let later = callers_after callers (begun_there (Server i) (t.cell.hosts i) h.1.1.after h.0) (ended_there (Server i) (t.cell.hosts i) h.1.1.after h.0 h.1.1.outcome) in
+        rested i now [] outs later _ _
+        (hosts_rest.starts_again (Server i) callers (t.cell.hosts i) t.cell.clock t.cell.count h.1.1.after h.1.1.outcome h.0 (of_client t.cell i h.0 cell.reached h.1.0)
+        ∙ ap (resting_step later) (hosts_plain.starts_again (Server i) (t.cell.hosts i) t.cell.clock t.cell.count h.1.1.after h.1.1.outcome h.0 (open_there t.cell cell.reached i))) h.1.1.is);
     blames = outcome_blames i h.1.1.after h.1.1.outcome (seat_disk was) (seat_disk now) h.1.1.blame;
   }
-  link_input t w i (server.Stop calls pick) was now outs cell here h = record {
+  link_input t w i (server.Stop calls pick) was now outs cell here callers h = record {
     input = sets_stop i calls pick;
     is_one = is_numbered t.cell i (sets_stop i calls pick) (host_there w.servers i was t.cell here cell.host_count);
     step = set_to_stop (server_kind (Server i)) (t.cell.hosts i) calls pick;
     moves = moved_set_to_stop t.cell i calls pick (host_there w.servers i was t.cell here cell.host_count) h.0;
     left = refl;
-    good = h.1;
+    good = rested i now [] outs callers _ _ refl h.1;
     blames = inl refl;
   }
-  link_input t w i (server.Fail call) was now outs cell here h = record {
+  link_input t w i (server.Fail call) was now outs cell here callers h = record {
     input = sets_fail i call;
     is_one = is_numbered t.cell i (sets_fail i call) (host_there w.servers i was t.cell here cell.host_count);
     step = set_to_fail (server_kind (Server i)) (t.cell.hosts i) call;
     moves = moved_set_to_fail t.cell i call (host_there w.servers i was t.cell here cell.host_count) h.0;
     left = refl;
-    good = h.1;
+    good = rested i now [] outs callers _ _ refl h.1;
     blames = inl refl;
   }
 
@@ -170,12 +197,32 @@ gone : (c : Cell) (i : ℕ) (m : Moved) → (has_host c i ≡ false) ⊎ (m ≡ 
 gone c i m (inl e) = ap (λ (b : Bool). cond b m (voided c)) e
 gone c i m (inr e) = ap (λ (n : Moved). cond (has_host c i) n (voided c)) e ∙ cond_same (has_host c i) (voided c)
 
+-- the host of the file server is down
+abbrev pub IsFileFallen : ServerHost → Type 0
+IsFileFallen h = (fall : Fall) × (h.down ≡ Some fall)
+
+-- nothing comes of this at it
+abbrev pub IsVoidFile : ServerInput → ServerHost → Type 0
+IsVoidFile (server.TimeOut callee) h = IsFileFallen h ⊎ (h.state.backs.calls callee ≡ None)
+IsVoidFile server.Restart h = h.down ≡ None
+IsVoidFile input h = IsFileFallen h
+
+-- as nothing does at a node over it
+pub void_file : (input : ServerInput) (callers : List Seat) (h : ServerHost) → IsVoidServer input (resting_host callers h) → IsVoidFile input h
+void_file (server.TimeOut callee) callers h (inl fallen) = inl fallen
+void_file (server.TimeOut callee) callers h (inr none) = inr none.0
+void_file server.Wake callers h void = void
+void_file (server.Crash pick) callers h void = void
+void_file server.Restart callers h void = void
+void_file (server.Stop calls pick) callers h void = void
+void_file (server.Fail call) callers h void = void
+
 -- no server of this number, or it is down
-either : (c : Cell) (i : ℕ) (f : Option Fall → Moved) → ((fall : Fall) → f (Some fall) ≡ voided c) → (has_host c i ≡ false) ⊎ IsFallen (c.hosts i) → (has_host c i ≡ false) ⊎ (f (c.hosts i).down ≡ voided c)
+either : (c : Cell) (i : ℕ) (f : Option Fall → Moved) → ((fall : Fall) → f (Some fall) ≡ voided c) → (has_host c i ≡ false) ⊎ IsFileFallen (c.hosts i) → (has_host c i ≡ false) ⊎ (f (c.hosts i).down ≡ voided c)
 either c i f void (inl e) = inl e
 either c i f void (inr fallen) = inr (ap f fallen.1 ∙ void fallen.0)
 
-pub void_message : (c : Cell) (i place : ℕ) (m : Message) → message_at c.sent place ≡ Some m → m.head.to ≡ Server i → (has_host c i ≡ false) ⊎ IsFallen (c.hosts i) → moved c (gives place steady) ≡ voided c
+pub void_message : (c : Cell) (i place : ℕ) (m : Message) → message_at c.sent place ≡ Some m → m.head.to ≡ Server i → (has_host c i ≡ false) ⊎ IsFileFallen (c.hosts i) → moved c (gives place steady) ≡ voided c
 unfolding moved
 void_message c i place m at to none =
     ap (given_at c place steady) at ∙ (ap (given_to c place steady m) to
@@ -185,7 +232,7 @@ timed_none : (c : Cell) (i : ℕ) (n : Node) (down : Option Fall) → (c.hosts i
 timed_none c i n None e = ap (back_timed c i n) e
 timed_none c i n (Some fall) e = refl
 
-timed_void : (c : Cell) (i : ℕ) (n : Node) → (has_host c i ≡ false) ⊎ IsVoidServer (server.TimeOut n) (c.hosts i) → (has_host c i ≡ false) ⊎ (server_timed c i n (c.hosts i).down ≡ voided c)
+timed_void : (c : Cell) (i : ℕ) (n : Node) → (has_host c i ≡ false) ⊎ IsVoidFile (server.TimeOut n) (c.hosts i) → (has_host c i ≡ false) ⊎ (server_timed c i n (c.hosts i).down ≡ voided c)
 timed_void c i n (inl e) = inl e
 timed_void c i n (inr (inl fallen)) = inr (ap (server_timed c i n) fallen.1)
 timed_void c i n (inr (inr e)) = inr (timed_none c i n (c.hosts i).down e)
@@ -200,10 +247,10 @@ unfolding moved
 void_restart c zero after none = refl
 void_restart c (suc i) after none = gone c (suc i) (server_restarted c (suc i) after comes_up (c.hosts (suc i)).down) (up_void c (suc i) after comes_up none)
 
-void_set : (c : Cell) (i : ℕ) (step : HostStep ServerState) → (has_host c i ≡ false) ⊎ IsFallen (c.hosts i) → if_host c i (server_armed c i step (c.hosts i).down) ≡ voided c
+void_set : (c : Cell) (i : ℕ) (step : HostStep ServerState) → (has_host c i ≡ false) ⊎ IsFileFallen (c.hosts i) → if_host c i (server_armed c i step (c.hosts i).down) ≡ voided c
 void_set c i step none = gone c i (server_armed c i step (c.hosts i).down) (either c i (server_armed c i step) (λ fall. refl) none)
 
-void_input : (c : Cell) (i : ℕ) (input : ServerInput) → (has_host c i ≡ false) ⊎ IsVoidServer input (c.hosts i) → moved c (steady_input i input) ≡ voided c
+void_input : (c : Cell) (i : ℕ) (input : ServerInput) → (has_host c i ≡ false) ⊎ IsVoidFile input (c.hosts i) → moved c (steady_input i input) ≡ voided c
 unfolding moved
 void_input c i (server.TimeOut callee) none = gone c i (server_timed c i callee (c.hosts i).down) (timed_void c i callee none)
 void_input c i server.Wake none = gone c i (server_wakes c i (c.hosts i).down) (either c i (server_wakes c i) (λ fall. refl) none)
@@ -230,7 +277,7 @@ pub record Voided (is : Input → Type 0) (t : Turn) : Type 0 where
   pub left : left_by input t.left ≡ t.left
   pub harmless : falls input ≡ 0
 
-pub link_void_message : (t : Turn) (i place : ℕ) (m : Message) → message_at t.cell.sent place ≡ Some m → m.head.to ≡ Server i → (has_host t.cell i ≡ false) ⊎ IsFallen (t.cell.hosts i) → Voided (IsInput t (events.Deliver place)) t
+pub link_void_message : (t : Turn) (i place : ℕ) (m : Message) → message_at t.cell.sent place ≡ Some m → m.head.to ≡ Server i → (has_host t.cell i ≡ false) ⊎ IsFileFallen (t.cell.hosts i) → Voided (IsInput t (events.Deliver place)) t
 link_void_message t i place m at to none = record { input = gives place steady; is_one = (steady, (refl, tt)); moves = void_message t.cell i place m at to none; left = refl; harmless = refl }
 
 numbered_void : (t : Turn) (i : ℕ) (x : Input) (is : Input → Type 0) → is (at_server i x) → moved t.cell (at_server i x) ≡ voided t.cell → left_by x t.left ≡ t.left → falls x ≡ 0 → Voided is t
@@ -242,7 +289,7 @@ numbered_void t i x is one moves left harmless = record {
   harmless = at_any (λ (y : Input). falls y ≡ 0) i x refl harmless;
 }
 
-pub link_void : (t : Turn) (i : ℕ) (input : ServerInput) → (has_host t.cell i ≡ false) ⊎ IsVoidServer input (t.cell.hosts i) → Voided (IsGiven i input t) t
+pub link_void : (t : Turn) (i : ℕ) (input : ServerInput) → (has_host t.cell i ≡ false) ⊎ IsVoidFile input (t.cell.hosts i) → Voided (IsGiven i input t) t
 link_void t i (server.TimeOut callee) none = record { input = server_waits i callee; is_one = refl; moves = void_input t.cell i (server.TimeOut callee) none; left = refl; harmless = refl }
 link_void t i server.Wake none = record { input = wakes i; is_one = refl; moves = void_input t.cell i server.Wake none; left = refl; harmless = refl }
 link_void t i (server.Crash pick) none = numbered_void t i (stops i) (λ (y : Input). IsGiven i (server.Crash pick) t y) refl (void_input t.cell i (server.Crash pick) none) refl refl

@@ -2,10 +2,10 @@
 use Rattle.std.proofs.Common.{refl, ap, sym, subst, ◌∙◌, ◌≡◌, inl, inr, ℕ, List, [], Option, Some, None, Result, Ok, Err}
 use Rattle.afs_num.specs.Places.{at_place}
 use Rattle.afs_num.specs.declared.types.Node.TheVariants.{Server}
-use Rattle.afs_rows.specs.ServerHosts.{ServerHost}
+use Rattle.afs_volrows.specs.NodeHosts.{NodeHost}
+use Rattle.afs_node.specs.Seen.{node_seen}
 use Rattle.afs_host.specs.Seats.{ServerRunning}
 use Rattle.afs_host.specs.declared.seats.Seat.TheVariants.{Up}
-use Rattle.afs_server.specs.Handling.{server_seen}
 use Rattle.afs_cell.specs.Happening.{Settles}
 use Rattle.afs_cell.specs.SeatSteps.{HasStep, IsVoidServer, ServersHappened}
 use Rattle.afs_cell.specs.SeatPicks.{OneLeavesPick}
@@ -27,7 +27,7 @@ module _ {D : Type 0} (seen : D → Option (List ℕ)) (left_by : D → ℕ → 
         → ServersHappened seen may_leave faults limit i [] (IsVoidServer (server.Crash pick)) (HasStep (Server i) clock count (server.Crash pick)) old new happened.Nothing → ⊥
     up_not_void i pick r old new clock count at (inl none) = none_some (Up r) (sym none.none ∙ at)
     up_not_void i pick r old new clock count at (inr one) =
-        let h : ServerHost = record { state = server_seen r.memory r.store; armed = r.armed; down = None } in
+        let h : NodeHost = record { state = node_seen r.memory r.store; armed = r.armed; down = None } in
         let same : one.was ≡ Up r = some_is one.was (Up r) (sym one.found ∙ at) in
         let void = one.takes.happens.1 h (subst (λ (s : ServerSeat D). IsHost seen may_leave limit (Server i) s h) (sym same) (record { state = refl; down = refl; armed = refl })) in
         none_some void.0 void.1

@@ -11,7 +11,8 @@ use Rattle.afs_disk.specs.Banks as banks
 use Rattle.afs_disk.specs.declared.bank.LendFault.{LendFault}
 use Rattle.afs_disk.specs.declared.disks.Lent.{Lent}
 use Rattle.afs_journal.specs.Records.{whole_records}
-use Rattle.afs_records.specs.Durable.{fold_all, Durable}
+use Rattle.afs_records.specs.Durable.{Durable}
+use Rattle.afs_fold.specs.Fold.{fold_all}
 use Rattle.afs_records.specs.LocDurable.{LocDurable}
 use Rattle.afs_volstore.specs.Stands.{Stands}
 use Rattle.afs_records.proofs.Forms.{some_is}

@@ -114,7 +114,7 @@ module _ {D : Type 0} (seen : D → Option (List ℕ)) (may_leave : D → List �
         subst (λ (left : Node → List Task). IsAt seen may_leave limit (after_nothing w) (moved t.cell v.input).cell left) (sym v.left)
         (subst (λ (m : Moved). IsAt seen may_leave limit (after_nothing w) m.cell t.left) (sym v.moves)
         (record {
-          cell = record { loc = at.cell.loc; host_count = at.cell.host_count; hosts = at.cell.hosts; count = at.cell.count; clients = at.cell.clients; sent = at.cell.sent; clock = at.cell.clock; handed = at.cell.handed };
+          cell = record { loc = at.cell.loc; host_count = at.cell.host_count; hosts = at.cell.hosts; count = at.cell.count; clients = at.cell.clients; sent = at.cell.sent; clock = at.cell.clock; handed = at.cell.handed; reached = at.cell.reached };
           acts = at.acts;
         }));
     counts = counts_still faults v.input (moved t.cell v.input).entry w v.harmless;

@@ -12,6 +12,7 @@ use Rattle.afs_locstore.specs.LocFold.{loc_fold}
 use Rattle.afs_store.specs.Stores as kept
 use Rattle.afs_host.specs.LocSeated.{DatabaseSeat}
 use Rattle.afs_host.specs.LocSeats.{loc_disk_of, DatabaseRunning}
+use Rattle.afs_volrows.specs.RestingHosts.{resting_host}
 use Rattle.afs_host.specs.Seats.{disk_of, IsUp, ServerRunning}
 use Rattle.afs_host.specs.declared.seats.Seat.TheVariants.{Down, Up}
 use Rattle.afs_cell.specs.Ends.{IsLeftAt}
@@ -25,7 +26,8 @@ use Rattle.afs_cell.specs.declared.faults.SetupFault.TheVariants as setup
 -- A server's store at set-up, over the disk that was lent for it.
 pub record IsFirstStore {D : Type 0} (seen : D → Option (List ℕ)) (may_leave : D → List ℕ → Type 0) (faults limit : D → ℕ) (s : Script) (i : ℕ) (old : D) (t : Store (Fused D)) : Type 0 where
   pub durable_is : t.durable ≡ durable_of (first_lasting s.capacity (first_stored (volumes_at i s.volumes)))
-  pub rest : t ≡ record { durable = t.durable; disk = t.disk; node = Server i; prepared = None; closed = false; count = 1; drawn = 0 }
+  pub rest : t ≡ record { durable = t.durable; disk = t.disk; node = Server i; prepared = None; closed = false; count = 1; drawn = 0; holds = t.holds }
+  pub free : t.holds.table ≡ []
   pub unset : (t.disk.stop ≡ None) × (t.disk.fail ≡ None)
   pub few : t.disk.calls ≤ 12
   pub same_limit : limit t.disk.disk ≡ limit old
@@ -35,7 +37,7 @@ pub record IsFirstStore {D : Type 0} (seen : D → Option (List ℕ)) (may_leave
 -- A server at set-up, over that disk.
 pub record IsFirstServer {D : Type 0} (seen : D → Option (List ℕ)) (may_leave : D → List ℕ → Type 0) (faults limit : D → ℕ) (s : Script) (i : ℕ) (old : D) (r : ServerRunning D) : Type 0 where
   pub ready : IsReady (Server i) 0 r
-  pub host : IsUp r (first_host s i)
+  pub host : IsUp r (resting_host [] (first_host s i))
   pub same_limit : limit (disk_of r) ≡ limit old
   pub quiet : faults (disk_of r) ≡ faults old
   pub left : IsLeftAt seen may_leave s i old (disk_of r)

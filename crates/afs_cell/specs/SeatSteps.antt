@@ -10,8 +10,11 @@ use Rattle.afs_history.specs.declared.lines.Outs.{Outs}
 use Rattle.afs_disk.specs.Disk.{Rose}
 use Rattle.afs_model.specs.Messages.{messages_spelled, parcels_read, received}
 use Rattle.afs_rows.specs.Hosts.{Fall, Host, crashed, set_to_fail, set_to_stop, HostStep}
-use Rattle.afs_rows.specs.ServerHosts.{ServerHost, timed_out, woken, server_kind}
-use Rattle.afs_rows.specs.States.{BackCall, ServerState}
+use Rattle.afs_rows.specs.ServerHosts.{ServerHost}
+use Rattle.afs_rows.specs.States.{BackCall, Seat, ServerState}
+use Rattle.afs_volrows.specs.NodeHosts.{node_kind, node_timed_out, node_woken, piece_timed_out, NodeHost}
+use Rattle.afs_volrows.specs.RestingHosts.{resting_host}
+use Rattle.afs_volrows.specs.VolStates.{NodeState, PieceCall}
 use Rattle.afs_server.specs.Seen.{CanDraw}
 use Rattle.afs_host.specs.Seats.{CanRun}
 use Rattle.afs_host.specs.Serving.{HasServed}
@@ -70,37 +73,50 @@ pub record Takes {D U S : Type 0} (kind : SeatKind D U S) (seen : D → Option (
 -- ---- a server
 
 -- the seat of the server that is this node
-abbrev pub server_seat : {D : Type 0} → (D → Option (List ℕ)) → (D → List ℕ → Type 0) → (D → ℕ) → Node → SeatKind D (ServerSeat D) ServerState
+abbrev pub server_seat : {D : Type 0} → (D → Option (List ℕ)) → (D → List ℕ → Type 0) → (D → ℕ) → Node → SeatKind D (ServerSeat D) NodeState
 server_seat {D} seen may_leave limit me = record { disk = λ s. seat_disk s; is = λ s h. IsHost seen may_leave limit me s h; ready = λ n s. IsReadySeat me n s }
 
+-- In a cell where clients alone call servers it stands for the host of a file server: its volume server rests, with some callers.
+abbrev pub IsRestingHost : {D : Type 0} → (D → Option (List ℕ)) → (D → List ℕ → Type 0) → (D → ℕ) → Node → ServerSeat D → ServerHost → Type 0
+IsRestingHost {D} seen may_leave limit me s h = (callers : List Seat) × IsHost seen may_leave limit me s (resting_host callers h)
+
+abbrev pub resting_seat : {D : Type 0} → (D → Option (List ℕ)) → (D → List ℕ → Type 0) → (D → ℕ) → Node → SeatKind D (ServerSeat D) ServerState
+resting_seat {D} seen may_leave limit me = record { disk = λ s. seat_disk s; is = λ s h. IsRestingHost seen may_leave limit me s h; ready = λ n s. IsReadySeat me n s }
+
 -- the host is down
-abbrev pub IsFallen : ServerHost → Type 0
+abbrev pub IsFallen : NodeHost → Type 0
 IsFallen h = (fall : Fall) × (h.down ≡ Some fall)
 
 -- nothing comes of this at the host
-abbrev pub IsVoidServer : ServerInput → ServerHost → Type 0
-IsVoidServer (server.TimeOut callee) h = IsFallen h ⊎ (h.state.backs.calls callee ≡ None)
+abbrev pub IsVoidServer : ServerInput → NodeHost → Type 0
+IsVoidServer (server.TimeOut callee) h = IsFallen h ⊎ ((h.state.file.backs.calls callee ≡ None) × (h.state.vol.calls callee ≡ None))
 IsVoidServer server.Restart h = h.down ≡ None
 IsVoidServer input h = IsFallen h
 
+-- its file server's call to this client is timed out, or its volume server's to this server
+abbrev pub HasTimedOut : Node → ℕ → Node → NodeHost → (HostStep NodeState → Type 0) → Type 0
+HasTimedOut me clock callee h Is =
+    ((b : BackCall) × ((h.state.file.backs.calls callee ≡ Some b) × Is (node_timed_out me h clock callee b)))
+    ⊎ ((c : PieceCall) × ((h.state.vol.calls callee ≡ Some c) × Is (piece_timed_out me h clock callee c)))
+
 -- What it makes of this, at this time in a cell of so many clients, has a step that `Is` tells of. Where its disk fails by itself, the
 -- disk's count rose.
-abbrev pub HasStep : Node → ℕ → ℕ → ServerInput → ServerHost → (HostStep ServerState → Type 0) → Type 0 → Type 0
-HasStep me clock count (server.TimeOut callee) h Is rose = (h.down ≡ None) × ((b : BackCall) × ((h.state.backs.calls callee ≡ Some b) × Is (timed_out me h clock callee b)))
-HasStep me clock count server.Wake h Is rose = (h.down ≡ None) × Is (woken me h clock)
-HasStep me clock count (server.Crash pick) h Is rose = (h.down ≡ None) × Is (crashed (server_kind me) h)
-HasStep me clock count server.Restart h Is rose = (fall : Fall) × ((h.down ≡ Some fall) × HasStarted (server_kind me) h clock count fall Is rose)
-HasStep me clock count (server.Stop calls pick) h Is rose = (h.down ≡ None) × Is (set_to_stop (server_kind me) h calls pick)
-HasStep me clock count (server.Fail call) h Is rose = (h.down ≡ None) × Is (set_to_fail (server_kind me) h call)
+abbrev pub HasStep : Node → ℕ → ℕ → ServerInput → NodeHost → (HostStep NodeState → Type 0) → Type 0 → Type 0
+HasStep me clock count (server.TimeOut callee) h Is rose = (h.down ≡ None) × HasTimedOut me clock callee h Is
+HasStep me clock count server.Wake h Is rose = (h.down ≡ None) × Is (node_woken me h clock)
+HasStep me clock count (server.Crash pick) h Is rose = (h.down ≡ None) × Is (crashed (node_kind me) h)
+HasStep me clock count server.Restart h Is rose = (fall : Fall) × ((h.down ≡ Some fall) × HasStarted (node_kind me) h clock count fall Is rose)
+HasStep me clock count (server.Stop calls pick) h Is rose = (h.down ≡ None) × Is (set_to_stop (node_kind me) h calls pick)
+HasStep me clock count (server.Fail call) h Is rose = (h.down ≡ None) × Is (set_to_fail (node_kind me) h call)
 
 -- the message of a place, by its bytes
-abbrev pub HasHeard : Node → ℕ → ℕ → List ℕ → ServerHost → (HostStep ServerState → Type 0) → Type 0 → Type 0
-HasHeard me clock place bytes h Is rose = (h.down ≡ None) × ((m : Message) → received bytes ≡ Whole m → HasServed (server_kind me) h clock place m Is rose)
+abbrev pub HasHeard : Node → ℕ → ℕ → List ℕ → NodeHost → (HostStep NodeState → Type 0) → Type 0 → Type 0
+HasHeard me clock place bytes h Is rose = (h.down ≡ None) × ((m : Message) → received bytes ≡ Whole m → HasServed (node_kind me) h clock place m Is rose)
 
-abbrev pub IsSeatStep : {D : Type 0} → (D → Option (List ℕ)) → (D → List ℕ → Type 0) → (D → ℕ) → Node → ServerSeat D → List Line → Outs → HostStep ServerState → Type 0
+abbrev pub IsSeatStep : {D : Type 0} → (D → Option (List ℕ)) → (D → List ℕ → Type 0) → (D → ℕ) → Node → ServerSeat D → List Line → Outs → HostStep NodeState → Type 0
 IsSeatStep {D} seen may_leave limit me new front outs = IsStepOf (server_seat seen may_leave limit me) new front outs
 
-abbrev pub SeatHappens : {D : Type 0} → (D → Option (List ℕ)) → (D → List ℕ → Type 0) → (D → ℕ) → (D → ℕ) → Node → List Line → (ServerHost → Type 0) → (ServerHost → (HostStep ServerState → Type 0) → Type 0 → Type 0) →
+abbrev pub SeatHappens : {D : Type 0} → (D → Option (List ℕ)) → (D → List ℕ → Type 0) → (D → ℕ) → (D → ℕ) → Node → List Line → (NodeHost → Type 0) → (NodeHost → (HostStep NodeState → Type 0) → Type 0 → Type 0) →
     ServerSeat D → ServerSeat D → Happened → Type 0
 SeatHappens {D} seen may_leave faults limit me front IsVoid Has old new what = Happens (server_seat seen may_leave limit me) seen faults front IsVoid Has old new what
 
@@ -110,9 +126,15 @@ SeatGoes {D} me old new what = Goes (λ n s. IsReadySeat me n s) old new what
 abbrev pub SeatKeeps : {D : Type 0} → (D → Option (List ℕ)) → (D → ℕ) → (D → ℕ) → ServerSeat D → ServerSeat D → Type 0
 SeatKeeps {D} seen faults limit old new = DiskKeeps seen faults limit (seat_disk old) (seat_disk new)
 
+-- the step of a server gave this out; or memory was wanting to tell that
+abbrev pub GaveOut : Outs → Happened → Type 0
+GaveOut outs (happened.Step given) = given ≡ outs
+GaveOut outs happened.Lost = Unit {0}
+GaveOut outs other = ⊥
+
 -- a server can be given something
 abbrev pub CanStep : {D : Type 0} → ServerSeat D → Type 0
-CanStep {D} (Up r) = CanRun r × (CanDraw r.memory r.store.drawn × (r.store.disk.calls < 2 ^ 63))
+CanStep {D} (Up r) = CanRun r × (CanDraw r.memory.file r.store.drawn × (r.store.disk.calls < 2 ^ 63))
 CanStep {D} (Down s) = Unit {0}
 
 -- it is the server that is this node
@@ -121,14 +143,14 @@ IsSeatOf {D} me (Up r) = r.store.node ≡ me
 IsSeatOf {D} me (Down s) = Unit {0}
 
 -- one server took it
-pub record OneHappened {D : Type 0} (seen : D → Option (List ℕ)) (may_leave : D → List ℕ → Type 0) (faults limit : D → ℕ) (i : ℕ) (front : List Line) (IsVoid : ServerHost → Type 0) (Has : ServerHost → (HostStep ServerState → Type 0) → Type 0 → Type 0) (old new : List (ServerSeat D)) (what : Happened) : Type 0 where
+pub record OneHappened {D : Type 0} (seen : D → Option (List ℕ)) (may_leave : D → List ℕ → Type 0) (faults limit : D → ℕ) (i : ℕ) (front : List Line) (IsVoid : NodeHost → Type 0) (Has : NodeHost → (HostStep NodeState → Type 0) → Type 0 → Type 0) (old new : List (ServerSeat D)) (what : Happened) : Type 0 where
   pub was : ServerSeat D
   pub now : ServerSeat D
   pub found : at_place old i ≡ Some was
   pub put : new ≡ put_place i now old
   pub takes : Takes (server_seat seen may_leave limit (Server i)) seen faults limit front IsVoid Has was now what
 
-abbrev pub ServersHappened : {D : Type 0} → (D → Option (List ℕ)) → (D → List ℕ → Type 0) → (D → ℕ) → (D → ℕ) → ℕ → List Line → (ServerHost → Type 0) → (ServerHost → (HostStep ServerState → Type 0) → Type 0 → Type 0) →
+abbrev pub ServersHappened : {D : Type 0} → (D → Option (List ℕ)) → (D → List ℕ → Type 0) → (D → ℕ) → (D → ℕ) → ℕ → List Line → (NodeHost → Type 0) → (NodeHost → (HostStep NodeState → Type 0) → Type 0 → Type 0) →
     List (ServerSeat D) → List (ServerSeat D) → Happened → Type 0
 ServersHappened {D} seen may_leave faults limit i front IsVoid Has old new what =
     NoneHappened i old new what ⊎ OneHappened seen may_leave faults limit i front IsVoid Has old new what

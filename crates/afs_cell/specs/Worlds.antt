@@ -9,10 +9,11 @@ use Rattle.afs_history.specs.declared.scripts.Script.{Script}
 use Rattle.afs_grammar.specs.CellScripts.{IsCellScript}
 use Rattle.afs_model.specs.Messages.{messages_spelled, parcels_read}
 use Rattle.afs_rows.specs.Going.{ClientState}
-use Rattle.afs_rows.specs.Runs.{gives, start, starts_again, Cell, Entry, Input, Leads, locations}
+use Rattle.afs_rows.specs.Runs.{gives, start, starts_again, Cell, Entry, Input, Leads, RunsTo, locations}
 use Rattle.afs_rows.specs.Hosts.{fails_early, fails_midway, gives_out}
 use Rattle.afs_host.specs.LocSeated.{loc_seat_disk, DatabaseSeat, IsLocHost, IsLocReadySeat}
-use Rattle.afs_host.specs.Seated.{seat_disk, IsHost, IsReadySeat, ServerSeat}
+use Rattle.afs_host.specs.Seated.{seat_disk, IsReadySeat, ServerSeat}
+use Rattle.afs_cell.specs.SeatSteps.{IsRestingHost}
 use Rattle.afs_clients.specs.Places.{Each}
 use Rattle.afs_text.specs.Telling.{told, sent_by, AreRead}
 use Rattle.afs_clients.specs.declared.clients.ClientSeat.{ClientSeat}
@@ -52,16 +53,21 @@ pub record IsClient (s : ClientSeat) (state : ClientState) (away : Bool) : Type 
   pub state_is : s.client.state ≡ state
   pub away_is : s.is_away ≡ away
 
+-- a run leads to it
+abbrev pub IsReached : Cell → Type 0
+IsReached c = (s : Script) × ((history : List Entry) × RunsTo history s c)
+
 -- the cell that the world stands for
 pub record IsCell {D : Type 0} (seen : D → Option (List ℕ)) (may_leave : D → List ℕ → Type 0) (limit : D → ℕ) (w : WorldState D) (c : Cell) : Type 0 where
   pub loc : IsLocHost seen may_leave limit w.database c.loc
   pub host_count : c.host_count ≡ length w.servers
-  pub hosts : Each (λ (i : ℕ) (s : ServerSeat D). IsHost seen may_leave limit (Server i) s (c.hosts i)) w.servers
+  pub hosts : Each (λ (i : ℕ) (s : ServerSeat D). IsRestingHost seen may_leave limit (Server i) s (c.hosts i)) w.servers
   pub count : c.count ≡ length w.clients
   pub clients : Each (λ (n : ℕ) (s : ClientSeat). IsClient s (c.clients n) (c.away n)) w.clients
   pub sent : parcels_read w.wire ≡ messages_spelled c.sent
   pub clock : c.clock ≡ w.clock
   pub handed : c.handed ≡ locations w.script
+  pub reached : IsReached c
 
 -- ---- what the next input may rely on
 

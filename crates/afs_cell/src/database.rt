@@ -17,7 +17,7 @@ use afs_history::lines::{Line, Outs};
 use afs_host::{DatabaseRunning, DatabaseSeat, Resting, Seat, Start};
 use afs_num::sequences::Sequence;
 use afs_num::types::Node;
-use afs_server::faults::NodeFault;
+use afs_server_parts::faults::NodeFault;
 use std::alloc::Global;
 
 /// The database is given a message, if it is up. `None` where its disk ended the step: then it is to fall.

@@ -17,10 +17,10 @@ use afs_disk::{Disk, Disks, Fuse, Lent};
 use afs_history::scripts::Script;
 use afs_host::{DatabaseRunning, Running, Seat, ServerRunning, ServerSeat};
 use afs_law::laws::set_ups_are_first;
+use afs_node::ServerNode;
 use afs_num::faults::StoreFault;
 use afs_num::types::{Mem, Node};
 use afs_scripts::laws::{numbers_ascend, set_ups_are_accepted};
-use afs_server::FileServer;
 use afs_setup::create;
 use afs_volstore::VolStore;
 use std::alloc::{AllocError, Global};
@@ -75,11 +75,11 @@ fn server_at_first<D: Disk>(
     ensures ok { IfOk result (IsFirstServer D.seen D.may_leave D.faults D.limit script.now server disk) }
     ensures err { IfErr result (IsRefusedAt D.seen D.may_leave D.faults D.limit script.now server disk) }
 {
-    let Ok(memory) = FileServer::new(alloc, script.clients) else {
-        return Err((SetupFault::OutOfMemory, disk));
-    };
     let store = store_at_first(alloc, script, server, disk)?;
-    Ok(Running::new(memory, store))
+    match ServerNode::new(alloc, &store, script.clients) {
+        Ok(memory) => Ok(Running::new(memory, store)),
+        Err(_) => Err((SetupFault::OutOfMemory, store.into_disk().into_inner())),
+    }
 }
 
 // ---- all servers

@@ -6,10 +6,11 @@ ghost use Rattle.afs_num.specs.declared.types.Node.{Node as N};
 ghost use Rattle.afs_history.specs.declared.lines.Line.TheVariants as lines;
 ghost use Rattle.afs_host.specs.declared.seats.Seat.TheVariants as seat;
 ghost use Rattle.afs_clients.specs.Happening.{IsDue};
-ghost use Rattle.afs_cell.specs.SeatSteps.{CanStep, HasHeard, HasStep, IsFallen, IsSeatOf, IsVoidServer, SeatGoes, SeatHappens, SeatKeeps};
+ghost use Rattle.afs_cell.specs.SeatSteps.{CanStep, GaveOut, HasHeard, HasStep, IsFallen, IsSeatOf, IsVoidServer, SeatGoes, SeatHappens, SeatKeeps};
 ghost use Rattle.afs_cell.specs.Hearing.{IsUpSeat, SeatBecomes, SeatFalls};
 ghost use Rattle.afs_cell.specs.SeatPicks.{LeavesPick};
 ghost use Rattle.afs_host.specs.Seated.{seat_disk};
+ghost use Rattle.afs_host.specs.Seats.{with_behind};
 ghost use Rattle.afs_clients.specs.declared.happening.ServerInput.TheVariants as input;
 
 use afs_clients::happening::{Happened, ServerInput};
@@ -18,9 +19,25 @@ use afs_disk::Disk;
 use afs_history::lines::{Line, Outs};
 use afs_host::{Resting, Seat, ServerRunning, ServerSeat, Start};
 use afs_num::sequences::Sequence;
-use afs_num::types::Node;
-use afs_server::faults::NodeFault;
+use afs_num::types::{Node, Parcels};
+use afs_server_parts::faults::NodeFault;
 use std::alloc::Global;
+
+/// What a server's step gave out, with the messages that go behind it. Where memory is wanting for that it can't be told.
+fn given_out(outs: Outs, behind: Parcels) -> Happened
+    ensures { GaveOut (with_behind (outs, behind)) result }
+{
+    let Outs { parcels, lines } = outs;
+    let mut all = parcels.into_vec();
+    let mut behind = behind.into_vec();
+    match all.append(&mut behind) {
+        Ok(()) => Happened::Step(Outs {
+            parcels: Sequence::from_vec(all),
+            lines,
+        }),
+        Err(_) => Happened::Lost,
+    }
+}
 
 /// A server is given a message, if it is up. `None` where its disk ended the step: then it is to fall.
 pub fn hear<D: Disk>(seat: &mut ServerSeat<D>, bytes: &[u8], now: u32) -> Option<Happened>
@@ -33,7 +50,7 @@ pub fn hear<D: Disk>(seat: &mut ServerSeat<D>, bytes: &[u8], now: u32) -> Option
 {
     match seat {
         Seat::Up(running) => match running.serve(bytes, now) {
-            Ok(outs) => Some(Happened::Step(outs)),
+            Ok((outs, behind)) => Some(given_out(outs, behind)),
             Err(NodeFault::OutOfMemory) => Some(Happened::Unchanged),
             Err(NodeFault::Down) => None,
         },
@@ -74,7 +91,7 @@ fn time_out<D: Disk>(
         return (Seat::Up(running), Happened::Nothing);
     }
     match running.time_out(callee, now) {
-        Ok(outs) => (Seat::Up(running), Happened::Step(outs)),
+        Ok((outs, behind)) => (Seat::Up(running), given_out(outs, behind)),
         Err(_) => (Seat::Up(running), Happened::Unchanged),
     }
 }
@@ -88,7 +105,7 @@ fn wake<D: Disk>(mut running: ServerRunning<D>, now: u32) -> (ServerSeat<D>, Hap
     ensures keeps { SeatKeeps D.seen D.faults D.limit (seat.Up running) result.0 }
 {
     match running.wake(now) {
-        Ok(outs) => (Seat::Up(running), Happened::Step(outs)),
+        Ok((outs, behind)) => (Seat::Up(running), given_out(outs, behind)),
         Err(_) => (Seat::Up(running), Happened::Unchanged),
     }
 }

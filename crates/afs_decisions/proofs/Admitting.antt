@@ -14,8 +14,10 @@ use Rattle.afs_model.specs.Calls as pairs
 use Rattle.afs_model.specs.Calls.{admitted, call_seat, paired, Admitted}
 use Rattle.afs_model.specs.Messages.{HasSpelling}
 use Rattle.afs_ideal.specs.Operations.{the_user, volume_called}
-use Rattle.afs_rows.specs.ServerRow.{admits, called, drops, is_client, not_served, refuses, runs, runs_received, serves_call, time_read, with_volume}
+use Rattle.afs_ideal.specs.Tables.{Table}
+use Rattle.afs_rows.specs.ServerRow.{drops, is_client, not_served, refuses, time_read}
 use Rattle.afs_rows.specs.States.{Seat, ServerState}
+use Rattle.afs_volrows.specs.FileRow.{file_admits, file_called, file_received, file_runs, file_serves, file_volume}
 use Rattle.afs_message.specs.Spelled.{Spells}
 use Rattle.afs_server_parts.specs.declared.telling.Grant.{Grant}
 use Rattle.afs_decisions.specs.Deciding.{is_on_volume, CanBeTold, Decides, IsByClient, Runs}
@@ -33,11 +35,11 @@ by_client head (decided.Shows reply grants) is = tt
 by_client head (decided.GivesUp fids) is = tt
 by_client head (decided.Changes id x) is = is
 
-pub client_runs : (s : ServerState) (clock : ℕ) (head : Head) (r : Received) (d : Decided) → is_client head.from ≡ true → Decides s clock head (runs_received s clock head r) d → Decides s clock head (runs s clock head r) d
-client_runs s clock head r d is decides = rw is decides
+pub client_runs : (holds : Table ℕ) (s : ServerState) (clock : ℕ) (head : Head) (r : Received) (d : Decided) → is_client head.from ≡ true → Decides s clock head (file_received holds s clock head r) d → Decides s clock head (file_runs holds s clock head r) d
+client_runs holds s clock head r d is decides = rw is decides
 
-pub other_runs : (s : ServerState) (clock : ℕ) (head : Head) (r : Received) → is_client head.from ≡ false → runs s clock head r ≡ refuses head not_served
-other_runs s clock head r is = rw is refl
+pub other_runs : (holds : Table ℕ) (s : ServerState) (clock : ℕ) (head : Head) (r : Received) → is_client head.from ≡ false → file_runs holds s clock head r ≡ refuses head not_served
+other_runs holds s clock head r is = rw is refl
 
 -- ---- by what becomes of the call
 
@@ -60,31 +62,31 @@ runs_any (decided.Changes id x) a e = e
 same_message : (m n : Message) → ◌≡◌ {A = Received} (Whole m) (Whole n) → m ≡ n
 same_message m n e = cc
 
-pub kept_decides : (s : ServerState) (clock : ℕ) (head : Head) (r : Received) (a : Admitted Message) (m reply : Message) (bytes : List ℕ) → a ≡ pairs.kept m → Spells m bytes → Spells reply bytes → Decides s clock head (admits s clock head r a) (decided.Repeats reply)
-kept_decides s clock head r a m reply bytes e is spells = ap (admits s clock head r) (e ∙ ap pairs.kept (same_message m reply (sym is.read ∙ spells.read)))
+pub kept_decides : (holds : Table ℕ) (s : ServerState) (clock : ℕ) (head : Head) (r : Received) (a : Admitted Message) (m reply : Message) (bytes : List ℕ) → a ≡ pairs.kept m → Spells m bytes → Spells reply bytes → Decides s clock head (file_admits holds s clock head r a) (decided.Repeats reply)
+kept_decides holds s clock head r a m reply bytes e is spells = ap (file_admits holds s clock head r) (e ∙ ap pairs.kept (same_message m reply (sym is.read ∙ spells.read)))
 
 pub kept_can_be_told : (opcode : ℕ) (reply : Message) → HasSpelling reply → CanBeTold opcode (decided.Repeats reply)
 kept_can_be_told opcode reply sound = sound.0.1
 
 -- ---- the call is for this server
 
-pub called_here : (me : Node) (s : ServerState) (clock : ℕ) (head : Head) (r : Received) (d : Decided) → same_node head.to me ≡ true → Decides s clock head (admits s clock head r (admitted s.lasting.boot s.seats head)) d → Decides s clock head (called me s clock head r) d
-called_here me s clock head r d is decides = rw is decides
+pub called_here : (me : Node) (holds : Table ℕ) (s : ServerState) (clock : ℕ) (head : Head) (r : Received) (d : Decided) → same_node head.to me ≡ true → Decides s clock head (file_admits holds s clock head r (admitted s.lasting.boot s.seats head)) d → Decides s clock head (file_called me holds s clock head r) d
+called_here me holds s clock head r d is decides = rw is decides
 
-pub called_elsewhere : (me : Node) (s : ServerState) (clock : ℕ) (head : Head) (r : Received) → same_node head.to me ≡ false → called me s clock head r ≡ drops
-called_elsewhere me s clock head r is = rw is refl
+pub called_elsewhere : (me : Node) (holds : Table ℕ) (s : ServerState) (clock : ℕ) (head : Head) (r : Received) → same_node head.to me ≡ false → file_called me holds s clock head r ≡ drops
+called_elsewhere me holds s clock head r is = rw is refl
 
 -- ---- a call that one volume serves
 
-serves_as : (s : ServerState) (clock : ℕ) (head : Head) (user : List ℕ) (call : FsCall) → is_on_volume call ≡ true → serves_call s clock head user call ≡ with_volume s clock head (the_user user) call (volume_called call)
-serves_as s clock head user (calls.GiveUpCallBacks fids callbacks) is = absurd cc
-serves_as s clock head user calls.GetTime is = absurd cc
-serves_as s clock head user (calls.BulkStatus fids) is = absurd cc
-serves_as s clock head user call is = refl
+serves_as : (holds : Table ℕ) (s : ServerState) (clock : ℕ) (head : Head) (user : List ℕ) (call : FsCall) → is_on_volume call ≡ true → file_serves holds s clock head user call ≡ file_volume holds s clock head (the_user user) call (volume_called call)
+serves_as holds s clock head user (calls.GiveUpCallBacks fids callbacks) is = absurd cc
+serves_as holds s clock head user calls.GetTime is = absurd cc
+serves_as holds s clock head user (calls.BulkStatus fids) is = absurd cc
+serves_as holds s clock head user call is = refl
 
-pub volume_serves : (s : ServerState) (clock : ℕ) (head : Head) (user : List ℕ) (call : FsCall) (d : Decided) → is_on_volume call ≡ true → Decides s clock head (with_volume s clock head (the_user user) call (volume_called call)) d → Decides s clock head (serves_call s clock head user call) d
-volume_serves s clock head user call d is decides = subst (λ x. Decides s clock head x d) (sym (serves_as s clock head user call is)) decides
+pub volume_serves : (holds : Table ℕ) (s : ServerState) (clock : ℕ) (head : Head) (user : List ℕ) (call : FsCall) (d : Decided) → is_on_volume call ≡ true → Decides s clock head (file_volume holds s clock head (the_user user) call (volume_called call)) d → Decides s clock head (file_serves holds s clock head user call) d
+volume_serves holds s clock head user call d is decides = subst (λ x. Decides s clock head x d) (sym (serves_as holds s clock head user call is)) decides
 
-pub time_told : (s : ServerState) (clock : ℕ) (head : Head) (user : List ℕ) (call : FsCall) (grants : List Grant) → call ≡ calls.GetTime → grants ≡ [] → Decides s clock head (serves_call s clock head user call) (decided.Shows (replies.GetTime clock 0) grants)
-time_told s clock head user call grants is none =
-    (time_read clock, (record { reply_is = refl; grants_are = sym none; nothing = refl }, ap (serves_call s clock head user) is))
+pub time_told : (holds : Table ℕ) (s : ServerState) (clock : ℕ) (head : Head) (user : List ℕ) (call : FsCall) (grants : List Grant) → call ≡ calls.GetTime → grants ≡ [] → Decides s clock head (file_serves holds s clock head user call) (decided.Shows (replies.GetTime clock 0) grants)
+time_told holds s clock head user call grants is none =
+    (time_read clock, (record { reply_is = refl; grants_are = sym none; nothing = refl }, ap (file_serves holds s clock head user) is))

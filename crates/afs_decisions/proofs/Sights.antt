@@ -1,5 +1,5 @@
 -- Several fids are looked up one after the other.
-use Rattle.std.proofs.Common.{◌≡◌, ◌≤◌, ℕ, ◌+◌, false, List, [], ◌∷◌, ◌++◌, map, length, Option, Some, None, refl, sym, ap, subst, ◌∙◌, append_assoc, arith}
+use Rattle.std.proofs.Common.{◌≡◌, ◌≤◌, ℕ, ◌+◌, Bool, false, List, [], ◌∷◌, ◌++◌, map, length, Option, Some, None, refl, sym, ap, subst, ◌∙◌, append_assoc, arith}
 use Rattle.std.specs.Option.{option_map}
 use Rattle.std.specs.Prelude.{Result, Ok, Err, ℤ, pos, nat_eq}
 use Rattle.std.proofs.lemmas.List.{append-nil, length-append, length-map, map-append}
@@ -14,19 +14,21 @@ use Rattle.afs_num.specs.declared.types.Head.{Head}
 use Rattle.afs_ideal.specs.Operations as operations
 use Rattle.afs_ideal.specs.Operations.{by_tests, first_failing, limited, op, read_by, refused, reads, changes, no_operation, shows_status, tests, Caller, Found}
 use Rattle.afs_ideal.specs.Replies.{found_status, sync_of}
+use Rattle.afs_ideal.specs.Tables.{get, Table}
 use Rattle.afs_ideal.specs.Volumes.{Vnode, vnode_of}
 use Rattle.afs_records.specs.Durable.{Stored}
 use Rattle.afs_shape.specs.Reading.{◌>>=◌}
 use Rattle.afs_shape.specs.Rows.{no_callback}
 use Rattle.afs_shape.specs.Tables.{IsCount}
 use Rattle.afs_model.specs.Heads.{is_zero}
-use Rattle.afs_rows.specs.ServerRow.{refuses, several, sight_by, sight_status, statuses_read, sync_first, Sight}
-use Rattle.afs_rows.specs.States.{ServerState}
+use Rattle.afs_rows.specs.ServerRow.{refuses, several, sight_by, sight_in, sight_status, statuses_read, sync_first, Sight}
+use Rattle.afs_rows.specs.States.{Lasting, ServerState}
+use Rattle.afs_volrows.specs.FileRow.{closed_code, file_sight, missing_code, sight_unless}
 use Rattle.afs_server_parts.specs.Telling.{grants_seen}
 use Rattle.afs_server_parts.specs.declared.telling.Grant.{Grant}
 use Rattle.afs_reads.specs.Replying.{refusal_of, reply_of, Replies}
 use Rattle.afs_volume.specs.Giving.{volume_of}
-use Rattle.afs_volume.specs.Taking.{stored_of}
+use Rattle.afs_shelves.specs.Shelving.{stored_as}
 use Rattle.afs_reads.specs.declared.faults.OpFault.{OpFault}
 use Rattle.afs_reads.specs.declared.faults.OpFault.TheVariants as faults
 use Rattle.afs_volume.specs.declared.volume.Volume.{Volume}
@@ -85,7 +87,7 @@ refused_as st (reads shown) code h e = absurd cc
 refused_as st (changes es n) code h e = absurd cc
 refused_as st no_operation code h e = absurd cc
 
-module _ (caller : Caller) (f : Fid) (w : Volume) where
+module _ (caller : Caller) (f : Fid) (new : Bool) (w : Volume) where
   abbrev read_by_tests : Option ℕ → Option Vnode → operations.Result
   read_by_tests o q = by_tests o (limited w.head.id (volume_of w) (read_by shows_status f q))
 
@@ -99,19 +101,49 @@ module _ (caller : Caller) (f : Fid) (w : Volume) where
   status_read (Ok reply) e = status_by (first_failing (tests caller (calls.FetchStatus f) (volume_of w))) (vnode_of f (volume_of w)) reply e
   status_read (Err fault) e = tt
 
-  seen_by : (o : Option ℕ) (q : Option Vnode) (reply : FsReply) → reply_of caller w (read_by_tests o q) ≡ Some reply → Sees caller f (sight_by (stored_of w) (read_by_tests o q)) (seen_in (Ok reply))
+  seen_by : (o : Option ℕ) (q : Option Vnode) (reply : FsReply) → reply_of caller w (read_by_tests o q) ≡ Some reply → Sees caller f (sight_by (stored_as new w) (read_by_tests o q)) (seen_in (Ok reply))
   seen_by (Some code) q reply e = absurd cc
   seen_by None None reply e = absurd cc
   seen_by None (Some x) reply e =
       let found : Found = record { fid = f; vnode = x } in
-      subst (λ (r : FsReply). Sees caller f (Ok (record { stored = stored_of w; found = found })) (seen_in (Ok r))) (some_is _ reply e)
+      subst (λ (r : FsReply). Sees caller f (Ok (record { stored = stored_as new w; found = found })) (seen_in (Ok r))) (some_is _ reply e)
       record { status = ap (λ (t : Fid → ℕ). found_status caller (volume_of w) t found) (same_times w); sync = refl; fid = refl }
 
-  pub seen_as : (x : Result FsReply OpFault) → Replies caller w (op w.head.id caller (calls.FetchStatus f) (volume_of w)) x → Sees caller f (sight_by (stored_of w) (op w.head.id caller (calls.FetchStatus f) (volume_of w))) (seen_in x)
+  pub seen_as : (x : Result FsReply OpFault) → Replies caller w (op w.head.id caller (calls.FetchStatus f) (volume_of w)) x → Sees caller f (sight_by (stored_as new w) (op w.head.id caller (calls.FetchStatus f) (volume_of w))) (seen_in x)
   seen_as (Ok reply) e = seen_by (first_failing (tests caller (calls.FetchStatus f) (volume_of w))) (vnode_of f (volume_of w)) reply e
   seen_as (Err (faults.Code code)) e =
-      refused_as (stored_of w) (op w.head.id caller (calls.FetchStatus f) (volume_of w)) code.0 (λ k q. op_code w.head.id caller (calls.FetchStatus f) (volume_of w) k q) e
+      refused_as (stored_as new w) (op w.head.id caller (calls.FetchStatus f) (volume_of w)) code.0 (λ k q. op_code w.head.id caller (calls.FetchStatus f) (volume_of w) k q) e
   seen_as (Err faults.OutOfMemory) e = tt
+
+-- ---- where the volume isn't there, or is closed
+
+abbrev refused_with : ℤ → Result Seen OpFault
+refused_with code = Err (faults.Code (record { 0 = code }))
+
+pub missing_sees : (holds : Table ℕ) (l : Lasting) (caller : Caller) (f : Fid) (code : ℤ) → get f.volume l.volumes ≡ None → code ≡ pos (missing_code l f.volume) → is_zero code ≡ false → Sees caller f (file_sight holds l caller f (get f.volume l.volumes)) (refused_with code)
+missing_sees holds l caller f code none is coded =
+    subst (λ (o : Option Stored). Sees caller f (file_sight holds l caller f o) (refused_with code)) (sym none) (sym is, subst (λ (z : ℤ). is_zero z ≡ false) is coded)
+
+shut_by : (o : Option ℕ) (r : Result Sight ℕ) (code : ℤ) → option_map pos o ≡ Some code → is_zero code ≡ false → IsRefused code (sight_unless o r)
+shut_by None r code e coded = absurd cc
+shut_by (Some k) r code e coded = let is = some_is (pos k) code e in (is, subst (λ (z : ℤ). is_zero z ≡ false) (sym is) coded)
+
+pub closed_sees : (holds : Table ℕ) (l : Lasting) (caller : Caller) (f : Fid) (new : Bool) (w : Volume) (code : ℤ) → get f.volume l.volumes ≡ Some (stored_as new w) → option_map pos (closed_code (stored_as new w) (get f.volume holds)) ≡ Some code → is_zero code ≡ false
+    → Sees caller f (file_sight holds l caller f (get f.volume l.volumes)) (refused_with code)
+closed_sees holds l caller f new w code there closed coded =
+    subst (λ (o : Option Stored). Sees caller f (file_sight holds l caller f o) (refused_with code)) (sym there)
+    (shut_by (closed_code (stored_as new w) (get f.volume holds)) (sight_by (stored_as new w) (op f.volume caller (calls.FetchStatus f) (stored_as new w).volume)) code closed coded)
+
+serves_by : (o : Option ℕ) (r : Result Sight ℕ) → option_map pos o ≡ None → sight_unless o r ≡ r
+serves_by None r e = refl
+serves_by (Some code) r e = absurd cc
+
+-- and where it serves
+pub open_sees : (holds : Table ℕ) (l : Lasting) (caller : Caller) (f : Fid) (new : Bool) (w : Volume) (x : Result Seen OpFault) → get f.volume l.volumes ≡ Some (stored_as new w) → option_map pos (closed_code (stored_as new w) (get f.volume holds)) ≡ None
+    → Sees caller f (sight_in caller f (Some (stored_as new w))) x → Sees caller f (file_sight holds l caller f (get f.volume l.volumes)) x
+open_sees holds l caller f new w x there serves sees =
+    subst (λ (o : Option Stored). Sees caller f (file_sight holds l caller f o) x) (sym there)
+    (subst (λ (s : Result Sight ℕ). Sees caller f s x) (sym (serves_by (closed_code (stored_as new w) (get f.volume holds)) (sight_by (stored_as new w) (op f.volume caller (calls.FetchStatus f) (stored_as new w).volume)) serves)) sees)
 
 tells_by : (caller : Caller) (f : Fid) (seen : Seen) (s : Result Sight ℕ) (t u : Told) → IsSeen caller f seen s → u.statuses ≡ t.statuses ++ seen.status ∷ [] → u.callbacks ≡ t.callbacks ++ no_callback ∷ []
     → u.grants ≡ t.grants ++ record { fid = f; index = seen.status.sync_counter } ∷ [] → u.sync ≡ or_first seen.sync t.sync → TellsOne caller s t u

@@ -40,7 +40,7 @@ use Rattle.afs_reads.specs.Replying.{FitsCall}
 use Rattle.afs_decisions.specs.declared.decided.Decided.{Decided}
 use Rattle.afs_decisions.specs.declared.decided.Decided.TheVariants as decided
 use Rattle.afs_volume.specs.Giving.{volume_of}
-use Rattle.afs_volume.specs.Taking.{stored_of}
+use Rattle.afs_shelves.specs.Shelving.{stored_as}
 use Rattle.afs_volume.specs.declared.volume.Volume.{Volume}
 
 -- ---- what a reading reply grants
@@ -144,13 +144,13 @@ IsByClient head d = Unit {0}
 
 -- ---- what is decided, and within its limits
 
--- on a call of this user on a volume that the server keeps so
-abbrev pub decided_in : ServerState → ℕ → Head → Caller → FsCall → Volume → Decision
-decided_in s clock head caller call w = row.decided s clock head caller call w.head.id (stored_of w) (op w.head.id caller call (volume_of w))
+-- on a call of this user on a volume that the server keeps so, as a new one or not
+abbrev pub decided_in : Bool → ServerState → ℕ → Head → Caller → FsCall → Volume → Decision
+decided_in new s clock head caller call w = row.decided s clock head caller call w.head.id (stored_as new w) (op w.head.id caller call (volume_of w))
 
 -- in any state in which the server keeps the volume so
 pub record IsDecisionIn (clock : ℕ) (head : Head) (caller : Caller) (call : FsCall) (w : Volume) (x : Decided) : Type 0 where
-  pub decides : (s : ServerState) → get w.head.id s.lasting.volumes ≡ Some (stored_of w) → Decides s clock head (decided_in s clock head caller call w) x
+  pub decides : (new : Bool) (s : ServerState) → get w.head.id s.lasting.volumes ≡ Some (stored_as new w) → Decides s clock head (decided_in new s clock head caller call w) x
   pub told : CanBeTold head.opcode x
   pub fits : FitsDecided x
 

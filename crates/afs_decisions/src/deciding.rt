@@ -1,6 +1,6 @@
 //! What is decided on a call by its volume, and by what is read of it.
 
-ghost use Rattle.std.specs.Prelude.{◌≡◌, ◌∷◌, [], true, false, IfOk, Some, None};
+ghost use Rattle.std.specs.Prelude.{◌≡◌, ◌∷◌, [], Bool, true, false, IfOk, Some, None};
 ghost use Rattle.afs_ideal.specs.Operations.{the_user, volume_called};
 ghost use Rattle.afs_changes.specs.Planning.{is_changing};
 ghost use Rattle.afs_reads.specs.Replying.{is_reading};
@@ -194,7 +194,7 @@ fn read_in(
     requires reading { is_reading call.now ≡ true }
     requires on { volume_called call.now ≡ Some volume.now.head.id }
     requires call { IsCallUnder head.now call.now }
-    ensures decides { IfOk result (λ d. (s : ServerState) → Decides s now head.now (decided_in s now head.now (the_user user.now) call.now volume.now) d) }
+    ensures decides { IfOk result (λ d. (new : Bool) (s : ServerState) → Decides s now head.now (decided_in new s now head.now (the_user user.now) call.now volume.now) d) }
     ensures told { IfOk result (λ d. CanBeTold head.now.opcode d) }
     ensures fits { IfOk result FitsDecided }
 {

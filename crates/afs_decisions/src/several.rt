@@ -1,10 +1,10 @@
 //! The statuses of several fids, each by the volume of its fid, and what is decided of them.
 
-ghost use Rattle.std.specs.Prelude.{◌≡◌, ◌∷◌, ◌++◌, [], ℕ, IfOk, OnOk, Ok, Some, List};
+ghost use Rattle.std.specs.Prelude.{◌≡◌, ◌∷◌, ◌++◌, [], ℕ, Bool, IfOk, OnOk, Ok, Some, List};
 ghost use Rattle.afs_num.specs.declared.calls.AfsCallBack.{AfsCallBack};
 ghost use Rattle.afs_ideal.specs.Operations.{the_user};
 ghost use Rattle.afs_shape.specs.Rows.{no_callback, no_sync};
-ghost use Rattle.afs_volume.specs.Taking.{stored_of};
+ghost use Rattle.afs_shelves.specs.Shelving.{stored_as};
 ghost use Rattle.afs_rows.specs.ServerRow.{sight_in};
 ghost use Rattle.afs_decisions.specs.Several.{or_first, seen_in, sync_told, AreTold, IsStatusRead, Sees, ToldAs};
 
@@ -110,7 +110,7 @@ fn seen_in(read: Result<FsReply, OpFault>) -> Result<Seen, OpFault>
 /// The status of a fid in this volume, which is its own.
 pub fn see_in(volume: &Volume, user: &[u8], fid: &Fid) -> Result<Seen, OpFault>
     requires { volume.now.head.id ≡ fid.now.volume }
-    ensures { Sees (the_user user.now) fid.now (sight_in (the_user user.now) fid.now (Some (stored_of volume.now))) result }
+    ensures { (new : Bool) → Sees (the_user user.now) fid.now (sight_in (the_user user.now) fid.now (Some (stored_as new volume.now))) result }
 {
     let read = read(volume, &FsCall::FetchStatus { fid: *fid }, user);
     seen_in(read)

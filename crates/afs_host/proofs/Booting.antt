@@ -121,7 +121,7 @@ module _ {R T M P L S : Type 0} (k : Keeping R T M P L S) (fit : IsSoundKeeping 
             read_again = fit.fold.again r fails.fits;
             made = ap (λ (n : ℕ). Some (k.fold.start (n + 1))) (ap k.boot (sym found.read) ∙ fit.booted d);
             left = λ e takes. fit.revives begun.state d e found.read takes;
-            told = λ ls. ap (λ (x : List Line). x ++ ls) (sym (fit.quiet (k.fold.boot d + 1) d));
+            told = λ ls. fit.tells begun.state d found.read ls;
           }) c is around.1
 
       module _ {N V : Type 0} (v : Sight N V D S) (start : Begun S → Step S) where

@@ -7,7 +7,6 @@ pub mod Fallen
 pub mod Finding
 pub mod Folded
 pub mod Handled
-pub mod Heard
 pub mod LocBecoming
 pub mod LocBreaking
 pub mod LocHandled

@@ -12,8 +12,8 @@ use Rattle.afs_records.specs.LocDurable.{LocDurable}
 use Rattle.afs_records.specs.LocRecords.{LocRecord}
 use Rattle.afs_rows.specs.Hosts.{steady}
 use Rattle.afs_store.specs.Stores.{StoreOf}
-use Rattle.afs_server.specs.declared.faults.NodeFault.{NodeFault}
-use Rattle.afs_server.specs.declared.faults.NodeFault.TheVariants as nodes
+use Rattle.afs_server_parts.specs.declared.faults.NodeFault.{NodeFault}
+use Rattle.afs_server_parts.specs.declared.faults.NodeFault.TheVariants as nodes
 use Rattle.afs_host.specs.LocSeats.{loc_disk_of, DatabaseRunning, LocCanRun}
 use Rattle.afs_host.specs.LocServing.{loc_disk_served, IsLocHandled, IsLocServed, LocBecomes, LocGoesOnServed, LocKeepsMark, LocRestsServed, MakesLocRow, RunsLocRow}
 use Rattle.afs_host.specs.Views.{count_mark}

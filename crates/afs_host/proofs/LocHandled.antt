@@ -17,7 +17,7 @@ use Rattle.afs_store.specs.Stores.{StoreOf}
 use Rattle.afs_locdb.specs.Handling.{loc_calls_served, loc_decided_then, IsQuiet, IsUntouched, Makes}
 use Rattle.afs_locdb.specs.Saving.{KeepsStore}
 use Rattle.afs_locdb.specs.Seen.{loc_seen, Database, Serves}
-use Rattle.afs_locdb.specs.declared.faults.NodeFault.TheVariants as faults
+use Rattle.afs_server_parts.specs.declared.faults.NodeFault.TheVariants as faults
 use Rattle.afs_host.specs.LocSeats.{DatabaseRunning, IsLocStepUp, IsLocUp, LocCanRun, LocGoesOn}
 use Rattle.afs_host.specs.LocServing.{RunsLocRow}
 use Rattle.afs_host.specs.Setting.{IsSet}

@@ -64,7 +64,7 @@ loc_fits = record {
   booted = λ d. refl;
   same_capacity = capacity_after;
   revives = revives;
-  quiet = λ n d. refl;
+  tells = λ s d read ls. refl;
   begins = λ d. refl;
   same_can = λ s t same. ap (λ (l : LocLasting). loc_can_boot (loc_durable_of l)) same;
 }

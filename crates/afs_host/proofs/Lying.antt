@@ -39,9 +39,9 @@ pub record IsSoundKeeping {R T M P L S : Type 0} (k : Keeping R T M P L S) : Typ
   pub booted : (d : T) → k.boot (k.read d) ≡ k.fold.boot d
   -- no step gives the disk another room
   pub same_capacity : (s : S) (fall : Fall) → k.capacity (k.lasting (begun_from k.kind s true fall).state) ≡ k.capacity (k.lasting s)
-  -- the record of a boot makes of what is kept what the state says of it, and tells nothing
-  pub revives : (s : S) (d e : T) → k.read d ≡ k.lasting s → k.fold.folded (k.fold.start (k.fold.boot d + 1)) d ≡ Some e → k.read e ≡ k.lasting (k.kind.revived s)
-  pub quiet : (n : ℕ) (d : T) → k.fold.in_words (k.fold.effect k.kind.me (k.fold.start n) d) ≡ []
+  -- the record of a boot makes of what is kept what the state says of it, and tells what a restart tells behind it
+  pub revives : (s : S) (d e : T) → k.read d ≡ k.lasting s → k.fold.folded (k.fold.start (k.fold.boot d + 1)) d ≡ Some e → k.read e ≡ k.lasting (k.kind.begun_again s).state
+  pub tells : (s : S) (d : T) → k.read d ≡ k.lasting s → (ls : List Line) → (k.kind.begun_again s).before ls ≡ k.fold.in_words (k.fold.effect k.kind.me (k.fold.start (k.fold.boot d + 1)) d) ++ ls
   -- a restart begins with what was read, and whether it can start is in that
   pub begins : (d : T) → k.lasting (k.begun d) ≡ k.read d
   pub same_can : (s t : S) → k.lasting s ≡ k.lasting t → k.kind.can_start s ≡ k.kind.can_start t

@@ -1,44 +1,39 @@
--- The step of a server that is up is its host's.
-use Rattle.std.specs.Prelude.{◌≡◌, ◌≤◌, ◌<◌, ℕ, zero, suc, ◌+◌, ◌-◌, ◌*◌, List, [], ◌∷◌, ◌++◌, Bool, true, false, Option, Some, None, nat_lt, if◌then◌else◌, is_some}
+-- The step of a server node that is up is its host's.
+use Rattle.std.specs.Prelude.{◌≡◌, ◌≤◌, ◌<◌, ◌⊎◌, ℕ, zero, suc, ◌+◌, ◌-◌, ◌*◌, ◌||◌, List, [], ◌∷◌, ◌++◌, Bool, true, false, Option, Some, None, nat_lt, if◌then◌else◌, is_some}
 use Rattle.std.specs.Option.{option_map}
-use Rattle.std.proofs.Common.{refl, ap, sym, subst, ◌∙◌, inl, inr, arith, lt-ltb, le-ltb}
+use Rattle.std.proofs.Common.{refl, ap, ap₂, sym, subst, ◌∙◌, inl, inr, arith, lt-ltb, le-ltb}
 use Rattle.std.proofs.lemmas.Bool.{ltb-true, ltb-false}
-use Rattle.afs_num.specs.Nodes.{same_node}
-use Rattle.afs_num.specs.declared.calls.FsCall.{FsCall}
-use Rattle.afs_num.specs.declared.calls.FsCall.TheVariants as calls
-use Rattle.afs_num.specs.declared.messages.Call.{Call}
-use Rattle.afs_num.specs.declared.messages.Call.TheVariants as ask
-use Rattle.afs_num.specs.declared.messages.Carried.{Carried}
-use Rattle.afs_num.specs.declared.messages.Carried.TheVariants as carried
 use Rattle.afs_num.specs.declared.messages.Message.{Message}
 use Rattle.afs_num.specs.declared.messages.Received.{Received}
-use Rattle.afs_num.specs.declared.messages.Received.TheVariants.{Unserved, Whole}
-use Rattle.afs_num.specs.declared.records.StoreRecord.{StoreRecord}
+use Rattle.afs_num.specs.declared.messages.Received.TheVariants.{Whole}
 use Rattle.afs_num.specs.declared.types.Head.{Head}
 use Rattle.afs_num.specs.declared.types.Node.{Node}
+use Rattle.afs_num.specs.declared.types.Parcel.{Parcel}
 use Rattle.afs_history.specs.declared.lines.Line.{Line}
 use Rattle.afs_history.specs.declared.lines.Line.TheVariants as lines
 use Rattle.afs_history.specs.declared.lines.Outs.{Outs}
-use Rattle.afs_shape.specs.Tables.{is_among}
 use Rattle.afs_disk.specs.Disk.{IsAt, IsBeyond, PassesAll, Setting, Trips}
 use Rattle.afs_disk.specs.Fuses.{Fused}
-use Rattle.afs_model.specs.Calls.{admitted, Admitted}
-use Rattle.afs_model.specs.Calls as pairs
-use Rattle.afs_model.specs.CellRows.{call_number}
-use Rattle.afs_model.specs.Messages.{is_unserved, is_whole, messages_spelled, FoundBy}
-use Rattle.afs_rows.specs.Callbacks.{expired, turned_in}
-use Rattle.afs_rows.specs.Hosts.{fail_blow, lowered, sooner, steady, stop_blow, struck, within, Armed, Blow, goes, served, served_by, Host, HostStep}
-use Rattle.afs_rows.specs.ServerHosts.{ServerHost, server_kind}
-use Rattle.afs_rows.specs.ServerRow.{admits, called, decides, device_calls, drops, hears, is_client, not_served, refuses, repeats, runs, runs_carried, runs_received, saves, serves_call, shows, tells_boot, whole, Decision}
-use Rattle.afs_rows.specs.ServerSteps.{done, server_row}
-use Rattle.afs_rows.specs.States.{BackCall, ServerState}
+use Rattle.afs_model.specs.Messages.{messages_spelled, parcels_read, received}
+use Rattle.afs_records.specs.Durable.{Durable}
+use Rattle.afs_rows.specs.Hosts.{fail_blow, lowered, sooner, steady, stop_blow, struck, within, Armed, Blow, goes, served, served_by, Host}
+use Rattle.afs_rows.specs.ServerRow.{device_calls, drops, refuses, repeats, saves, shows, tells_boot, Decision}
+use Rattle.afs_rows.specs.States.{durable_of, BackCall, ServerState}
 use Rattle.afs_rows.specs.Steps.{Step}
 use Rattle.afs_records.proofs.Forms.{some_is}
+use Rattle.afs_volrows.specs.NodeHosts.{node_kind, node_timed_out, node_woken, piece_timed_out, NodeHost}
+use Rattle.afs_volrows.specs.VolStates.{NodeState, PieceCall}
+use Rattle.afs_volrows.specs.VolSteps.{from_of, is_of_client, node_back_timeout_row, node_device_calls, node_file_decides, node_row, node_wake_row, piece_timeout_row, vol_decides, vol_device_calls, VolDecision}
+use Rattle.afs_volrows.specs.VolSteps as volumes
 use Rattle.afs_volstore.specs.Stores.{Store}
+use Rattle.afs_sendings.specs.Pieces.{call_or_none, call_seen, Piece}
 use Rattle.afs_server_parts.specs.Called.{call_to}
-use Rattle.afs_server.specs.Handling.{calls_served, record_decided, server_seen, IsDone, Makes}
-use Rattle.afs_server.specs.Seen.{Memory}
-use Rattle.afs_host.specs.Seats.{waits_for, IsHostUp, IsStepUp, IsUp, Running, ServerRunning}
+use Rattle.afs_server.specs.Handling.{record_decided, IsDone}
+use Rattle.afs_volserv.specs.Handling.{vol_record}
+use Rattle.afs_node.specs.Handling.{node_record, IsSameStep, MakesNode}
+use Rattle.afs_node.specs.Seen.{node_seen}
+use Rattle.afs_node.specs.declared.node.ServerNode.{ServerNode}
+use Rattle.afs_host.specs.Seats.{waits_for, with_behind, IsHostUp, IsStepUp, IsUp, Running, ServerRunning}
 use Rattle.afs_host.specs.Setting.{IsSet}
 
 -- what holds of the host that is just the node's state holds of each for which it stands
@@ -48,72 +43,9 @@ as_host_up {N} {T} {S} seen r h P up p =
     let down = subst (λ d. P (record { state = h.state; down = d; armed = r.armed })) (sym up.down) state in
     subst (λ (a : Armed). P (record { state = h.state; down = h.down; armed = a })) (sym up.armed) down
 
--- so of a server's
-pub as_up : {D : Type 0} (r : ServerRunning D) (h : ServerHost) (P : ServerHost → Type 0) → IsUp r h → P (record { state = server_seen r.memory r.store; down = None; armed = r.armed }) → P h
-as_up {D} r h P up p = as_host_up (λ (m : Memory) (t : Store (Fused D)). server_seen m t) r h P up p
-
--- ---- a server that doesn't serve a call answers as if it had read it
-
-unserved_file : (s : ServerState) (clock : ℕ) (head : Head) (user : List ℕ) (call : FsCall) → is_among calls_served (call_number (ask.File call)) ≡ false → serves_call s clock head user call ≡ refuses head not_served
-unserved_file s clock head user (calls.CallBack a b) e = refl
-unserved_file s clock head user calls.InitCallBackState e = refl
-unserved_file s clock head user calls.Probe e = refl
-unserved_file s clock head user (calls.FetchData a b c) e = absurd cc
-unserved_file s clock head user (calls.FetchAcl a) e = absurd cc
-unserved_file s clock head user (calls.FetchStatus a) e = absurd cc
-unserved_file s clock head user (calls.StoreData a b c d f g) e = absurd cc
-unserved_file s clock head user (calls.StoreAcl a b) e = absurd cc
-unserved_file s clock head user (calls.StoreStatus a b) e = absurd cc
-unserved_file s clock head user (calls.RemoveFile a b) e = absurd cc
-unserved_file s clock head user (calls.CreateFile a b c) e = absurd cc
-unserved_file s clock head user (calls.Rename a b c d) e = absurd cc
-unserved_file s clock head user (calls.Symlink a b c d) e = absurd cc
-unserved_file s clock head user (calls.Link a b c) e = absurd cc
-unserved_file s clock head user (calls.MakeDir a b c) e = absurd cc
-unserved_file s clock head user (calls.RemoveDir a b) e = absurd cc
-unserved_file s clock head user (calls.GiveUpCallBacks a b) e = absurd cc
-unserved_file s clock head user (calls.GetVolumeStatus a) e = absurd cc
-unserved_file s clock head user calls.GetTime e = absurd cc
-unserved_file s clock head user (calls.BulkStatus a) e = absurd cc
-
-unserved_call : (s : ServerState) (clock : ℕ) (head : Head) (user : List ℕ) (call : Call) → is_among calls_served (call_number call) ≡ false → runs_carried s clock head (carried.Call user call) ≡ refuses head not_served
-unserved_call s clock head user (ask.File call) e = unserved_file s clock head user call e
-unserved_call s clock head user (ask.Volume call) e = refl
-unserved_call s clock head user (ask.Location call) e = refl
-
-same_admitted : (s : ServerState) (clock : ℕ) (head : Head) (user : List ℕ) (call : Call) → is_among calls_served (call_number call) ≡ false → (a : Admitted Message) →
-    admits s clock head (whole head (carried.Call user call)) a ≡ admits s clock head (Unserved head) a
-same_admitted s clock head user call e pairs.runs = ap (λ (d : Decision). if is_client head.from then d else refuses head not_served) (unserved_call s clock head user call e)
-same_admitted s clock head user call e (pairs.kept reply) = refl
-same_admitted s clock head user call e pairs.in_progress = refl
-same_admitted s clock head user call e pairs.older = refl
-same_admitted s clock head user call e (pairs.wrong_boot boot) = refl
-
-same_called : (me : Node) (s : ServerState) (clock : ℕ) (head : Head) (user : List ℕ) (call : Call) → is_among calls_served (call_number call) ≡ false →
-    called me s clock head (whole head (carried.Call user call)) ≡ called me s clock head (Unserved head)
-same_called me s clock head user call e = ap (λ (d : Decision). if same_node head.to me then d else drops) (same_admitted s clock head user call e (admitted s.lasting.boot s.seats head))
-
--- the decision and the row are the same, over what the server finds and over the message
-pub record SameRow (me : Node) (s : ServerState) (clock : ℕ) (m : Message) (found : Received) : Type 0 where
-  pub decision : decides me s clock found ≡ decides me s clock (Whole m)
-  pub row : (place : ℕ) → server_row me s clock place found ≡ server_row me s clock place (Whole m)
-
-abbrev row_of : Node → ServerState → ℕ → ℕ → Decision → Received → Step ServerState
-row_of me s clock place d r = done me s clock place d (turned_in me s clock (expired clock s.backs) d r)
-
-same_head : (me : Node) (s : ServerState) (clock : ℕ) (head : Head) (user : List ℕ) (call : Call) → is_among calls_served (call_number call) ≡ false → SameRow me s clock (record { head = head; carried = carried.Call user call }) (Unserved head)
-unfolding server_row
-same_head me s clock head user call e =
-    let same = sym (same_called me s clock head user call e) in
-    record { decision = same; row = λ place. ap (λ (d : Decision). row_of me s clock place d (Unserved head)) same }
-
-same_carried : (me : Node) (s : ServerState) (clock : ℕ) (m : Message) (c : Carried) → m.carried ≡ c → SameRow me s clock (record { head = m.head; carried = c }) (Unserved m.head) → SameRow me s clock m (Unserved m.head)
-same_carried me s clock m c e h = subst (λ (x : Carried). SameRow me s clock (record { head = m.head; carried = x }) (Unserved m.head)) (sym e) h
-
-pub same_row : (me : Node) (s : ServerState) (clock : ℕ) (m : Message) (found : Received) → FoundBy calls_served m found → SameRow me s clock m found
-same_row me s clock m found (is_whole e) = subst (SameRow me s clock m) (sym e) (record { decision = refl; row = λ place. refl })
-same_row me s clock m found (is_unserved user call is among e) =
-    subst (SameRow me s clock m) (sym e) (same_carried me s clock m (carried.Call user call) is (same_head me s clock m.head user call among))
+-- so of a server node's
+pub as_up : {D : Type 0} (r : ServerRunning D) (h : NodeHost) (P : NodeHost → Type 0) → IsUp r h → P (record { state = node_seen r.memory r.store; down = None; armed = r.armed }) → P h
+as_up {D} r h P up p = as_host_up (λ (m : ServerNode) (t : Store (Fused D)). node_seen m t) r h P up p
 
 -- ---- a step that passed
 
@@ -195,50 +127,108 @@ lowered_set {D} armed f t n set passes stop fail calls = record {
   due = lowered_due armed.fail (record { stop = f.stop; fail = f.fail }) f.calls n set.fail set.due passes;
 }
 
--- a step makes a record, by four device calls, or none
-pub made_calls : {D : Type 0} (x : ServerState) (clock : ℕ) (d : Decision) (s t : Store D) → IsDone (record_decided x.lasting.boot clock d) s t → (t.count - s.count) * 4 ≡ device_calls x clock d
-made_calls {D} x clock drops s t done = omega (arith, done.1)
-made_calls {D} x clock (tells_boot head) s t done = omega (arith, done.1)
-made_calls {D} x clock (repeats reply) s t done = omega (arith, done.1)
-made_calls {D} x clock (refuses head code) s t done = omega (arith, done.1)
-made_calls {D} x clock (shows head r) s t done = omega (arith, done.1)
-made_calls {D} x clock (saves head c) s t done = omega (arith, done.1)
+-- ---- a step makes a record, by four device calls, or none
 
--- the step was made: the host's, where nothing hit it
-pub up_step : {D : Type 0} (old new : ServerRunning D) (h : ServerHost) → IsUp old h → (me : Node) (clock place : ℕ) (m : Message) (found : Received) → FoundBy calls_served m found → (outs : Outs) →
-    Makes (server_row me (server_seen old.memory old.store) clock place found) (lines.Given place ∷ []) new.memory new.store outs →
-    new.armed ≡ lowered (device_calls (server_seen old.memory old.store) clock (decides me (server_seen old.memory old.store) clock found)) old.armed →
-    struck old.armed steady (device_calls (server_seen old.memory old.store) clock (decides me (server_seen old.memory old.store) clock found)) ≡ None →
-    IsStepUp new (lines.Given place ∷ []) outs (served (server_kind me) h clock place steady m)
-up_step {D} old new h up me clock place m found by outs makes armed none =
-    let s = server_seen old.memory old.store in
-    let same = same_row me s clock m found by in
-    let nothing = subst (λ (d : Decision). struck old.armed steady (device_calls s clock d) ≡ None) same.decision none in
-    as_up old h (λ (x : ServerHost). IsStepUp new (lines.Given place ∷ []) outs (served (server_kind me) x clock place steady m)) up
-    (subst (λ (b : Option Blow). IsStepUp new (lines.Given place ∷ []) outs (served_by (server_kind me) (record { state = s; down = None; armed = old.armed }) clock place m b)) (sym nothing) (record {
-      host = record {
-        state = ap (λ (x : Step ServerState). x.state) (sym (same.row place)) ∙ sym makes.state;
-        down = refl;
-        armed = ap (λ (d : Decision). lowered (device_calls s clock d) old.armed) (sym same.decision) ∙ sym armed;
-      };
-      lines = makes.lines ∙ ap (λ (x : Step ServerState). x.lines) (same.row place);
-      sent = makes.sent ∙ ap (λ (x : Step ServerState). messages_spelled x.sent) (same.row place);
-    }))
+file_calls : {D : Type 0} (x : ServerState) (clock : ℕ) (d : Decision) (s t : Store D) → IsDone (record_decided x.lasting.boot clock d) s t → (t.count - s.count) * 4 ≡ device_calls x clock d
+file_calls {D} x clock drops s t done = omega (arith, done.1)
+file_calls {D} x clock (tells_boot head) s t done = omega (arith, done.1)
+file_calls {D} x clock (repeats reply) s t done = omega (arith, done.1)
+file_calls {D} x clock (refuses head code) s t done = omega (arith, done.1)
+file_calls {D} x clock (shows head r) s t done = omega (arith, done.1)
+file_calls {D} x clock (saves head c) s t done = omega (arith, done.1)
+
+volume_calls : {D : Type 0} (e : Durable) (d : VolDecision) (s t : Store D) → IsDone (vol_record d) s t → (t.count - s.count) * 4 ≡ vol_device_calls e d
+volume_calls {D} e volumes.drops s t done = omega (arith, done.1)
+volume_calls {D} e (volumes.tells_boot head) s t done = omega (arith, done.1)
+volume_calls {D} e (volumes.repeats reply) s t done = omega (arith, done.1)
+volume_calls {D} e (volumes.replies_to head reply ts last) s t done = omega (arith, done.1)
+volume_calls {D} e (volumes.dispatches head x) s t done = omega (arith, done.1)
+volume_calls {D} e (volumes.saves head x) s t done = omega (arith, done.1)
+
+calls_by : {D : Type 0} (x : ServerState) (clock : ℕ) (d : Decision) (e : Durable) (v : VolDecision) (s t : Store D) (b : Bool) → IsDone (if b then record_decided x.lasting.boot clock d else vol_record v) s t → (t.count - s.count) * 4 ≡ (if b then device_calls x clock d else vol_device_calls e v)
+calls_by {D} x clock d e v s t true done = file_calls x clock d s t done
+calls_by {D} x clock d e v s t false done = volume_calls e v s t done
+
+pub made_calls : {D : Type 0} (me : Node) (x : NodeState) (clock : ℕ) (found : Received) (s t : Store D) → IsDone (node_record me x clock found) s t → (t.count - s.count) * 4 ≡ node_device_calls me x clock found
+made_calls {D} me x clock found s t done =
+    calls_by x.file clock (node_file_decides me x clock found) (durable_of x.file.lasting) (vol_decides me (durable_of x.file.lasting) x.vol found) s t (is_of_client (from_of found)) done
+
+-- ---- the step was made
+
+parcels_read-append : (ps qs : List Parcel) → parcels_read (ps ++ qs) ≡ parcels_read ps ++ parcels_read qs
+parcels_read-append [] qs = refl
+parcels_read-append (p ∷ ps) qs = ap (λ (t : List (Head × List ℕ × Received)). (p.head, p.bytes, received p.bytes) ∷ t) (parcels_read-append ps qs)
+
+-- it is the host's, whose disk is then set so
+pub made_up : {D : Type 0} (step : Step NodeState) (before : List Line) (new : ServerRunning D) (r : Outs × List Parcel) (armed : Armed) → MakesNode step before new.memory new.store r.0 r.1 → new.armed ≡ armed → IsStepUp new before (with_behind r) (goes armed step)
+made_up {D} step before new r armed made set = record {
+  host = record { state = sym made.state; down = refl; armed = sym set };
+  lines = made.lines;
+  sent = parcels_read-append r.0.parcels r.1 ∙ made.sent;
+}
+
+-- so with a message, where nothing hit it
+pub up_step : {D : Type 0} (old new : ServerRunning D) (h : NodeHost) → IsUp old h → (me : Node) (clock place : ℕ) (m : Message) (found : Received) → IsSameStep me (node_seen old.memory old.store) clock m found → (r : Outs × List Parcel) →
+    MakesNode (node_row me (node_seen old.memory old.store) clock place found) (lines.Given place ∷ []) new.memory new.store r.0 r.1 →
+    new.armed ≡ lowered (node_device_calls me (node_seen old.memory old.store) clock found) old.armed →
+    struck old.armed steady (node_device_calls me (node_seen old.memory old.store) clock found) ≡ None →
+    IsStepUp new (lines.Given place ∷ []) (with_behind r) (served (node_kind me) h clock place steady m)
+up_step {D} old new h up me clock place m found same r made lower unhit =
+    let s = node_seen old.memory old.store in
+    let nothing = subst (λ (n : ℕ). struck old.armed steady n ≡ None) same.calls unhit in
+    as_up old h (λ (x : NodeHost). IsStepUp new (lines.Given place ∷ []) (with_behind r) (served (node_kind me) x clock place steady m)) up
+    (subst (λ (b : Option Blow). IsStepUp new (lines.Given place ∷ []) (with_behind r) (served_by (node_kind me) (record { state = s; down = None; armed = old.armed }) clock place m b)) (sym nothing)
+    (made_up (node_row me s clock place (Whole m)) (lines.Given place ∷ []) new r (lowered (node_device_calls me s clock (Whole m)) old.armed)
+    (subst (λ (x : Step NodeState). MakesNode x (lines.Given place ∷ []) new.memory new.store r.0 r.1) (same.row place) made)
+    (lower ∙ ap (λ (n : ℕ). lowered n old.armed) same.calls)))
 
 -- ---- whom it waits for
 
-called_one : (o : Option BackCall) → is_some o ≡ true → (b : BackCall) × (o ≡ Some b)
-called_one None e = absurd cc
-called_one (Some b) e = (b, refl)
+-- its file server waits for a client, or its volume server for a server
+abbrev pub IsLate : NodeHost → Node → Type 0
+IsLate h callee = ((b : BackCall) × (h.state.file.backs.calls callee ≡ Some b)) ⊎ ((h.state.file.backs.calls callee ≡ None) × ((c : PieceCall) × (h.state.vol.calls callee ≡ Some c)))
 
-called_none : (o : Option BackCall) → is_some o ≡ false → o ≡ None
-called_none None e = refl
-called_none (Some b) e = absurd cc
+abbrev pub IsIdle : NodeHost → Node → Type 0
+IsIdle h callee = (h.state.file.backs.calls callee ≡ None) × (h.state.vol.calls callee ≡ None)
 
-pub waits_some : {D : Type 0} (r : ServerRunning D) (h : ServerHost) (callee : Node) → IsUp r h → waits_for r callee ≡ true → (b : BackCall) × (h.state.backs.calls callee ≡ Some b)
-waits_some {D} r h callee up waits =
-    let b = called_one (call_to r.memory.callees callee) waits in
-    (b.0, ap (λ (s : ServerState). s.backs.calls callee) up.state ∙ b.1)
+late_by : (o : Option BackCall) (p : Option Piece) → (is_some o || is_some p) ≡ true → ((b : BackCall) × (o ≡ Some b)) ⊎ ((o ≡ None) × ((c : PieceCall) × (call_or_none p ≡ Some c)))
+late_by (Some b) p e = inl (b, refl)
+late_by None (Some p) e = inr (refl, (call_seen p, refl))
+late_by None None e = absurd cc
 
-pub waits_none : {D : Type 0} (r : ServerRunning D) (h : ServerHost) (callee : Node) → IsUp r h → waits_for r callee ≡ false → h.state.backs.calls callee ≡ None
-waits_none {D} r h callee up waits = ap (λ (s : ServerState). s.backs.calls callee) up.state ∙ called_none (call_to r.memory.callees callee) waits
+idle_by : (o : Option BackCall) (p : Option Piece) → (is_some o || is_some p) ≡ false → (o ≡ None) × (call_or_none p ≡ None)
+idle_by (Some b) p e = absurd cc
+idle_by None (Some p) e = absurd cc
+idle_by None None e = (refl, refl)
+
+pub waits_late : {D : Type 0} (r : ServerRunning D) (h : NodeHost) (callee : Node) → IsUp r h → waits_for r callee ≡ true → IsLate h callee
+waits_late {D} r h callee up waits = as_up r h (λ (x : NodeHost). IsLate x callee) up (late_by (call_to r.memory.file.callees callee) (call_to r.memory.vol.callees callee) waits)
+
+pub waits_idle : {D : Type 0} (r : ServerRunning D) (h : NodeHost) (callee : Node) → IsUp r h → waits_for r callee ≡ false → IsIdle h callee
+waits_idle {D} r h callee up waits = as_up r h (λ (x : NodeHost). IsIdle x callee) up (idle_by (call_to r.memory.file.callees callee) (call_to r.memory.vol.callees callee) waits)
+
+-- ---- a call of it waited too long
+
+piece_of : (p : Option Piece) (c : PieceCall) → call_or_none p ≡ Some c → (x : Piece) × ((p ≡ Some x) × (call_seen x ≡ c))
+piece_of None c e = absurd cc
+piece_of (Some x) c e = (x, (refl, some_is (call_seen x) c e))
+
+module _ {D : Type 0} (old new : ServerRunning D) (clock : ℕ) (callee : Node) (r : Outs × List Parcel) (armed : new.armed ≡ old.armed) where
+  pub late_break_up : ((b : BackCall) → call_to old.memory.file.callees callee ≡ Some b → MakesNode (node_back_timeout_row old.store.node (node_seen old.memory old.store) clock callee b) [] new.memory new.store r.0 r.1) →
+      (h : NodeHost) → IsUp old h → (b : BackCall) → h.state.file.backs.calls callee ≡ Some b → IsStepUp new [] (with_behind r) (node_timed_out old.store.node h clock callee b)
+  late_break_up makes h up =
+      as_up old h (λ (x : NodeHost). (b : BackCall) → x.state.file.backs.calls callee ≡ Some b → IsStepUp new [] (with_behind r) (node_timed_out old.store.node x clock callee b)) up
+      (λ b called. made_up (node_back_timeout_row old.store.node (node_seen old.memory old.store) clock callee b) [] new r old.armed (makes b called) armed)
+
+  pub late_piece_up : (call_to old.memory.file.callees callee ≡ None → (c : Piece) → call_to old.memory.vol.callees callee ≡ Some c → MakesNode (piece_timeout_row old.store.node (node_seen old.memory old.store) clock callee (call_seen c)) [] new.memory new.store r.0 r.1) →
+      (h : NodeHost) → IsUp old h → h.state.file.backs.calls callee ≡ None → (c : PieceCall) → h.state.vol.calls callee ≡ Some c → IsStepUp new [] (with_behind r) (piece_timed_out old.store.node h clock callee c)
+  late_piece_up makes h up =
+      as_up old h (λ (x : NodeHost). x.state.file.backs.calls callee ≡ None → (c : PieceCall) → x.state.vol.calls callee ≡ Some c → IsStepUp new [] (with_behind r) (piece_timed_out old.store.node x clock callee c)) up
+      (λ none c called.
+      let p = piece_of (call_to old.memory.vol.callees callee) c called in
+      made_up (piece_timeout_row old.store.node (node_seen old.memory old.store) clock callee c) [] new r old.armed
+      (subst (λ (y : PieceCall). MakesNode (piece_timeout_row old.store.node (node_seen old.memory old.store) clock callee y) [] new.memory new.store r.0 r.1) p.1.1 (makes none p.0 p.1.0)) armed)
+
+  pub woken_up : MakesNode (node_wake_row old.store.node (node_seen old.memory old.store) clock) [] new.memory new.store r.0 r.1 → (h : NodeHost) → IsUp old h → IsStepUp new [] (with_behind r) (node_woken old.store.node h clock)
+  woken_up makes h up =
+      as_up old h (λ (x : NodeHost). IsStepUp new [] (with_behind r) (node_woken old.store.node x clock)) up (made_up (node_wake_row old.store.node (node_seen old.memory old.store) clock) [] new r old.armed makes armed)

@@ -17,8 +17,8 @@ use Rattle.afs_rows.specs.LocRow.{loc_decides, loc_device_calls}
 use Rattle.afs_rows.specs.LocSteps.{loc_kind, LocHost}
 use Rattle.afs_locdb.specs.Handling.{loc_calls_served, IsClosed}
 use Rattle.afs_locdb.specs.Seen.{loc_seen}
-use Rattle.afs_server.specs.declared.faults.NodeFault.{NodeFault}
-use Rattle.afs_server.specs.declared.faults.NodeFault.TheVariants as nodes
+use Rattle.afs_server_parts.specs.declared.faults.NodeFault.{NodeFault}
+use Rattle.afs_server_parts.specs.declared.faults.NodeFault.TheVariants as nodes
 use Rattle.afs_host.specs.LocSeats.{loc_disk_of, DatabaseRunning, IsLocSame, IsLocStepDown, IsLocStepUp, IsLocUp, LocGoesOn}
 use Rattle.afs_host.specs.LocStanding.{LocLies, LocLiesAs}
 use Rattle.afs_host.specs.Seats.{Resting}

@@ -1,7 +1,7 @@
--- The place of a file server: the host that it is, up or down, its disk, and what the next input may rely on.
+-- The place of a server node: the host that it is, up or down, its disk, and what the next input may rely on.
 use Rattle.std.specs.Prelude.{◌≡◌, ◌≤◌, ◌+◌, ◌*◌, ℕ, List, Option, length}
 use Rattle.afs_num.specs.declared.types.Node.{Node}
-use Rattle.afs_rows.specs.ServerHosts.{ServerHost}
+use Rattle.afs_volrows.specs.NodeHosts.{NodeHost}
 use Rattle.afs_host.specs.Seats.{CanRun, IsDown, IsUp, Resting, ServerRunning}
 use Rattle.afs_host.specs.declared.seats.Seat.{Seat}
 use Rattle.afs_host.specs.declared.seats.Seat.TheVariants.{Up, Down}
@@ -10,7 +10,7 @@ abbrev pub ServerSeat : Type 0 → Type 0
 ServerSeat D = Seat (ServerRunning D) (Resting D)
 
 -- the server that is this node is the host, up or down
-abbrev pub IsHost : {D : Type 0} → (D → Option (List ℕ)) → (D → List ℕ → Type 0) → (D → ℕ) → Node → ServerSeat D → ServerHost → Type 0
+abbrev pub IsHost : {D : Type 0} → (D → Option (List ℕ)) → (D → List ℕ → Type 0) → (D → ℕ) → Node → ServerSeat D → NodeHost → Type 0
 IsHost {D} seen may_leave limit me (Up r) h = IsUp r h
 IsHost {D} seen may_leave limit me (Down s) h = IsDown seen may_leave limit me s h
 
@@ -20,7 +20,7 @@ pub record IsReady {D : Type 0} (me : Node) (entries : ℕ) (r : ServerRunning D
   pub node : r.store.node ≡ me
   pub can_run : CanRun r
   pub calls_drawn : r.store.drawn ≤ 204 * (entries + 1)
-  pub breaks_drawn : r.memory.lists.last_owed + length r.memory.lists.promises ≤ 50 * (entries + 1)
+  pub breaks_drawn : r.memory.file.lists.last_owed + length r.memory.file.lists.promises ≤ 50 * (entries + 1)
   pub device_calls : r.store.disk.calls ≤ 12 + 4 * entries
 
 abbrev pub IsReadySeat : {D : Type 0} → Node → ℕ → ServerSeat D → Type 0

@@ -1,4 +1,4 @@
--- What becomes of a server that is up and is given a message.
+-- What becomes of a server node that is up and is given a message.
 use Rattle.std.specs.Prelude.{◌≡◌, ◌≤◌, ◌⊎◌, ◌↔◌, ℕ, ◌+◌, ◌-◌, List, [], ◌∷◌, Bool, true, Option, Some, Result, Ok, Err, IfSome, IsSome}
 use Rattle.afs_num.specs.declared.messages.Message.{Message}
 use Rattle.afs_num.specs.declared.messages.Received.{Received}
@@ -11,14 +11,15 @@ use Rattle.afs_disk.specs.Disk.{IsBeyond, LeavesJust, Rose, Trips}
 use Rattle.afs_disk.specs.declared.disk.Disk.{Ghosts}
 use Rattle.afs_journal.specs.Left.{is_left_whole, ReachesCall}
 use Rattle.afs_journal.specs.Records.{whole_records}
-use Rattle.afs_model.specs.Messages.{received, received_by}
+use Rattle.afs_model.specs.Messages.{received}
 use Rattle.afs_rows.specs.Hosts.{fall_line, given, in_step, served, steady, Armed, Blow, GivesOut, Host, HostStep, IsLuck, Kind, Luck}
-use Rattle.afs_rows.specs.ServerHosts.{server_kind, ServerHost}
-use Rattle.afs_rows.specs.ServerRow.{decides, device_calls}
-use Rattle.afs_server.specs.Handling.{calls_served, server_seen, IsClosed}
-use Rattle.afs_server.specs.declared.faults.NodeFault.{NodeFault}
-use Rattle.afs_server.specs.declared.faults.NodeFault.TheVariants as nodes
-use Rattle.afs_host.specs.Seats.{disk_of, GoesOn, IsSame, IsStepDown, IsStepUp, IsUp, Resting, ServerRunning}
+use Rattle.afs_server_parts.specs.declared.faults.NodeFault.{NodeFault}
+use Rattle.afs_server_parts.specs.declared.faults.NodeFault.TheVariants as nodes
+use Rattle.afs_num.specs.declared.types.Parcel.{Parcel}
+use Rattle.afs_volrows.specs.NodeHosts.{node_kind, NodeHost}
+use Rattle.afs_volrows.specs.VolSteps.{node_device_calls}
+use Rattle.afs_node.specs.Seen.{node_found, node_seen, ClosesStored}
+use Rattle.afs_host.specs.Seats.{disk_of, with_behind, GoesOn, IsSame, IsStepDown, IsStepUp, IsUp, Resting, ServerRunning}
 use Rattle.afs_host.specs.Setting.{pick_of, stops_now}
 use Rattle.afs_host.specs.Standing.{Lies, LiesAs}
 use Rattle.afs_host.specs.Views.{count_mark, shown_store, StoreView}
@@ -47,11 +48,11 @@ pub record HasServed {S : Type 0} (kind : Kind S) (h : Host S) (clock place : �
 -- this out after the line of the place; or it went down, and that line and this are all. Or memory ran out, and it is as it was.
 abbrev pub IsServed : {D : Type 0} → Ghosts D → ServerRunning D → ℕ → Received → Served (ServerRunning D) D → Type 0
 IsServed {D} w old clock found (is_up r outs) =
-    (h : ServerHost) → IsUp old h → (m : Message) → found ≡ Whole m → (place : ℕ) →
-    HasServed (server_kind old.store.node) h clock place m (IsStepUp r (lines.Given place ∷ []) outs) (Rose (w.faults (disk_of old)) (w.faults (disk_of r)))
+    (h : NodeHost) → IsUp old h → (m : Message) → found ≡ Whole m → (place : ℕ) →
+    HasServed (node_kind old.store.node) h clock place m (IsStepUp r (lines.Given place ∷ []) outs) (Rose (w.faults (disk_of old)) (w.faults (disk_of r)))
 IsServed {D} w old clock found (is_down s line) =
-    (h : ServerHost) → IsUp old h → (m : Message) → found ≡ Whole m → (place : ℕ) →
-    HasServed (server_kind old.store.node) h clock place m (IsStepDown w.seen w.may_leave w.limit old.store.node s (lines.Given place ∷ line ∷ [])) (Rose (w.faults (disk_of old)) (w.faults s.disk))
+    (h : NodeHost) → IsUp old h → (m : Message) → found ≡ Whole m → (place : ℕ) →
+    HasServed (node_kind old.store.node) h clock place m (IsStepDown w.seen w.may_leave w.limit old.store.node s (lines.Given place ∷ line ∷ [])) (Rose (w.faults (disk_of old)) (w.faults s.disk))
 IsServed {D} w old clock found (unchanged r) =
     IsSame w.seen w.left_by w.size w.may_leave w.moment w.left_since old r
 
@@ -59,7 +60,7 @@ IsServed {D} w old clock found (unchanged r) =
 -- message.
 abbrev pub MakesRow : {D : Type 0} → ServerRunning D → ℕ → List ℕ → Served (ServerRunning D) D → Type 0
 MakesRow {D} old clock bytes (is_up r outs) =
-    (h : ServerHost) → IsUp old h → (place : ℕ) → IsStepUp r (lines.Given place ∷ []) outs (given (server_kind old.store.node) h clock place (received_by calls_served bytes))
+    (h : NodeHost) → IsUp old h → (place : ℕ) → IsStepUp r (lines.Given place ∷ []) outs (given (node_kind old.store.node) h clock place (node_found bytes))
 MakesRow {D} old clock bytes (is_down s line) = (m : Message) × (received bytes ≡ Whole m)
 MakesRow {D} old clock bytes (unchanged r) = Unit {0}
 
@@ -70,12 +71,12 @@ MakesRow {D} old clock bytes (unchanged r) = Unit {0}
 -- it was set, what a crash with each pick leaves is told by that call.
 pub record IsBroken {D : Type 0} (w : Ghosts D) (old : ServerRunning D) (clock : ℕ) (found : Received) (new : ServerRunning D) : Type 0 where
   pub armed : new.armed ≡ old.armed
-  pub closed : IsClosed old.store new.store
-  pub lies : (m : Message) (b : Blow) → found ≡ Whole m → IsSome (w.seen (disk_of new)) → (c : List ℕ) → w.may_leave (disk_of new) c → Lies old.store.node (server_seen old.memory old.store) (in_step m clock b) (count_mark old.store.count) c
+  pub closed : ClosesStored old.store new.store
+  pub lies : (m : Message) (b : Blow) → found ≡ Whole m → IsSome (w.seen (disk_of new)) → (c : List ℕ) → w.may_leave (disk_of new) c → Lies old.store.node (node_seen old.memory old.store) (in_step m clock b) (count_mark old.store.count) c
   pub reached : ReachesCall (record { stop = old.store.disk.stop; fail = old.store.disk.fail }) old.store.disk.calls new.store.disk.calls
   pub left : (m : Message) (b : Blow) → found ≡ Whole m → IsSome (w.seen (disk_of new)) → Trips (record { stop = old.store.disk.stop; fail = old.store.disk.fail }) new.store.disk.calls → (pick : ℕ) (c : List ℕ) → w.left_by (disk_of new) pick ≡ Some c
-      → LiesAs old.store.node (server_seen old.memory old.store) (in_step m clock b) (count_mark old.store.count) (is_left_whole (new.store.disk.calls - old.store.disk.calls) pick) (whole_records c)
-  pub saves : (m : Message) → found ≡ Whole m → device_calls (server_seen old.memory old.store) clock (decides old.store.node (server_seen old.memory old.store) clock (Whole m)) ≡ 4
+      → LiesAs old.store.node (node_seen old.memory old.store) (in_step m clock b) (count_mark old.store.count) (is_left_whole (new.store.disk.calls - old.store.disk.calls) pick) (whole_records c)
+  pub saves : (m : Message) → found ≡ Whole m → node_device_calls old.store.node (node_seen old.memory old.store) clock (Whole m) ≡ 4
   pub few : new.store.disk.calls ≤ old.store.disk.calls + 4
   pub stop : new.store.disk.stop ≡ old.store.disk.stop
   pub fail : new.store.disk.fail ≡ old.store.disk.fail
@@ -83,17 +84,17 @@ pub record IsBroken {D : Type 0} (w : Ghosts D) (old : ServerRunning D) (clock :
   pub capacity : old.store.durable.capacity ≡ w.limit (disk_of new)
 
 -- of a server that was given a message, as long as it is one
-abbrev pub IsHandled : {D : Type 0} → Ghosts D → ServerRunning D → ℕ → Received → ServerRunning D → Result Outs NodeFault → Type 0
-IsHandled {D} w old clock found new (Ok outs) =
-    ((h : ServerHost) → IsUp old h → (m : Message) → found ≡ Whole m → (place : ℕ) → IsStepUp new (lines.Given place ∷ []) outs (served (server_kind old.store.node) h clock place steady m)) × GoesOn 4 50 old new
+abbrev pub IsHandled : {D : Type 0} → Ghosts D → ServerRunning D → ℕ → Received → ServerRunning D → Result (Outs × List Parcel) NodeFault → Type 0
+IsHandled {D} w old clock found new (Ok r) =
+    ((h : NodeHost) → IsUp old h → (m : Message) → found ≡ Whole m → (place : ℕ) → IsStepUp new (lines.Given place ∷ []) (with_behind r) (served (node_kind old.store.node) h clock place steady m)) × GoesOn 4 50 old new
 IsHandled {D} w old clock found new (Err nodes.OutOfMemory) =
     IsSame w.seen w.left_by w.size w.may_leave w.moment w.left_since old new × GoesOn 4 50 old new
 IsHandled {D} w old clock found new (Err nodes.Down) = IsBroken w old clock found new
 
 -- the row's step was made, whatever the bytes were; or their message's was ended
-abbrev pub RunsRow : {D : Type 0} → ServerRunning D → ℕ → List ℕ → ServerRunning D → Result Outs NodeFault → Type 0
-RunsRow {D} old clock bytes new (Ok outs) =
-    (h : ServerHost) → IsUp old h → (place : ℕ) → IsStepUp new (lines.Given place ∷ []) outs (given (server_kind old.store.node) h clock place (received_by calls_served bytes))
+abbrev pub RunsRow : {D : Type 0} → ServerRunning D → ℕ → List ℕ → ServerRunning D → Result (Outs × List Parcel) NodeFault → Type 0
+RunsRow {D} old clock bytes new (Ok r) =
+    (h : NodeHost) → IsUp old h → (place : ℕ) → IsStepUp new (lines.Given place ∷ []) (with_behind r) (given (node_kind old.store.node) h clock place (node_found bytes))
 RunsRow {D} old clock bytes new (Err nodes.OutOfMemory) = Unit {0}
 RunsRow {D} old clock bytes new (Err nodes.Down) = (m : Message) × (received bytes ≡ Whole m)
 
@@ -114,13 +115,13 @@ pub record HasGoneDown {D : Type 0} (seen : D → Option (List ℕ)) (left_by : 
   pub same_faults : faults s.disk ≡ faults v.fuse.disk
   pub same_limit : limit s.disk ≡ limit v.fuse.disk
 
--- so a file server went down
+-- so a server node went down
 abbrev pub HasFallen : {D : Type 0} → (D → Option (List ℕ)) → (D → ℕ → Option (List ℕ)) → (D → List ℕ → Type 0) → (D → ℕ) → (D → ℕ) → ServerRunning D → Resting D → Line → Type 0
 HasFallen {D} seen left_by may_leave faults limit r s line = HasGoneDown seen left_by may_leave faults limit (shown_store r.store) r.armed s line
 
 -- It is so, whatever became of the server: where its disk ended the step, that is what is left of it once it has fallen.
-abbrev pub Becomes : {D : Type 0} → Ghosts D → (Served (ServerRunning D) D → Type 0) → ServerRunning D → Result Outs NodeFault → Type 0
-Becomes {D} w Is new (Ok outs) = Is (is_up new outs)
+abbrev pub Becomes : {D : Type 0} → Ghosts D → (Served (ServerRunning D) D → Type 0) → ServerRunning D → Result (Outs × List Parcel) NodeFault → Type 0
+Becomes {D} w Is new (Ok r) = Is (is_up new (with_behind r))
 Becomes {D} w Is new (Err nodes.OutOfMemory) = Is (unchanged new)
 Becomes {D} w Is new (Err nodes.Down) = (s : Resting D) (line : Line) → HasFallen w.seen w.left_by w.may_leave w.faults w.limit new s line → Is (is_down s line)
 

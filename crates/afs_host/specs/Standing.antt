@@ -1,4 +1,4 @@
--- What the disk of a node that is down stands for, of whatever kind the node is; and that of a file server.
+-- What the disk of a node that is down stands for, of whatever kind the node is; and that of a server node.
 use Rattle.std.specs.Prelude.{◌≡◌, ◌⊎◌, ◌+◌, ℕ, List, [], ◌∷◌, ◌++◌, Bool, true, false, Option, Some, None}
 use Rattle.afs_num.specs.declared.messages.Message.{Message}
 use Rattle.afs_num.specs.declared.messages.Received.TheVariants.{Whole}
@@ -9,16 +9,16 @@ use Rattle.afs_history.specs.declared.lines.Line.{Line}
 use Rattle.afs_journal.specs.Records.{whole_records}
 use Rattle.afs_records.specs.Durable.{mark_of, Durable}
 use Rattle.afs_rows.specs.Hosts.{at_rest, begun_from, in_boot, in_step, Fall, Kind, MayFind}
-use Rattle.afs_rows.specs.ServerHosts.{server_kind}
-use Rattle.afs_rows.specs.ServerRow.{decides}
-use Rattle.afs_rows.specs.States.{Lasting, ServerState}
+use Rattle.afs_rows.specs.States.{Lasting}
 use Rattle.afs_memory.specs.declared.prepared.Prepared.{Prepared}
 use Rattle.afs_store.specs.Folding.{Folding}
 use Rattle.afs_store.specs.Stores.{StandFor}
 use Rattle.afs_volstore.specs.VolumeFold.{volume_fold}
 use Rattle.afs_volstore.specs.declared.held.Held.{Held}
-use Rattle.afs_server.specs.Handling.{record_decided}
 use Rattle.afs_server.specs.Seen.{begun_state, lasting_of}
+use Rattle.afs_volrows.specs.NodeHosts.{node_kind}
+use Rattle.afs_volrows.specs.VolStates.{fresh_vol, NodeState}
+use Rattle.afs_node.specs.Handling.{node_record}
 
 -- ---- a node of any kind
 
@@ -76,29 +76,33 @@ IsKeptFound k s fall mark records = (after : Bool) × (MayFind fall after × IsK
 abbrev pub IsKeptIn : {R T M P L S : Type 0} → Keeping R T M P L S → S → Fall → Mark → List (List ℕ) → Type 0
 IsKeptIn k s fall mark records = LiesBefore k s mark records ⊎ LiesAfter k s fall mark records
 
--- ---- a file server
+-- ---- a server node
 
-abbrev pub server_keeping : Node → Keeping StoreRecord Durable Held Prepared Lasting ServerState
+-- over what a restart finds: the volume server begins with the callers to whom the disk keeps replies
+abbrev pub begun_node : Durable → NodeState
+begun_node d = record { file = begun_state d; vol = fresh_vol (lasting_of d).kept }
+
+abbrev pub server_keeping : Node → Keeping StoreRecord Durable Held Prepared Lasting NodeState
 server_keeping me = record {
-  kind = server_kind me;
+  kind = node_kind me;
   fold = volume_fold;
   read = lasting_of;
-  lasting = λ s. s.lasting;
+  lasting = λ s. s.file.lasting;
   capacity = λ l. l.capacity;
   boot = λ l. l.boot;
-  decided = λ s clock m. record_decided s.lasting.boot clock (decides me s clock (Whole m));
-  begun = begun_state;
+  decided = λ s clock m. node_record me s clock (Whole m);
+  begun = begun_node;
 }
 
-abbrev pub LiesAs : Node → ServerState → Fall → Mark → Bool → List (List ℕ) → Type 0
+abbrev pub LiesAs : Node → NodeState → Fall → Mark → Bool → List (List ℕ) → Type 0
 LiesAs me s fall mark after records = IsKeptAs (server_keeping me) s fall mark after records
 
-abbrev pub LiesFound : Node → ServerState → Fall → Mark → List (List ℕ) → Type 0
+abbrev pub LiesFound : Node → NodeState → Fall → Mark → List (List ℕ) → Type 0
 LiesFound me s fall mark records = IsKeptFound (server_keeping me) s fall mark records
 
-abbrev pub LiesIn : Node → ServerState → Fall → Mark → List (List ℕ) → Type 0
+abbrev pub LiesIn : Node → NodeState → Fall → Mark → List (List ℕ) → Type 0
 LiesIn me s fall mark records = IsKeptIn (server_keeping me) s fall mark records
 
 -- so it is of the whole records of these bytes
-abbrev pub Lies : Node → ServerState → Fall → Mark → List ℕ → Type 0
+abbrev pub Lies : Node → NodeState → Fall → Mark → List ℕ → Type 0
 Lies me s fall mark bytes = LiesIn me s fall mark (whole_records bytes)

@@ -5,7 +5,7 @@ use Rattle.afs_num.specs.declared.types.Node.{Node}
 use Rattle.afs_disk.specs.Fuses.{Fused}
 use Rattle.afs_store.specs.Folding.{Folding}
 use Rattle.afs_store.specs.Stores.{StoreOf}
-use Rattle.afs_volstore.specs.Stores.{Store}
+use Rattle.afs_volstore.specs.Stores.{recorded, Store}
 use Rattle.afs_volstore.specs.VolumeFold.{volume_fold}
 use Rattle.afs_locstore.specs.LocFold.{loc_fold}
 use Rattle.afs_locdb.specs.Seen.{Database}
@@ -29,7 +29,7 @@ shown_by k s = record { fuse = s.disk; node = s.node; closed = s.closed; count =
 
 -- a file server's
 abbrev pub shown_store : {D : Type 0} → Store (Fused D) → StoreView D
-shown_store {D} s = shown_by volume_fold s
+shown_store {D} s = shown_by volume_fold (recorded s)
 
 -- and the location database's
 abbrev pub shown_database : {D : Type 0} → Database (Fused D) → StoreView D

@@ -10,8 +10,7 @@ use crate::serving::CALLS_OF_A_RECORD;
 use afs_disk::{Disk, Fuse};
 use afs_history::lines::Outs;
 use afs_locdb::LocDb;
-use afs_locdb::faults::NodeFault as DatabaseFault;
-use afs_server::faults::NodeFault;
+use afs_server_parts::faults::NodeFault;
 
 impl<D: Disk> Running<(), LocDb<Fuse<D>>> {
     /// The database is given the bytes of a message. Where its disk ended the step, it is to fall.
@@ -45,8 +44,8 @@ impl<D: Disk> Running<(), LocDb<Fuse<D>>> {
                 self.armed = self.armed.lowered(made as u64 * CALLS_OF_A_RECORD);
                 Ok(outs)
             }
-            Err(DatabaseFault::OutOfMemory) => Err(NodeFault::OutOfMemory),
-            Err(DatabaseFault::Down) => Err(NodeFault::Down),
+            Err(NodeFault::OutOfMemory) => Err(NodeFault::OutOfMemory),
+            Err(NodeFault::Down) => Err(NodeFault::Down),
         }
     }
 }

@@ -1,4 +1,4 @@
-//! A node of a cell with its disk, up or down; and a file server and the location database as such nodes: what they are given, how they
+//! A node of a cell with its disk, up or down; and a server node and the location database as such nodes: what they are given, how they
 //! go down, and how they begin again. Each call is the step of its host.
 #![tactic(auto)]
 

@@ -13,7 +13,7 @@ use crate::stores::OnDisk;
 use afs_disk::{Disk, Fuse};
 use afs_history::lines::Line;
 use afs_locdb::LocDb;
-use afs_server::FileServer;
+use afs_node::ServerNode;
 use afs_volstore::VolStore;
 use std::marker::Model;
 
@@ -25,8 +25,8 @@ pub struct Running<N, T: OnDisk> {
     pub(crate) armed: Armed,
 }
 
-/// A file server that is up, over such a disk.
-pub type ServerRunning<D> = Running<FileServer, VolStore<Fuse<D>>>;
+/// A server node that is up, over such a disk.
+pub type ServerRunning<D> = Running<ServerNode, VolStore<Fuse<D>>>;
 
 /// The location database that is up, over such a disk: all that it has in memory is in its store.
 pub type DatabaseRunning<D> = Running<(), LocDb<Fuse<D>>>;

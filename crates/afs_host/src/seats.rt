@@ -10,7 +10,7 @@ pub enum Seat<U, R> {
     Down(R),
 }
 
-/// The place of a file server over such a disk.
+/// The place of a server node over such a disk.
 pub type ServerSeat<D> = Seat<ServerRunning<D>, Resting<D>>;
 
 /// The place of the location database over such a disk.

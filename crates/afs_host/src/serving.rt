@@ -1,4 +1,4 @@
-//! A server that is up is given a message.
+//! A server node that is up is given a message.
 
 ghost use Rattle.std.specs.Prelude.{◌≡◌, ◌≤◌, ◌↔◌, IsSome};
 ghost use Rattle.afs_model.specs.Messages.{received};
@@ -9,18 +9,20 @@ ghost use Rattle.afs_host.specs.Serving.{disk_served, Becomes, GoesOnServed, IsH
 use crate::running::Running;
 use afs_disk::{Disk, Fuse};
 use afs_history::lines::Outs;
-use afs_server::FileServer;
-use afs_server::faults::NodeFault;
+use afs_node::ServerNode;
+use afs_num::types::Parcels;
+use afs_server_parts::faults::NodeFault;
 use afs_volstore::VolStore;
 
 /// How many device calls a record takes.
 pub(crate) const CALLS_OF_A_RECORD: u64 = 4;
 
-impl<D: Disk> Running<FileServer, VolStore<Fuse<D>>> {
-    /// The server is given the bytes of a message, at this time in ticks. Where its disk ended the step, it is to fall.
-    pub fn serve(&mut self, bytes: &[u8], now: u32) -> Result<Outs, NodeFault>
+impl<D: Disk> Running<ServerNode, VolStore<Fuse<D>>> {
+    /// The node is given the bytes of a message, at this time in ticks: a client's is its file server's, every other its volume server's.
+    /// The messages beside what the step gives out go behind that. Where its disk ended the step, the node is to fall.
+    pub fn serve(&mut self, bytes: &[u8], now: u32) -> Result<(Outs, Parcels), NodeFault>
         requires can_run { CanRun self.old }
-        requires draws { CanDraw self.old.memory self.old.store.drawn }
+        requires draws { CanDraw self.old.memory.file self.old.store.drawn }
         requires now { now ≤ 1000000000 }
         ensures served { Becomes D.Disk (λ s. IsServed D.Disk self.old now (received bytes.now) s) self.new result }
         ensures row { Becomes D.Disk (λ s. MakesRow self.old now bytes.now s) self.new result }
@@ -34,10 +36,10 @@ impl<D: Disk> Running<FileServer, VolStore<Fuse<D>>> {
         self.handle(bytes, now)
     }
 
-    /// The server is given these bytes. A step that passed lowers what the disk is set to by its device calls.
-    fn handle(&mut self, bytes: &[u8], now: u32) -> Result<Outs, NodeFault>
+    /// The node is given these bytes. A step that passed lowers what the disk is set to by its device calls.
+    fn handle(&mut self, bytes: &[u8], now: u32) -> Result<(Outs, Parcels), NodeFault>
         requires can_run { CanRun self.old }
-        requires draws { CanDraw self.old.memory self.old.store.drawn }
+        requires draws { CanDraw self.old.memory.file self.old.store.drawn }
         requires now { now ≤ 1000000000 }
         ensures handled { IsHandled D.Disk self.old now (received bytes.now) self.new result }
         ensures row { RunsRow self.old now bytes.now self.new result }
@@ -47,10 +49,10 @@ impl<D: Disk> Running<FileServer, VolStore<Fuse<D>>> {
     {
         let before = self.store.mark().records;
         match self.memory.handle(&mut self.store, bytes, now) {
-            Ok(outs) => {
+            Ok(given) => {
                 let made = self.store.mark().records.saturating_sub(before);
                 self.armed = self.armed.lowered(made as u64 * CALLS_OF_A_RECORD);
-                Ok(outs)
+                Ok(given)
             }
             Err(NodeFault::OutOfMemory) => Err(NodeFault::OutOfMemory),
             Err(NodeFault::Down) => Err(NodeFault::Down),

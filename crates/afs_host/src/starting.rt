@@ -1,11 +1,11 @@
-//! A server that is down begins again.
+//! A server node that is down begins again.
 
 ghost use Rattle.std.specs.Prelude.{◌≡◌, ◌≤◌, ◌<◌, ◌+◌, ◌↔◌, ◌++◌, ◌∷◌, [], ℕ, List, None, false, vec_capacity, vec_len, IfOk, IsSome};
 ghost use Rattle.afs_num.specs.Nodes.{IsNode};
 ghost use Rattle.afs_history.specs.declared.lines.Line.TheVariants as lines;
-ghost use Rattle.afs_rows.specs.States.{ServerState};
 ghost use Rattle.afs_rows.specs.Steps.{Begun};
-ghost use Rattle.afs_volstore.specs.Stores.{IsCounted};
+ghost use Rattle.afs_volrows.specs.VolStates.{NodeState};
+ghost use Rattle.afs_volstore.specs.Stores.{recorded, IsCounted};
 ghost use Rattle.afs_host.specs.Standing.{server_keeping};
 ghost use Rattle.afs_host.specs.Starting.{disk_started, BootsFrom, BootsOver, GoesOnBooted, GoesOnStarted, IsFound, IsRefused, IsStarted, Rises, StartsOver, Stays};
 
@@ -14,11 +14,11 @@ use crate::running::{Running, ServerRunning};
 use crate::stores::OnDisk;
 use afs_disk::{Disk, Fuse};
 use afs_history::lines::{Line, Lines, Outs};
+use afs_node::ServerNode;
 use afs_num::faults::StoreFault;
 use afs_num::records::Mark;
 use afs_num::sequences::Sequence;
 use afs_num::types::{Mem, Node};
-use afs_server::FileServer;
 use afs_volstore::VolStore;
 use std::alloc::{AllocError, Global};
 
@@ -63,10 +63,10 @@ pub(crate) fn with_line(lines: Vec<Line>, last: Line) -> Lines
     }
 }
 
-/// What a restart gives out: the lines with which it began, that the node is up, and what its step gives out now.
-fn risen(front: Vec<Line>, node: Node, boot: u32, outs: Outs) -> Mem<Outs>
+/// What a restart gives out: the lines with which it began, that the node is up, which volumes vanished, and what its step gives out now.
+fn risen(front: Vec<Line>, node: Node, boot: u32, vanished: Lines, outs: Outs) -> Mem<Outs>
     requires { vec_len front < vec_capacity front }
-    ensures lines { IfOk result (λ o. o.lines ≡ front.items ++ lines.Restart node boot ∷ outs.lines) }
+    ensures lines { IfOk result (λ o. o.lines ≡ front.items ++ lines.Restart node boot ∷ (vanished ++ outs.lines)) }
     ensures parcels { IfOk result (λ o. o.parcels ≡ outs.parcels) }
 {
     let front = with_line(front, Line::Restart { node, boot });
@@ -75,6 +75,8 @@ fn risen(front: Vec<Line>, node: Node, boot: u32, outs: Outs) -> Mem<Outs>
         lines: owed,
     } = outs;
     let mut all = front.into_vec();
+    let mut gone = vanished.into_vec();
+    all.append(&mut gone)?;
     let mut owed = owed.into_vec();
     all.append(&mut owed)?;
     Ok(Outs {
@@ -83,11 +85,13 @@ fn risen(front: Vec<Line>, node: Node, boot: u32, outs: Outs) -> Mem<Outs>
     })
 }
 
-/// The server is up, over a store that has begun its boot. Where memory runs out the record of that stands on the disk, untold.
+/// The node is up, over a store that has begun its boot, with which these volumes vanished. Where memory runs out the record of that stands
+/// on the disk, untold.
 fn rise<D: Disk>(
     alloc: Global,
     mut store: VolStore<Fuse<D>>,
     front: Vec<Line>,
+    vanished: Lines,
     clients: u8,
     now: u32,
 ) -> Start<ServerRunning<D>, Resting<D>>
@@ -96,14 +100,15 @@ fn rise<D: Disk>(
     requires drawn { store.drawn ≡ 0 }
     requires up { store.closed ≡ false }
     requires unset { (store.disk.stop ≡ None) × (store.disk.fail ≡ None) }
+    requires free { store.holds.table ≡ [] }
     requires clients { clients ≤ 16 }
     requires now { now ≤ 1000000000 }
-    ensures { Rises store front.items clients now result }
+    ensures { Rises store front.items vanished clients now result }
 {
     let (node, boot) = (store.node(), store.boot_number());
-    match FileServer::restart(alloc, &mut store, clients, now) {
-        Ok((server, outs)) => match risen(front, node, boot, outs) {
-            Ok(outs) => Start::Up(Running::new(server, store), outs),
+    match ServerNode::restart(alloc, &mut store, clients, now) {
+        Ok((memory, outs)) => match risen(front, node, boot, vanished, outs) {
+            Ok(outs) => Start::Up(Running::new(memory, store), outs),
             Err(_) => Start::Lost(rest_of(store)),
         },
         Err(_) => Start::Lost(rest_of(store)),
@@ -146,9 +151,10 @@ fn boot<D: Disk>(
     requires drawn { store.drawn ≡ 0 }
     requires up { store.closed ≡ false }
     requires unset { (store.disk.stop ≡ None) × (store.disk.fail ≡ None) }
+    requires free { store.holds.table ≡ [] }
     requires clients { clients ≤ 16 }
     requires now { now ≤ 1000000000 }
-    ensures boots { (begun : Begun ServerState) (records : List (List ℕ)) → IsFound (server_keeping store.node) D.Disk begun records front store → BootsFrom D.Disk begun records store.node now clients store.disk.disk result }
+    ensures boots { (begun : Begun NodeState) (records : List (List ℕ)) → IsFound (server_keeping store.node) D.Disk begun records front (recorded store) → BootsFrom D.Disk begun records store.node now clients store.disk.disk result }
     ensures over { BootsOver D.Disk store.durable front store.node now clients (D.faults store.disk.disk) result }
     ensures goes_on { GoesOnBooted store told result }
     ensures told { IsSome (D.seen (disk_started result)) ↔ IsSome (D.seen store.disk.disk) }
@@ -160,8 +166,7 @@ fn boot<D: Disk>(
         return Start::Unchanged(untold(store, told));
     };
     match store.boot() {
-        // A set-up has no volume that vanishes at a boot.
-        Ok(_vanished) => rise(alloc, store, front, clients, now),
+        Ok(vanished) => rise(alloc, store, front, vanished, clients, now),
         Err(StoreFault::Full(_, _)) => stay(store, front, Line::Full { node }),
         Err(StoreFault::Failed) => stay(store, front, Line::Fault { node }),
         Err(StoreFault::OutOfMemory) => Start::Unchanged(untold(store, told)),
@@ -181,7 +186,7 @@ impl<D: Disk> Resting<D> {
         Start::Down(self, told)
     }
 
-    /// The server that is this node begins again, in a cell of so many clients, at this time in ticks. Its disk isn't set. Memory to tell
+    /// The server node that this is begins again, in a cell of so many clients, at this time in ticks. Its disk isn't set. Memory to tell
     /// that the disk failed is taken before the first device call.
     pub fn start(
         self,

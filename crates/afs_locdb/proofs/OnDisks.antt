@@ -11,8 +11,8 @@ use Rattle.afs_rows.specs.ServerRow.{refusal}
 use Rattle.afs_locdb.specs.Handling.{loc_record_decided, Answers}
 use Rattle.afs_locdb.specs.Saving.{IsChangeOf, IsStill, LocStoreOf, Prepares}
 use Rattle.afs_locdb.specs.Seen.{loc_seen, Database}
-use Rattle.afs_locdb.specs.declared.faults.NodeFault.{NodeFault}
-use Rattle.afs_locdb.specs.declared.faults.NodeFault.TheVariants as nodes
+use Rattle.afs_server_parts.specs.declared.faults.NodeFault.{NodeFault}
+use Rattle.afs_server_parts.specs.declared.faults.NodeFault.TheVariants as nodes
 use Rattle.afs_locdb.specs.declared.saving.Planned.{Planned}
 use Rattle.afs_locdb.proofs.Saves.{in_store, is_full, is_roomed}
 use Rattle.afs_locdb.proofs.Still.{behind, is_still, Counts, OfDisk, Same}

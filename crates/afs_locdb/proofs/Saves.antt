@@ -16,8 +16,8 @@ use Rattle.afs_rows.specs.LocSteps.{loc_begun_after}
 use Rattle.afs_locdb.specs.Handling.{loc_record_decided, Answers, IsClosed, IsUntouched}
 use Rattle.afs_locdb.specs.Saving.{Commits, DoesAll, IsChangeOf, IsInterrupted, IsMadeOf, LocStoreOf, Prepares, Puts}
 use Rattle.afs_locdb.specs.Seen.{lasting_of, loc_seen, Database, IsInBoot}
-use Rattle.afs_locdb.specs.declared.faults.NodeFault.{NodeFault}
-use Rattle.afs_locdb.specs.declared.faults.NodeFault.TheVariants as nodes
+use Rattle.afs_server_parts.specs.declared.faults.NodeFault.{NodeFault}
+use Rattle.afs_server_parts.specs.declared.faults.NodeFault.TheVariants as nodes
 use Rattle.afs_locdb.specs.declared.saving.Planned.{Planned}
 use Rattle.afs_locdb.proofs.Kept.{AreToNodes}
 use Rattle.afs_locdb.proofs.Saved.{lasting_left}

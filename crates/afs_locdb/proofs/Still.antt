@@ -15,8 +15,8 @@ use Rattle.afs_store.specs.Stores.{LeftAround}
 use Rattle.afs_locstore.specs.LocFold.{loc_fold}
 use Rattle.afs_locdb.specs.Handling.{IsQuiet, IsWritten}
 use Rattle.afs_locdb.specs.Saving.{calls_for, IsStill, OnDisk, Ran}
-use Rattle.afs_locdb.specs.declared.faults.NodeFault.{NodeFault}
-use Rattle.afs_locdb.specs.declared.faults.NodeFault.TheVariants as nodes
+use Rattle.afs_server_parts.specs.declared.faults.NodeFault.{NodeFault}
+use Rattle.afs_server_parts.specs.declared.faults.NodeFault.TheVariants as nodes
 
 -- a fault is handed up
 pub handed_up : {T : Type 0} (r : Result T NodeFault) (fault : NodeFault) → IsErrAnd r (λ (e : NodeFault). e ≡ fault) → r ≡ Err fault

@@ -26,8 +26,8 @@ use Rattle.afs_locdb.specs.Saving.{calls_for, DoesAll, IsMadeOf, IsStill, KeepsS
 use Rattle.afs_locdb.specs.Seen.{lasting_of, loc_seen, Database, Serves}
 use Rattle.afs_locdb.specs.declared.decided.Decided.{Decided}
 use Rattle.afs_locdb.specs.declared.decided.Decided.TheVariants as decided
-use Rattle.afs_locdb.specs.declared.faults.NodeFault.{NodeFault}
-use Rattle.afs_locdb.specs.declared.faults.NodeFault.TheVariants as nodes
+use Rattle.afs_server_parts.specs.declared.faults.NodeFault.{NodeFault}
+use Rattle.afs_server_parts.specs.declared.faults.NodeFault.TheVariants as nodes
 use Rattle.afs_locdb.proofs.Still.{is_same, OfDisk}
 
 abbrev some : {A : Type 0} → A → Option A

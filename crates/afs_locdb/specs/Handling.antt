@@ -11,8 +11,8 @@ use Rattle.afs_rows.specs.LocRow.{loc_decides, loc_keeps, loc_left, loc_record_o
 use Rattle.afs_rows.specs.LocSteps.{loc_told}
 use Rattle.afs_rows.specs.Steps.{Step}
 use Rattle.afs_locdb.specs.Seen.{loc_seen, Database, IsInBoot}
-use Rattle.afs_locdb.specs.declared.faults.NodeFault.{NodeFault}
-use Rattle.afs_locdb.specs.declared.faults.NodeFault.TheVariants as faults
+use Rattle.afs_server_parts.specs.declared.faults.NodeFault.{NodeFault}
+use Rattle.afs_server_parts.specs.declared.faults.NodeFault.TheVariants as faults
 
 -- the calls that it serves
 abbrev pub loc_calls_served : List ℕ

@@ -20,8 +20,8 @@ use Rattle.afs_store.specs.Stores.{LeftAround, StoreOf}
 use Rattle.afs_locstore.specs.LocFold.{loc_fold}
 use Rattle.afs_locdb.specs.Handling.{loc_done, loc_record_decided, IsClosed, IsDone, IsQuiet, IsUntouched, IsWritten, Makes}
 use Rattle.afs_locdb.specs.Seen.{lasting_of, loc_seen, Database, IsInBoot}
-use Rattle.afs_locdb.specs.declared.faults.NodeFault.{NodeFault}
-use Rattle.afs_locdb.specs.declared.faults.NodeFault.TheVariants as nodes
+use Rattle.afs_server_parts.specs.declared.faults.NodeFault.{NodeFault}
+use Rattle.afs_server_parts.specs.declared.faults.NodeFault.TheVariants as nodes
 use Rattle.afs_locdb.specs.declared.saving.Planned.{Planned}
 
 -- ---- a change

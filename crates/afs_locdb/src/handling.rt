@@ -22,17 +22,17 @@ ghost use Rattle.afs_locdb.specs.Deciding.{decision_of, leaves_disk, CanBeTold, 
 ghost use Rattle.afs_locdb.specs.Handling.{loc_calls_served, loc_decided_then, loc_record_decided, loc_record_then, Does, Handles, IsDone, IsQuiet, IsWritten};
 ghost use Rattle.afs_locdb.specs.Saving.{DoesAll, OnDisk, Ran};
 ghost use Rattle.afs_locdb.specs.Seen.{lasting_of, loc_seen, IsInBoot, Serves};
-ghost use Rattle.afs_locdb.specs.declared.faults.NodeFault.TheVariants as faults;
+ghost use Rattle.afs_server_parts.specs.declared.faults.NodeFault.TheVariants as faults;
 
 use crate::database::LocDb;
 use crate::decided::Decided;
 use crate::deciding::CALLS;
-use crate::faults::NodeFault;
 use afs_disk::Disk;
 use afs_history::lines::Outs;
 use afs_message::messages::read_message;
 use afs_num::messages::{Carried, Message, Received};
 use afs_num::types::{Head, Mem};
+use afs_server_parts::faults::NodeFault;
 
 /// Whether what is decided leaves the disk as it is.
 fn leaves_disk(decided: &Decided) -> bool

@@ -7,7 +7,6 @@ pub mod creating;
 mod database;
 mod decided;
 pub mod deciding;
-pub mod faults;
 mod forms;
 mod fused;
 mod handling;

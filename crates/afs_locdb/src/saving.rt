@@ -19,12 +19,11 @@ ghost use Rattle.afs_locdb.specs.Deciding.{HasForm, IsMadeBy, IsReplyTo};
 ghost use Rattle.afs_locdb.specs.Handling.{loc_record_decided, Answers};
 ghost use Rattle.afs_locdb.specs.Saving.{Commits, DoesAll, IsChangeOf, OnDisk, Prepares, Puts};
 ghost use Rattle.afs_locdb.specs.Seen.{loc_seen, IsInBoot};
-ghost use Rattle.afs_locdb.specs.declared.faults.NodeFault.TheVariants as faults;
+ghost use Rattle.afs_server_parts.specs.declared.faults.NodeFault.TheVariants as faults;
 
 use crate::answering::{reply_to, sent};
 use crate::changes::LocChange;
 use crate::database::LocDb;
-use crate::faults::NodeFault;
 use crate::forms::are_words;
 use crate::operations::NO_ROOM;
 use afs_disk::Disk;
@@ -36,6 +35,7 @@ use afs_num::faults::StoreFault;
 use afs_num::records::RecordHead;
 use afs_num::sequences::Octets;
 use afs_num::types::{Head, Mem};
+use afs_server_parts::faults::NodeFault;
 use afs_server_parts::replies::key;
 use std::alloc::{AllocError, Global};
 

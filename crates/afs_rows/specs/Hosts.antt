@@ -130,14 +130,14 @@ pub record HostStep (S : Type 0) : Type 0 where
 
 -- A kind of node, as its host sees it, where its state is one of S: which node it is; how many device calls it makes with what was
 -- found in a message's bytes, at this clock; its row, at this clock and for the message of this place; with what a restart begins
--- behind a step that this message began, at this clock, and that was interrupted with its record whole; what a boot record makes of
--- the state; the step of its restart, at this clock, in a cell of so many clients; and whether the record of the next boot can be made.
+-- behind a step that this message began, at this clock, and that was interrupted with its record whole, and with what behind a restart
+-- that was; the step of its restart, at this clock, in a cell of so many clients; and whether the record of the next boot can be made.
 pub record Kind (S : Type 0) : Type 0 where
   pub me : Node
   pub device_calls : S → ℕ → Received → ℕ
   pub row : S → ℕ → ℕ → Received → Step S
   pub begun_after : S → ℕ → Message → Begun S
-  pub revived : S → S
+  pub begun_again : S → Begun S
   pub start : ℕ → ℕ → Begun S → Step S
   pub can_start : S → Bool
 
@@ -196,7 +196,7 @@ begun_from {S} kind s after at_rest = begun_before s
 begun_from {S} kind s false (in_step m clock b) = begun_before s
 begun_from {S} kind s true (in_step m clock b) = kind.begun_after s clock m
 begun_from {S} kind s false in_boot = begun_before s
-begun_from {S} kind s true in_boot = begun_before (kind.revived s)
+begun_from {S} kind s true in_boot = kind.begun_again s
 
 -- where no record of a boot can be made, none is begun
 abbrev pub settled : Bool → Outcome → Outcome

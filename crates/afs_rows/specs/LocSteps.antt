@@ -46,7 +46,7 @@ loc_kind = record {
   device_calls = λ s clock found. loc_device_calls s (loc_decides s found);
   row = λ s clock place found. loc_row s place found;
   begun_after = λ s clock m. loc_begun_after s (loc_decides s (Whole m));
-  revived = loc_revived;
+  begun_again = λ s. begun_before (loc_revived s);
   start = λ clock count begun. loc_start_row begun;
   can_start = loc_can_start;
 }

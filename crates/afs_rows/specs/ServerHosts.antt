@@ -7,7 +7,7 @@ use Rattle.afs_rows.specs.Hosts.{begun_from, goes, Fall, Host, HostStep, Kind}
 use Rattle.afs_rows.specs.ServerRow.{begun_after, decides, device_calls, revived}
 use Rattle.afs_rows.specs.ServerSteps.{back_timeout_row, server_row, start_row, wake_row}
 use Rattle.afs_rows.specs.States.{durable_of, BackCall, ServerState}
-use Rattle.afs_rows.specs.Steps.{Begun}
+use Rattle.afs_rows.specs.Steps.{begun_before, Begun}
 
 abbrev pub ServerHost : Type 0
 ServerHost = Host ServerState
@@ -23,7 +23,7 @@ server_kind me = record {
   device_calls = λ s clock found. device_calls s clock (decides me s clock found);
   row = server_row me;
   begun_after = λ s clock m. begun_after me s clock (decides me s clock (Whole m));
-  revived = revived;
+  begun_again = λ s. begun_before (revived s);
   start = start_row me;
   can_start = can_start;
 }

@@ -87,6 +87,7 @@ reply_head boot head = record {
 abbrev pub replied : ℕ → Head → Carried → Message
 replied boot head c = record { head = reply_head boot head; carried = c }
 
+-- the answer to a call under another boot: this one's number
 abbrev pub boot_told : ℕ → Head → Message
 boot_told boot head = record { head = record (reply_head boot head) { half = halves.Boot }; carried = carried.Notice }
 

@@ -13,7 +13,8 @@ use Rattle.afs_history.specs.declared.lines.Line.{Line}
 use Rattle.afs_history.specs.declared.lines.Line.TheVariants as lines
 use Rattle.afs_ideal.specs.Operations.{last_count}
 use Rattle.afs_ideal.specs.Tables.{get}
-use Rattle.afs_records.specs.Durable.{change_lines, effect_of, versions_told, Durable, Stored}
+use Rattle.afs_records.specs.Durable.{change_lines, versions_told, Durable, Stored}
+use Rattle.afs_fold.specs.Effects.{effect_of}
 use Rattle.afs_records.specs.Forms.{HasImageForm}
 use Rattle.afs_records.specs.Records.{FitsRecord}
 use Rattle.afs_rows.specs.ServerRow.{key_of, made, record_of, saves, versioned, Change}

@@ -11,7 +11,8 @@ use Rattle.afs_num.specs.declared.volumes.Change as made
 use Rattle.afs_ideal.specs.Tables.{get, set, Table}
 use Rattle.afs_records.specs.Changes.{keeping}
 use Rattle.afs_records.specs.Durable as disk
-use Rattle.afs_records.specs.Durable.{changed_stored, folded, place_length, placing, with_journal, Durable, Stored}
+use Rattle.afs_records.specs.Durable.{changed_stored, place_length, placing, with_journal, Durable, Stored}
+use Rattle.afs_fold.specs.Fold.{folded}
 use Rattle.afs_rows.specs.ServerRow.{carried_by, change_reply_to, key_of, lasting_after, promise_ticks, record_of, replied, seat_for, seat_placed, stored_by, Change}
 use Rattle.afs_rows.specs.States.{Seat}
 use Rattle.afs_message.specs.Spelled.{message_in, Spells}
@@ -60,7 +61,7 @@ placed_by true b n k seat p t e f g h is more = rw (e, f) (ap (λ (s : Seat). s 
 placed_by false true n k seat p t e f g h is more = rw (e, f, g, h) (ap (λ (s : Seat). s ∷ seat_kept p ∷ map seat_kept t) is)
 placed_by false false n k seat p t e f g h is more = rw (e, f, g, h) (ap (λ (ss : List Seat). seat_kept p ∷ ss) more)
 
-seats_set : (n : Node) (k : disk.Kept) (seat : Seat) (t : Table disk.Kept) → IsNode n → seat.caller ≡ n → seat_kept (node_number n, k) ≡ seat → AreToNodes t → map seat_kept (set (node_number n) k t) ≡ seat_placed seat (map seat_kept t)
+pub seats_set : (n : Node) (k : disk.Kept) (seat : Seat) (t : Table disk.Kept) → IsNode n → seat.caller ≡ n → seat_kept (node_number n, k) ≡ seat → AreToNodes t → map seat_kept (set (node_number n) k t) ≡ seat_placed seat (map seat_kept t)
 seats_set n k seat [] node own is are = ap (λ (s : Seat). s ∷ []) is
 seats_set n k seat (p ∷ t) node own is are =
     placed_by (same_node (or_loc (node_of p.0)) n) (nat_lt (node_number n) p.0) n k seat p t (number_by (same_node (or_loc (node_of p.0)) n) p n are.0 node refl) (ap (same_node (or_loc (node_of p.0))) own) refl

@@ -14,3 +14,4 @@ pub mod Saves
 pub mod Still
 pub mod Taken
 pub mod Wholly
+pub mod HeldCodes

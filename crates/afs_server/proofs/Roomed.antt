@@ -16,8 +16,8 @@ use Rattle.afs_server.specs.Handling.{stand_of, record_decided, server_seen, Ans
 use Rattle.afs_server.specs.Putting.{IsStill, Prepares}
 use Rattle.afs_callbacks.specs.Saving.{IsPlanned}
 use Rattle.afs_server.specs.Seen.{callbacks_of, Memory}
-use Rattle.afs_server.specs.declared.faults.NodeFault.{NodeFault}
-use Rattle.afs_server.specs.declared.faults.NodeFault.TheVariants as nodes
+use Rattle.afs_server_parts.specs.declared.faults.NodeFault.{NodeFault}
+use Rattle.afs_server_parts.specs.declared.faults.NodeFault.TheVariants as nodes
 use Rattle.afs_callbacks.specs.declared.saving.Planned.{Planned}
 use Rattle.afs_server.proofs.Saves.{refused_record, saved_record}
 use Rattle.afs_server.proofs.Still.{behind, is_still, Counts, OfDisk, Same}

@@ -16,7 +16,8 @@ use Rattle.afs_breaks.specs.Promises.{expired, grants_all, lasting, lasting_brea
 use Rattle.afs_breaks.specs.declared.types.OwedBreak.{OwedBreak}
 use Rattle.afs_ideal.specs.Operations.{Found}
 use Rattle.afs_ideal.specs.Tables.{get}
-use Rattle.afs_records.specs.Durable.{folded, time_in, Durable}
+use Rattle.afs_records.specs.Durable.{time_in, Durable}
+use Rattle.afs_fold.specs.Fold.{folded}
 use Rattle.afs_records.specs.Records.{FitsRecord}
 use Rattle.afs_rows.specs.Callbacks as row
 use Rattle.afs_rows.specs.Callbacks.{alls, fids_found, grants_found, new_owes, numbers, owe_line, pumped, turn_for, withdraws_all}

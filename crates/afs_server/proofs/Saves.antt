@@ -8,7 +8,8 @@ use Rattle.afs_num.specs.declared.types.Head.{Head}
 use Rattle.afs_num.specs.declared.volumes.Change as made_of
 use Rattle.afs_history.specs.declared.lines.Outs.{Outs}
 use Rattle.afs_ideal.specs.Tables.{get}
-use Rattle.afs_records.specs.Durable.{folded, has_room, Durable}
+use Rattle.afs_records.specs.Durable.{has_room, Durable}
+use Rattle.afs_fold.specs.Fold.{folded}
 use Rattle.afs_rows.specs.Callbacks as row
 use Rattle.afs_rows.specs.Callbacks.{turn_for}
 use Rattle.afs_rows.specs.ServerRow.{begun_after, no_room, record_of, refusal, refuses, roomed, saves, Change, Decision}
@@ -24,8 +25,8 @@ use Rattle.afs_server_parts.specs.Turning.{answer_turn}
 use Rattle.afs_callbacks.specs.Saving.{change_kept, IsPlanned}
 use Rattle.afs_server.specs.Saving.{IsPut, Puts}
 use Rattle.afs_server.specs.Seen.{callbacks_of, lasting_of, Memory, Serves}
-use Rattle.afs_server.specs.declared.faults.NodeFault.{NodeFault}
-use Rattle.afs_server.specs.declared.faults.NodeFault.TheVariants as faults
+use Rattle.afs_server_parts.specs.declared.faults.NodeFault.{NodeFault}
+use Rattle.afs_server_parts.specs.declared.faults.NodeFault.TheVariants as faults
 use Rattle.afs_callbacks.specs.declared.saving.Planned.{Planned}
 use Rattle.afs_server.proofs.Making.{as_planned}
 use Rattle.afs_server.proofs.Folded.{folds, lasting_left, record_is, reply_is}
@@ -92,8 +93,9 @@ module _ {D : Type 0} (clock id : ℕ) (head : Head) (c : Change) (x : made_of.C
       let closed : mid.closed ≡ s.closed = ap (λ (u : Store D). u.closed) prepared in
       let count : mid.count ≡ s.count = ap (λ (u : Store D). u.count) prepared in
       let durable : mid.durable ≡ s.durable = ap (λ (u : Store D). u.durable) prepared in
+      let holds : mid.holds ≡ s.holds = ap (λ (u : Store D). u.holds) prepared in
       record {
-        store = put.store ∙ (λ i. record { durable = t.durable; disk = t.disk; node = node i; prepared = None; closed = closed i; count = count i + 1; drawn = p.ended.last });
+        store = put.store ∙ (λ i. record { durable = t.durable; disk = t.disk; node = node i; prepared = None; closed = closed i; count = count i + 1; drawn = p.ended.last; holds = holds i });
         folds = ap (folded p.rec) (sym durable) ∙ put.folds;
       }
 
@@ -103,7 +105,8 @@ module _ {D : Type 0} (clock id : ℕ) (head : Head) (c : Change) (x : made_of.C
       let durable : mid.durable ≡ s.durable = ap (λ (u : Store D). u.durable) prepared in
       let count : mid.count ≡ s.count = ap (λ (u : Store D). u.count) prepared in
       let drawn : mid.drawn ≡ s.drawn = ap (λ (u : Store D). u.drawn) prepared in
-      is ∙ (λ i. record { durable = durable i; disk = t.disk; node = node i; prepared = None; closed = true; count = count i; drawn = drawn i })
+      let holds : mid.holds ≡ s.holds = ap (λ (u : Store D). u.holds) prepared in
+      is ∙ (λ i. record { durable = durable i; disk = t.disk; node = node i; prepared = None; closed = true; count = count i; drawn = drawn i; holds = holds i })
 
   same_from : mid ≡ record s { prepared = Some p.rec; disk = mid.disk } → t ≡ mid → t ≡ record s { disk = t.disk; prepared = t.prepared }
   same_from prepared is =

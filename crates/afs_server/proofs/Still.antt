@@ -16,8 +16,8 @@ use Rattle.afs_records.specs.Records.{record_bytes}
 use Rattle.afs_volstore.specs.Stores.{LeftAround}
 use Rattle.afs_server.specs.Handling.{IsQuiet, IsWritten, Ran}
 use Rattle.afs_server.specs.Putting.{calls_for, IsStill, OnDisk}
-use Rattle.afs_server.specs.declared.faults.NodeFault.{NodeFault}
-use Rattle.afs_server.specs.declared.faults.NodeFault.TheVariants as nodes
+use Rattle.afs_server_parts.specs.declared.faults.NodeFault.{NodeFault}
+use Rattle.afs_server_parts.specs.declared.faults.NodeFault.TheVariants as nodes
 
 -- a fault is handed up
 pub handed_up : {T : Type 0} (r : Result T NodeFault) (fault : NodeFault) → IsErrAnd r (λ (e : NodeFault). e ≡ fault) → r ≡ Err fault

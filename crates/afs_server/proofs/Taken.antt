@@ -3,13 +3,14 @@ use Rattle.std.proofs.Common.{◌≡◌, ℕ, List, Option, refl, sym, ap, subst
 use Rattle.std.specs.Prelude.{Result, Err, Ok}
 use Rattle.afs_history.specs.declared.lines.Outs.{Outs}
 use Rattle.afs_num.specs.declared.records.StoreRecord.{StoreRecord}
+use Rattle.afs_ideal.specs.Tables.{Table}
 use Rattle.afs_records.specs.Durable.{Durable}
 use Rattle.afs_volstore.specs.Stores.{Store}
 use Rattle.afs_server.specs.Handling.{SameStore, record_decided, Does}
 use Rattle.afs_server.specs.Putting.{DoesAll, OnDisk, IsFew, Took}
 use Rattle.afs_server.specs.Seen.{Memory}
-use Rattle.afs_server.specs.declared.faults.NodeFault.{NodeFault}
-use Rattle.afs_server.specs.declared.faults.NodeFault.TheVariants as faults
+use Rattle.afs_server_parts.specs.declared.faults.NodeFault.{NodeFault}
+use Rattle.afs_server_parts.specs.declared.faults.NodeFault.TheVariants as faults
 use Rattle.afs_server.proofs.Still.{is_same}
 use Rattle.afs_server.proofs.Wholly.{made_none}
 use Rattle.afs_num.specs.declared.messages.Call.{Call}
@@ -23,31 +24,32 @@ use Rattle.afs_num.specs.declared.types.Head.{Head}
 use Rattle.afs_num.specs.declared.types.Node.{Node}
 use Rattle.afs_rows.specs.Callbacks as row
 use Rattle.afs_rows.specs.Callbacks.{turn_for, turned_by, turned_in}
-use Rattle.afs_rows.specs.ServerRow.{called, decides, hears, whole, Decision}
+use Rattle.afs_rows.specs.ServerRow.{whole, Decision}
+use Rattle.afs_volrows.specs.FileRow.{file_called, file_decides, file_hears}
 use Rattle.afs_rows.specs.States.{Backs, ServerState}
 use Rattle.afs_disk.specs.declared.disk.Disk.{Ghosts}
 
-module _ (P : Decision → row.Turn → Type 0) (me : Node) (s : ServerState) (clock : ℕ) (b : Backs) where
-  pub in_received : (r x : Received) → r ≡ x → P (decides me s clock x) (turned_in me s clock b (decides me s clock x) x) → P (decides me s clock r) (turned_in me s clock b (decides me s clock r) r)
-  in_received r x e p = subst (λ (y : Received). P (decides me s clock y) (turned_in me s clock b (decides me s clock y) y)) (sym e) p
+module _ (P : Decision → row.Turn → Type 0) (me : Node) (holds : Table ℕ) (s : ServerState) (clock : ℕ) (b : Backs) where
+  pub in_received : (r x : Received) → r ≡ x → P (file_decides me holds s clock x) (turned_in me s clock b (file_decides me holds s clock x) x) → P (file_decides me holds s clock r) (turned_in me s clock b (file_decides me holds s clock r) r)
+  in_received r x e p = subst (λ (y : Received). P (file_decides me holds s clock y) (turned_in me s clock b (file_decides me holds s clock y) y)) (sym e) p
 
-  pub in_carried : (r : Received) (m : Message) (k : Carried) → r ≡ Whole m → m.carried ≡ k → P (hears me s clock m.head k) (turned_by me s clock b (hears me s clock m.head k) m.head k) →
-      P (decides me s clock r) (turned_in me s clock b (decides me s clock r) r)
+  pub in_carried : (r : Received) (m : Message) (k : Carried) → r ≡ Whole m → m.carried ≡ k → P (file_hears me holds s clock m.head k) (turned_by me s clock b (file_hears me holds s clock m.head k) m.head k) →
+      P (file_decides me holds s clock r) (turned_in me s clock b (file_decides me holds s clock r) r)
   in_carried r m k e same p =
       in_received r (Whole m) e
-      (subst (λ (l : Carried). P (hears me s clock m.head l) (turned_by me s clock b (hears me s clock m.head l) m.head l)) (sym same) p)
+      (subst (λ (l : Carried). P (file_hears me holds s clock m.head l) (turned_by me s clock b (file_hears me holds s clock m.head l) m.head l)) (sym same) p)
 
-  pub in_call : (r : Received) (m : Message) (user : List ℕ) (call : Call) → r ≡ Whole m → m.carried ≡ carried.Call user call → P (called me s clock m.head r) (turn_for me s clock b (called me s clock m.head r)) →
-      P (decides me s clock r) (turned_in me s clock b (decides me s clock r) r)
+  pub in_call : (r : Received) (m : Message) (user : List ℕ) (call : Call) → r ≡ Whole m → m.carried ≡ carried.Call user call → P (file_called me holds s clock m.head r) (turn_for me s clock b (file_called me holds s clock m.head r)) →
+      P (file_decides me holds s clock r) (turned_in me s clock b (file_decides me holds s clock r) r)
   in_call r m user call e same p =
       let is : r ≡ whole m.head (carried.Call user call) = e ∙ ap (λ (k : Carried). whole m.head k) same in
-      in_carried r m (carried.Call user call) e same (subst (λ (x : Received). P (called me s clock m.head x) (turn_for me s clock b (called me s clock m.head x))) is p)
+      in_carried r m (carried.Call user call) e same (subst (λ (x : Received). P (file_called me holds s clock m.head x) (turn_for me s clock b (file_called me holds s clock m.head x))) is p)
 
-  pub in_unserved : (r : Received) (head : Head) → r ≡ Unserved head → P (called me s clock head r) (turn_for me s clock b (called me s clock head r)) → P (decides me s clock r) (turned_in me s clock b (decides me s clock r) r)
-  in_unserved r head e p = in_received r (Unserved head) e (subst (λ (x : Received). P (called me s clock head x) (turn_for me s clock b (called me s clock head x))) e p)
+  pub in_unserved : (r : Received) (head : Head) → r ≡ Unserved head → P (file_called me holds s clock head r) (turn_for me s clock b (file_called me holds s clock head r)) → P (file_decides me holds s clock r) (turned_in me s clock b (file_decides me holds s clock r) r)
+  in_unserved r head e p = in_received r (Unserved head) e (subst (λ (x : Received). P (file_called me holds s clock head x) (turn_for me s clock b (file_called me holds s clock head x))) e p)
 
-  pub in_unreadable : (r : Received) (head : Head) → r ≡ Unreadable head → P (called me s clock head r) (turn_for me s clock b (called me s clock head r)) → P (decides me s clock r) (turned_in me s clock b (decides me s clock r) r)
-  in_unreadable r head e p = in_received r (Unreadable head) e (subst (λ (x : Received). P (called me s clock head x) (turn_for me s clock b (called me s clock head x))) e p)
+  pub in_unreadable : (r : Received) (head : Head) → r ≡ Unreadable head → P (file_called me holds s clock head r) (turn_for me s clock b (file_called me holds s clock head r)) → P (file_decides me holds s clock r) (turned_in me s clock b (file_decides me holds s clock r) r)
+  in_unreadable r head e p = in_received r (Unreadable head) e (subst (λ (x : Received). P (file_called me holds s clock head x) (turn_for me s clock b (file_called me holds s clock head x))) e p)
 
 -- ---- memory was wanting, and nothing was done
 

@@ -10,26 +10,28 @@ use Rattle.afs_history.specs.declared.lines.Line.{Line}
 use Rattle.afs_history.specs.declared.lines.Line.TheVariants as lines
 use Rattle.afs_history.specs.declared.lines.Outs.{Outs}
 use Rattle.afs_ideal.specs.Operations.{Found}
-use Rattle.afs_records.specs.Durable.{folded, Durable}
+use Rattle.afs_records.specs.Durable.{Durable}
+use Rattle.afs_fold.specs.Fold.{folded}
 use Rattle.afs_breaks.specs.Promises.{Lists}
 use Rattle.afs_rows.specs.Callbacks as row
 use Rattle.afs_rows.specs.Callbacks.{turned_in}
 use Rattle.afs_rows.specs.ServerRow as ServerRow
-use Rattle.afs_rows.specs.ServerRow.{begun_after, decides, device_calls, does, drops, refuses, repeats, saves, shows, tells_boot, Decision}
-use Rattle.afs_rows.specs.ServerSteps.{done, server_row}
+use Rattle.afs_rows.specs.ServerRow.{begun_after, device_calls, does, drops, refuses, repeats, saves, shows, tells_boot, Decision}
+use Rattle.afs_rows.specs.ServerSteps.{done}
 use Rattle.afs_rows.specs.States.{ServerState}
+use Rattle.afs_volrows.specs.FileRow.{file_decides, file_row}
 use Rattle.afs_server_parts.specs.Turning.{IsBreakToNode}
 use Rattle.afs_server_parts.specs.Telling.{grants_seen}
 use Rattle.afs_server_parts.specs.declared.telling.Grant.{Grant}
 use Rattle.afs_volstore.specs.Stores.{Store}
 use Rattle.afs_decisions.specs.Deciding.{leaves_disk, Decides, FitsDecided, IsReading, LeavesDisk}
-use Rattle.afs_server.specs.Handling.{lines_behind, record_decided, server_seen, Does, Handles, IsDone, IsWritten, Makes}
+use Rattle.afs_server.specs.Handling.{holds_seen, lines_behind, record_decided, server_seen, Does, Handles, IsDone, IsWritten, Makes}
 use Rattle.afs_server.specs.Putting.{calls_for, DoesAll, IsFew, IsInterrupted, IsMadeOf, IsStill, IsToldAgain}
 use Rattle.afs_server.specs.Seen.{backs_seen, lasting_of, Memory, Serves}
 use Rattle.afs_decisions.specs.declared.decided.Decided.{Decided}
 use Rattle.afs_decisions.specs.declared.decided.Decided.TheVariants as decided
-use Rattle.afs_server.specs.declared.faults.NodeFault.{NodeFault}
-use Rattle.afs_server.specs.declared.faults.NodeFault.TheVariants as faults
+use Rattle.afs_server_parts.specs.declared.faults.NodeFault.{NodeFault}
+use Rattle.afs_server_parts.specs.declared.faults.NodeFault.TheVariants as faults
 use Rattle.afs_server.proofs.Drawn.{breaks_drawn, drawn_after, expired_draws, lists_after}
 use Rattle.afs_server.proofs.Handled.{in_draws, GrantsFew}
 use Rattle.afs_server.proofs.Placed.{given_at}
@@ -98,11 +100,11 @@ handles_at {D} clock place d turn old new s t (Err faults.OutOfMemory) is = is
 handles_at {D} clock place d turn old new s t (Err faults.Down) is = is.closed
 
 pub step_at : {D : Type 0} (clock place : ℕ) (m : Received) (old new : Memory) (s t : Store D) (result : Result Outs NodeFault) →
-    DoesAll clock (decides s.node (server_seen old s) clock m) (turned_in s.node (server_seen old s) clock (row.expired clock (server_seen old s).backs) (decides s.node (server_seen old s) clock m) m) old new s t result →
-    Handles (server_row s.node (server_seen old s) clock place m) (lines.Given place ∷ []) old new s t result
-unfolding server_row
+    DoesAll clock (file_decides s.node (holds_seen s) (server_seen old s) clock m) (turned_in s.node (server_seen old s) clock (row.expired clock (server_seen old s).backs) (file_decides s.node (holds_seen s) (server_seen old s) clock m) m) old new s t result →
+    Handles (file_row s.node (holds_seen s) (server_seen old s) clock place m) (lines.Given place ∷ []) old new s t result
+unfolding file_row
 step_at {D} clock place m old new s t result is =
-    handles_at clock place (decides s.node (server_seen old s) clock m) (turned_in s.node (server_seen old s) clock (row.expired clock (server_seen old s).backs) (decides s.node (server_seen old s) clock m) m) old new s t result is
+    handles_at clock place (file_decides s.node (holds_seen s) (server_seen old s) clock m) (turned_in s.node (server_seen old s) clock (row.expired clock (server_seen old s).backs) (file_decides s.node (holds_seen s) (server_seen old s) clock m) m) old new s t result is
 
 pub serves_after : {D : Type 0} (clock : ℕ) (d : Decision) (turn : row.Turn) (old new : Memory) (s t : Store D) (result : Result Outs NodeFault) → DoesAll clock d turn old new s t result → OnOk result (Serves t.node new t.durable)
 serves_after {D} clock d turn old new s t (Ok outs) is = is.serves

@@ -2,13 +2,14 @@
 use Rattle.std.specs.Prelude.{ℤ, false, ◌≡◌, ◌≤◌, ◌+◌, ◌⊎◌, ℕ, List, [], ◌∷◌, ◌++◌, true, Option, Some, None, Result, Ok, Err, IsErrOf, OnOk}
 use Rattle.afs_history.specs.declared.lines.Line.{Line}
 use Rattle.afs_history.specs.declared.lines.Outs.{Outs}
-use Rattle.afs_server.specs.declared.faults.NodeFault.{NodeFault}
-use Rattle.afs_server.specs.declared.faults.NodeFault.TheVariants as faults
+use Rattle.afs_server_parts.specs.declared.faults.NodeFault.{NodeFault}
+use Rattle.afs_server_parts.specs.declared.faults.NodeFault.TheVariants as faults
 use Rattle.afs_num.specs.declared.records.StoreRecord.{StoreRecord}
 use Rattle.afs_model.specs.Messages.{parcels_read, messages_spelled, received_by}
 use Rattle.afs_disk.specs.Disk.{PassesAll, Rose, Setting, Trips}
 use Rattle.afs_disk.specs.declared.disk.Disk.{Ghosts}
-use Rattle.afs_records.specs.Durable.{folded}
+use Rattle.afs_ideal.specs.Tables.{Table}
+use Rattle.afs_fold.specs.Fold.{folded}
 use Rattle.afs_volstore.specs.Stores.{Store}
 use Rattle.afs_rows.specs.Callbacks as row
 use Rattle.afs_rows.specs.Callbacks.{turn_for, turned_in}
@@ -17,10 +18,11 @@ use Rattle.afs_num.specs.declared.messages.Message.{Message}
 use Rattle.afs_num.specs.declared.messages.Received.{Received}
 use Rattle.afs_breaks.specs.Promises.{expired, Lists}
 use Rattle.afs_callbacks.specs.Answering.{with_lists}
-use Rattle.afs_rows.specs.ServerRow.{refusal, decides, does, keeps, saves, record_of, Decision}
+use Rattle.afs_rows.specs.ServerRow.{refusal, does, keeps, saves, record_of, Decision}
 use Rattle.afs_rows.specs.ServerSteps.{stepped}
 use Rattle.afs_rows.specs.States.{Backs, ServerState}
 use Rattle.afs_rows.specs.Steps.{Step}
+use Rattle.afs_volrows.specs.FileRow.{file_decides}
 use Rattle.afs_server_parts.specs.declared.turns.Stand.{Stand}
 use Rattle.afs_server_parts.specs.Turning.{answer_turn}
 use Rattle.afs_server.specs.Seen.{backs_seen, Memory, state_seen, Serves, CanDraw}
@@ -31,6 +33,10 @@ calls_served = 130 ∷ 131 ∷ 132 ∷ 133 ∷ 134 ∷ 135 ∷ 136 ∷ 137 ∷ 1
 
 abbrev pub server_seen : {D : Type 0} → Memory → Store D → ServerState
 server_seen {D} m s = state_seen m s.durable s.drawn
+
+-- which volumes the transactions of its volume server hold
+abbrev pub holds_seen : {D : Type 0} → Store D → Table ℕ
+holds_seen {D} s = s.holds.table
 
 -- who makes a step over this store
 abbrev pub stand_of : {D : Type 0} → Store D → Stand
@@ -122,7 +128,7 @@ record_decided boot clock d = None
 
 -- what is decided at this time on the message of these bytes, and its record, if it makes one
 abbrev pub decided_then : {D : Type 0} → Memory → Store D → ℕ → List ℕ → Decision
-decided_then {D} m s clock bytes = decides s.node (server_seen m s) clock (received_by calls_served bytes)
+decided_then {D} m s clock bytes = file_decides s.node (holds_seen s) (server_seen m s) clock (received_by calls_served bytes)
 
 abbrev pub record_then : {D : Type 0} → Memory → Store D → ℕ → List ℕ → Option StoreRecord
 record_then {D} m s clock bytes = record_decided s.durable.boot clock (decided_then m s clock bytes)

@@ -5,3 +5,5 @@ pub mod Hearing
 pub mod Putting
 pub mod Saving
 pub mod Seen
+pub mod Closing
+pub mod Lending

@@ -6,7 +6,9 @@ use Rattle.afs_history.specs.declared.lines.Line.{Line}
 use Rattle.afs_history.specs.declared.lines.Outs.{Outs}
 use Rattle.afs_num.specs.declared.records.StoreRecord.{StoreRecord}
 use Rattle.afs_num.specs.declared.types.Node.{Node}
-use Rattle.afs_records.specs.Durable.{effect_of, folded, placing, Durable}
+use Rattle.afs_records.specs.Durable.{placing, Durable}
+use Rattle.afs_fold.specs.Effects.{effect_of}
+use Rattle.afs_fold.specs.Fold.{folded}
 use Rattle.afs_records.specs.Records.{record_bytes, FitsRecord}
 use Rattle.afs_rows.specs.Callbacks as row
 use Rattle.afs_rows.specs.ServerRow.{begun_after, does, shows, Decision}
@@ -16,9 +18,9 @@ use Rattle.afs_volstore.specs.Stores.{LeftAround, Store}
 use Rattle.afs_memory.specs.Telling.{in_words}
 use Rattle.afs_server.specs.Handling.{lines_behind, record_decided, server_seen, IsClosed, IsDone, IsQuiet, IsWritten, Makes, SameStore, RanOn}
 use Rattle.afs_server.specs.Seen.{lasting_of, Memory, Serves}
-use Rattle.afs_server.specs.declared.faults.NodeFault.{NodeFault}
-use Rattle.afs_server.specs.declared.faults.NodeFault.TheVariants as faults
-use Rattle.afs_server.specs.declared.faults.NodeFault.TheVariants.{Down}
+use Rattle.afs_server_parts.specs.declared.faults.NodeFault.{NodeFault}
+use Rattle.afs_server_parts.specs.declared.faults.NodeFault.TheVariants as faults
+use Rattle.afs_server_parts.specs.declared.faults.NodeFault.TheVariants.{Down}
 use Rattle.afs_disk.specs.Words.{CallsAtMost, LeavesOnlyBy, SameDiskBy, TellsOn}
 use Rattle.afs_disk.specs.declared.disk.Disk.{Ghosts}
 

@@ -3,15 +3,15 @@ use Rattle.std.specs.Prelude.{◌≡◌, ℕ, ◌+◌, None, Some, Result, Ok, E
 use Rattle.afs_num.specs.declared.types.Head.{Head}
 use Rattle.afs_history.specs.declared.lines.Outs.{Outs}
 use Rattle.afs_breaks.specs.Promises.{expired, grants_all, lasting}
-use Rattle.afs_records.specs.Durable.{folded}
+use Rattle.afs_fold.specs.Fold.{folded}
 use Rattle.afs_records.specs.Records.{FitsRecord}
 use Rattle.afs_callbacks.specs.Saving.{withdraws_each, hits_each}
 use Rattle.afs_volstore.specs.Stores.{Store}
 use Rattle.afs_server.specs.Answering.{KeepsReply, IsToRun}
 use Rattle.afs_server.specs.Handling.{IsClosed}
 use Rattle.afs_server.specs.Seen.{Memory}
-use Rattle.afs_server.specs.declared.faults.NodeFault.{NodeFault}
-use Rattle.afs_server.specs.declared.faults.NodeFault.TheVariants as faults
+use Rattle.afs_server_parts.specs.declared.faults.NodeFault.{NodeFault}
+use Rattle.afs_server_parts.specs.declared.faults.NodeFault.TheVariants as faults
 use Rattle.afs_callbacks.specs.declared.saving.Planned.{Planned}
 use Rattle.afs_message.specs.Spelled.{IsSpelling}
 

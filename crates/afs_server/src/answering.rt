@@ -36,7 +36,7 @@ fn is_answer_to(head: &Head, kept: Option<(Key, &[u8])>) -> bool
 }
 
 /// Whether the reply is that to its caller's last call that changed something.
-fn is_last_change<D: Disk>(store: &VolStore<D>, reply: &SpelledMessage) -> bool
+pub fn is_last_change<D: Disk>(store: &VolStore<D>, reply: &SpelledMessage) -> bool
     requires kept { KeepsForNodes store.now.durable }
     requires node { IsNode reply.now.head.to }
     ensures { result ≡ is_seat_of reply.now (call_seat reply.now.head.to (lasting_of store.now.durable).kept) }

@@ -6,16 +6,17 @@ ghost use Rattle.afs_model.specs.Calls.{admitted};
 ghost use Rattle.afs_model.specs.Messages.{IsSoundCarried};
 ghost use Rattle.afs_ideal.specs.Operations.{the_user, volume_called};
 ghost use Rattle.afs_call.specs.Admitting.{means};
-ghost use Rattle.afs_rows.specs.ServerRow.{admits, called, code_of_unreadable, in_volume, is_client, runs, runs_carried, runs_received, serves, serves_call, with_volume};
+ghost use Rattle.afs_rows.specs.ServerRow.{code_of_unreadable, is_client, serves};
+ghost use Rattle.afs_volrows.specs.FileRow.{file_admits, file_called, file_carried, file_in, file_received, file_runs, file_serves, file_volume};
 ghost use Rattle.afs_decisions.specs.Deciding.{is_on_volume, IsByClient, IsUnder, CanBeDone, IsDecision, IsCallUnder};
-ghost use Rattle.afs_server.specs.Handling.{server_seen, ServesOver};
+ghost use Rattle.afs_server.specs.Handling.{holds_seen, server_seen, ServesOver};
 
+use crate::closing::{closed_code, missing_code};
 use crate::server::FileServer;
 use afs_call::Admit;
 use afs_decisions::decided::Decided;
 use afs_decisions::deciding::{
-    NO_VOLUME, NOT_SERVED, code_of_unreadable, copy_fids, in_found, is_client, is_on_volume,
-    volume_called,
+    NOT_SERVED, code_of_unreadable, copy_fids, in_found, is_client, is_on_volume, volume_called,
 };
 use afs_disk::Disk;
 use afs_message::spelled::SpelledMessage;
@@ -39,11 +40,14 @@ impl FileServer {
     ) -> Mem<Decided>
         requires on { volume_called call.now ≡ Some id }
         requires call { IsCallUnder head.now call.now }
-        ensures { IfOk result (IsDecision (server_seen self.now store.now) now head.now (in_volume (server_seen self.now store.now) now head.now (the_user user.now) call.now id (get id store.now.durable.volumes))) }
+        ensures { IfOk result (IsDecision (server_seen self.now store.now) now head.now (file_in (holds_seen store.now) (server_seen self.now store.now) now head.now (the_user user.now) call.now id (get id store.now.durable.volumes))) }
     {
         match store.volume(id) {
-            None => Ok(Decided::Refuses(NO_VOLUME)),
-            Some(volume) => { in_found(self.alloc, head, volume, user, call, now) }
+            None => Ok(Decided::Refuses(missing_code(store, id))),
+            Some(volume) => match closed_code(store, volume) {
+                Some(code) => Ok(Decided::Refuses(code)),
+                None => in_found(self.alloc, head, volume, user, call, now),
+            },
         }
     }
 
@@ -57,7 +61,7 @@ impl FileServer {
         now: u32,
     ) -> Mem<Decided>
         requires { IsCallUnder head.now call.now }
-        ensures { IfOk result (IsDecision (server_seen self.now store.now) now head.now (with_volume (server_seen self.now store.now) now head.now (the_user user.now) call.now (volume_called call.now))) }
+        ensures { IfOk result (IsDecision (server_seen self.now store.now) now head.now (file_volume (holds_seen store.now) (server_seen self.now store.now) now head.now (the_user user.now) call.now (volume_called call.now))) }
     {
         match volume_called(call) {
             None => Ok(Decided::Refuses(NOT_SERVED)),
@@ -76,7 +80,7 @@ impl FileServer {
     ) -> Mem<Decided>
         requires other { is_on_volume call.now ≡ false }
         requires call { IsCallUnder head.now call.now }
-        ensures { IfOk result (IsDecision (server_seen self.now store.now) now head.now (serves_call (server_seen self.now store.now) now head.now user.now call.now)) }
+        ensures { IfOk result (IsDecision (server_seen self.now store.now) now head.now (file_serves (holds_seen store.now) (server_seen self.now store.now) now head.now user.now call.now)) }
     {
         match call {
             FsCall::GiveUpCallBacks { fids, .. } => {
@@ -106,7 +110,7 @@ impl FileServer {
         now: u32,
     ) -> Mem<Decided>
         requires { IsCallUnder head.now call.now }
-        ensures { IfOk result (IsDecision (server_seen self.now store.now) now head.now (serves_call (server_seen self.now store.now) now head.now user.now call.now)) }
+        ensures { IfOk result (IsDecision (server_seen self.now store.now) now head.now (file_serves (holds_seen store.now) (server_seen self.now store.now) now head.now user.now call.now)) }
     {
         if is_on_volume(call) {
             self.with_volume(store, head, user, call, now)
@@ -124,7 +128,7 @@ impl FileServer {
         now: u32,
     ) -> Mem<Decided>
         requires sound { IsSoundCarried head.now.half head.now.opcode carried.now }
-        ensures { IfOk result (IsDecision (server_seen self.now store.now) now head.now (runs_carried (server_seen self.now store.now) now head.now carried.now)) }
+        ensures { IfOk result (IsDecision (server_seen self.now store.now) now head.now (file_carried (holds_seen store.now) (server_seen self.now store.now) now head.now carried.now)) }
     {
         match carried {
             Carried::Call {
@@ -145,7 +149,7 @@ impl FileServer {
         now: u32,
     ) -> Mem<Decided>
         requires heard { IsUnder head.now received.now }
-        ensures { IfOk result (IsDecision (server_seen self.now store.now) now head.now (runs_received (server_seen self.now store.now) now head.now received.now)) }
+        ensures { IfOk result (IsDecision (server_seen self.now store.now) now head.now (file_received (holds_seen store.now) (server_seen self.now store.now) now head.now received.now)) }
     {
         match received {
             Received::Nothing => Ok(Decided::Drops),
@@ -164,7 +168,7 @@ impl FileServer {
         now: u32,
     ) -> Mem<Decided>
         requires heard { IsUnder head.now received.now }
-        ensures decides { IfOk result (IsDecision (server_seen self.now store.now) now head.now (runs (server_seen self.now store.now) now head.now received.now)) }
+        ensures decides { IfOk result (IsDecision (server_seen self.now store.now) now head.now (file_runs (holds_seen store.now) (server_seen self.now store.now) now head.now received.now)) }
         ensures client { IfOk result (IsByClient head.now) }
     {
         if !is_client(&head.from) {
@@ -184,7 +188,7 @@ impl FileServer {
     ) -> Mem<Decided>
         requires heard { IsUnder head.now received.now }
         requires means { means admit ≡ admitted store.now.durable.boot self.now.seats head.now }
-        ensures { IfOk result (CanBeDone (server_seen self.now store.now) now head.now (admits (server_seen self.now store.now) now head.now received.now (admitted store.now.durable.boot self.now.seats head.now))) }
+        ensures { IfOk result (CanBeDone (server_seen self.now store.now) now head.now (file_admits (holds_seen store.now) (server_seen self.now store.now) now head.now received.now (admitted store.now.durable.boot self.now.seats head.now))) }
     {
         match admit {
             Admit::Run => {
@@ -211,7 +215,7 @@ impl FileServer {
     ) -> Mem<Decided>
         requires serves { ServesOver self.now store.now }
         requires heard { IsUnder head.now received.now }
-        ensures { IfOk result (CanBeDone (server_seen self.now store.now) now head.now (called store.now.node (server_seen self.now store.now) now head.now received.now)) }
+        ensures { IfOk result (CanBeDone (server_seen self.now store.now) now head.now (file_called store.now.node (holds_seen store.now) (server_seen self.now store.now) now head.now received.now)) }
     {
         if !head.to.is(&store.node()) {
             return Ok(Decided::Drops);

@@ -11,21 +11,22 @@ ghost use Rattle.afs_journal.specs.Words.{SameCountsBy, LeavesByPickOf, ReachesB
 ghost use Rattle.afs_model.specs.Calls.{call_seat, paired};
 ghost use Rattle.afs_model.specs.Heads.{IsSoundHead};
 ghost use Rattle.afs_model.specs.Messages.{received_by, FindsMessages, HasSpelling, IsSoundReceived};
-ghost use Rattle.afs_records.specs.Durable.{effect_of, folded, Durable};
+ghost use Rattle.afs_records.specs.Durable.{Durable};
+ghost use Rattle.afs_fold.specs.Effects.{effect_of};
+ghost use Rattle.afs_fold.specs.Fold.{folded};
 ghost use Rattle.afs_records.specs.Records.{record_bytes, FitsRecord};
 ghost use Rattle.afs_rows.specs.Callbacks.{no_turn};
-ghost use Rattle.afs_rows.specs.ServerRow.{begun_after, called, decides, device_calls, drops, Decision};
-ghost use Rattle.afs_rows.specs.ServerSteps.{server_row};
+ghost use Rattle.afs_rows.specs.ServerRow.{begun_after, device_calls, drops, Decision};
+ghost use Rattle.afs_volrows.specs.FileRow.{file_called, file_decides, file_row};
 ghost use Rattle.afs_volstore.specs.Stores.{LeftAround};
 ghost use Rattle.afs_memory.specs.Telling.{in_words};
 ghost use Rattle.afs_decisions.specs.Deciding.{leaves_disk, CanBeTold, Decides, FitsDecided, IsUnder, Runs, CanBeDone};
-ghost use Rattle.afs_server.specs.Handling.{decided_then, record_then, backs_then, turn_then, turned_then, calls_served, server_seen, Handles, IsDone, IsQuiet, IsWritten, CanStep, ServesOver, RanOn};
+ghost use Rattle.afs_server.specs.Handling.{decided_then, record_then, backs_then, turn_then, turned_then, calls_served, holds_seen, server_seen, Handles, IsDone, IsQuiet, IsWritten, CanStep, ServesOver, RanOn};
 ghost use Rattle.afs_server.specs.Hearing.{answered_turn, noticed_turn};
 ghost use Rattle.afs_server.specs.Putting.{Took};
 ghost use Rattle.afs_server.specs.Seen.{lasting_of, CanDraw};
-ghost use Rattle.afs_server.specs.declared.faults.NodeFault.TheVariants as faults;
+ghost use Rattle.afs_server_parts.specs.declared.faults.NodeFault.TheVariants as faults;
 
-use crate::faults::NodeFault;
 use crate::server::FileServer;
 use afs_decisions::decided::Decided;
 use afs_decisions::deciding::CALLS;
@@ -34,6 +35,7 @@ use afs_history::lines::Outs;
 use afs_message::messages::read_message;
 use afs_num::messages::{Carried, Message, Received};
 use afs_num::types::Head;
+use afs_server_parts::faults::NodeFault;
 use afs_volstore::VolStore;
 
 /// Whether what is decided leaves the disk as it is.
@@ -122,7 +124,7 @@ impl FileServer {
         requires can { CanStep self.old store.old now }
         requires head { IsSoundHead head.now }
         requires heard { IsUnder head.now received.now }
-        ensures { let d = called store.old.node (server_seen self.old store.old) now head.now received.now in
+        ensures { let d = file_called store.old.node (holds_seen store.old) (server_seen self.old store.old) now head.now received.now in
             Took D.Disk now d (turn_then self.old store.old now d) self.old self.new store.old store.new result }
     {
         let decided = self.called(store, head, received, now)?;
@@ -181,7 +183,7 @@ impl FileServer {
         requires can { CanStep self.old store.old now }
         requires whole { received.now ≡ receives.Whole message.now }
         requires sound { HasSpelling message.now }
-        ensures { let d = decides store.old.node (server_seen self.old store.old) now received.now in
+        ensures { let d = file_decides store.old.node (holds_seen store.old) (server_seen self.old store.old) now received.now in
             Took D.Disk now d (turned_then self.old store.old now d received.now) self.old self.new store.old store.new result }
     {
         match &message.carried {
@@ -201,7 +203,7 @@ impl FileServer {
     ) -> Result<Outs, NodeFault>
         requires can { CanStep self.old store.old now }
         requires sound { IsSoundReceived received.now }
-        ensures { let d = decides store.old.node (server_seen self.old store.old) now received.now in
+        ensures { let d = file_decides store.old.node (holds_seen store.old) (server_seen self.old store.old) now received.now in
             Took D.Disk now d (turned_then self.old store.old now d received.now) self.old self.new store.old store.new result }
     {
         match received {
@@ -241,7 +243,7 @@ impl FileServer {
         requires draws { CanDraw self.old store.old.drawn }
         requires up { store.old.closed ≡ false }
         requires now { now ≤ 1000000000 }
-        ensures step { (place : ℕ) → Handles (server_row store.old.node (server_seen self.old store.old) now place (received_by calls_served bytes.now)) (lines.Given place ∷ []) self.old self.new store.old store.new result }
+        ensures step { (place : ℕ) → Handles (file_row store.old.node (holds_seen store.old) (server_seen self.old store.old) now place (received_by calls_served bytes.now)) (lines.Given place ∷ []) self.old self.new store.old store.new result }
         ensures found { FindsMessages calls_served bytes.now }
         ensures serves { OnOk result (ServesOver self.new store.new) }
 

@@ -2,17 +2,17 @@
 //! row, over the store of its disk.
 #![tactic(auto)]
 
-mod answering;
+pub mod answering;
+mod closing;
 mod deciding;
 mod doing;
 mod ending;
-pub mod faults;
 mod handling;
 mod hearing;
 pub mod laws;
 mod node;
 mod putting;
-mod restoring;
+pub mod restoring;
 mod server;
 mod several;
 mod showing;

@@ -2,7 +2,7 @@
 
 ghost use Rattle.std.specs.Prelude.{◌≡◌, ◌≤◌, ◌+◌, [], None, Some, length, IfOk, IsErrOf, IsSome, OnOk, OnErr};
 ghost use Rattle.afs_num.specs.Nodes.{IsNode};
-ghost use Rattle.afs_server.specs.declared.faults.NodeFault.TheVariants as faults;
+ghost use Rattle.afs_server_parts.specs.declared.faults.NodeFault.TheVariants as faults;
 ghost use Rattle.afs_rows.specs.ServerSteps.{back_timeout_row, wake_row};
 ghost use Rattle.afs_rows.specs.States as rows;
 ghost use Rattle.afs_server_parts.specs.Called.{call_to};
@@ -10,7 +10,6 @@ ghost use Rattle.afs_server.specs.Handling.{server_seen, Handles, Makes, ServesO
 ghost use Rattle.afs_server.specs.Seen.{begun_step, waits_by, CanDraw, Serves};
 
 use crate::ending::stand;
-use crate::faults::NodeFault;
 use crate::restoring::callers_kept;
 use crate::server::FileServer;
 use afs_callbacks::Callbacks;
@@ -19,6 +18,7 @@ use afs_disk::Disk;
 use afs_history::lines::Outs;
 use afs_num::types::{Key, Mem, Node};
 use afs_server_parts::calling::BreakCall;
+use afs_server_parts::faults::NodeFault;
 use afs_volstore::VolStore;
 use std::alloc::Global;
 

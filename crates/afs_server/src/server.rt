@@ -1,10 +1,12 @@
 //! A file server in memory.
 
+ghost use Rattle.std.specs.Borrow.{sem};
 ghost use Rattle.std.specs.Prelude.{◌≡◌, ◌≤◌, IfOk};
 ghost use Rattle.afs_server.specs.Seen.{first_memory, callbacks_of};
 
 use afs_callbacks::Callbacks;
 use afs_num::types::Mem;
+use afs_promise::Promises;
 use afs_server_parts::callers::Callers;
 use std::alloc::Global;
 use std::marker::Model;
@@ -38,6 +40,8 @@ impl Model for FileServer {
 }
 
 impl FileServer {
+    ghost use Rattle.afs_server.specs.Lending.{LendsCallbacks};
+
     /// A file server at set-up, in a cell of so many clients: it has no callers, promised nothing and owes nothing.
     pub fn new(alloc: Global, clients: u8) -> Mem<FileServer>
         requires { clients ≤ 16 }
@@ -56,5 +60,20 @@ impl FileServer {
         ensures { result.now ≡ callbacks_of self.now }
     {
         &self.callbacks
+    }
+
+    /// Its callbacks, which the volume server beside it shares. It takes no memory.
+    pub fn callbacks_mut(&mut self) -> &mut Callbacks
+        ensures* writes_back { sem 𝓛 (LendsCallbacks self.entry result) }
+        ensures value { result.now ≡ callbacks_of self.old }
+    {
+        &mut self.callbacks
+    }
+
+    /// What it promised, and the breaks that it owes. It takes no memory.
+    pub fn promises(&self) -> &Promises
+        ensures { result.now ≡ self.now.lists }
+    {
+        self.callbacks.promises()
     }
 }

@@ -3,14 +3,16 @@
 ghost use Rattle.std.specs.Prelude.{◌≡◌, ◌≤◌, length, IfOk, Ok, Some};
 ghost use Rattle.afs_ideal.specs.Operations.{the_user};
 ghost use Rattle.afs_ideal.specs.Tables.{get};
-ghost use Rattle.afs_rows.specs.ServerRow.{sight_in, sights, several};
+ghost use Rattle.afs_rows.specs.ServerRow.{several};
+ghost use Rattle.afs_volrows.specs.FileRow.{file_sight, file_sights};
 ghost use Rattle.afs_decisions.specs.Deciding.{IsDecision};
-ghost use Rattle.afs_server.specs.Handling.{server_seen};
+ghost use Rattle.afs_server.specs.Handling.{holds_seen, server_seen};
+ghost use Rattle.afs_server.specs.Seen.{lasting_of};
 ghost use Rattle.afs_decisions.specs.Several.{Sees, SeesAll, TellsNext};
 
+use crate::closing::{closed_code, missing_code};
 use crate::server::FileServer;
 use afs_decisions::decided::Decided;
-use afs_decisions::deciding::NO_VOLUME;
 use afs_decisions::several::{Seen, Told, see_in, told_as};
 use afs_disk::Disk;
 use afs_num::types::{Code, Fid, Head, Mem};
@@ -20,11 +22,14 @@ use std::alloc::Global;
 
 /// The status of a fid, by its volume.
 fn see<D: Disk>(store: &VolStore<D>, user: &[u8], fid: &Fid) -> Result<Seen, OpFault>
-    ensures { Sees (the_user user.now) fid.now (sight_in (the_user user.now) fid.now (get fid.now.volume store.now.durable.volumes)) result }
+    ensures { Sees (the_user user.now) fid.now (file_sight (holds_seen store.now) (lasting_of store.now.durable) (the_user user.now) fid.now (get fid.now.volume store.now.durable.volumes)) result }
 {
     match store.volume(fid.volume) {
-        None => Err(OpFault::Code(Code(NO_VOLUME))),
-        Some(volume) => see_in(volume, user, fid),
+        None => Err(OpFault::Code(Code(missing_code(store, fid.volume)))),
+        Some(volume) => match closed_code(store, volume) {
+            Some(code) => Err(OpFault::Code(Code(code))),
+            None => see_in(volume, user, fid),
+        },
     }
 }
 
@@ -35,7 +40,7 @@ fn see_next<D: Disk>(
     fid: &Fid,
     told: &mut Told,
 ) -> Result<(), OpFault>
-    ensures { TellsNext (the_user user.now) (sight_in (the_user user.now) fid.now (get fid.now.volume store.now.durable.volumes)) told.old told.new result }
+    ensures { TellsNext (the_user user.now) (file_sight (holds_seen store.now) (lasting_of store.now.durable) (the_user user.now) fid.now (get fid.now.volume store.now.durable.volumes)) told.old told.new result }
 {
     let seen = see(store, user, fid)?;
     told.add(*fid, &seen)?;
@@ -49,7 +54,7 @@ fn see_all<D: Disk>(
     user: &[u8],
     fids: &[Fid],
 ) -> Result<Told, OpFault>
-    ensures { SeesAll (the_user user.now) (length fids.now) (sights store.now.durable.volumes (the_user user.now) fids.now) result }
+    ensures { SeesAll (the_user user.now) (length fids.now) (file_sights (holds_seen store.now) (lasting_of store.now.durable) (the_user user.now) fids.now) result }
 {
     let mut told = Told::new(alloc);
     for fid in fids {
@@ -70,7 +75,7 @@ impl FileServer {
     ) -> Mem<Decided>
         requires few { length fids.now ≤ 50 }
         requires opcode { head.now.opcode ≡ 155 }
-        ensures { IfOk result (IsDecision (server_seen self.now store.now) now head.now (several head.now (the_user user.now) (sights store.now.durable.volumes (the_user user.now) fids.now))) }
+        ensures { IfOk result (IsDecision (server_seen self.now store.now) now head.now (several head.now (the_user user.now) (file_sights (holds_seen store.now) (lasting_of store.now.durable) (the_user user.now) fids.now))) }
     {
         let _ = head.opcode;
         let _ = now;

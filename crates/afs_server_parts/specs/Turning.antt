@@ -62,6 +62,10 @@ pub record Goes {T E : Type 0} (f : Stand → Backs → row.Turn) (old new : Tur
 abbrev pub sent_turn : Message → Backs → row.Turn
 sent_turn m b = record (no_turn b) { sent = m ∷ [] }
 
+-- these messages go out
+abbrev pub sent_turns : List Message → Backs → row.Turn
+sent_turns ms b = record (no_turn b) { sent = ms }
+
 -- a reply goes out, now or once these breaks have ended
 abbrev pub answer_turn : Message → List ℕ → Bool → Backs → row.Turn
 answer_turn reply waits again b = record (no_turn b) { outs = record { reply = reply; waits = waits; again = again } ∷ [] }

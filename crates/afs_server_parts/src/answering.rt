@@ -4,19 +4,20 @@ ghost use Rattle.std.specs.Prelude.{◌≡◌, IfNone, IfOk};
 ghost use Rattle.std.specs.List.{All};
 ghost use Rattle.std.specs.Option.{option_copied};
 ghost use Rattle.afs_num.specs.declared.types.Node.{Node};
+ghost use Rattle.afs_breaks.specs.Promises.{Lists};
 ghost use Rattle.afs_rows.specs.Callbacks.{alls, held_under, is_reply_to, key_answered, repeats_by};
-ghost use Rattle.afs_server_parts.specs.Turning.{waits_again, IsFresh, Goes, answer_turn, sent_turn};
+ghost use Rattle.afs_server_parts.specs.Turning.{waits_again, backs_with, IsFresh, IsReady, IsTurn, Goes, answer_turn, sent_turn, sent_turns};
 
 use crate::held::{HeldReply, copy_numbers};
 use crate::owed::alls;
 use crate::turns::Turn;
-use afs_message::spelled::SpelledMessage;
+use afs_message::spelled::{Sent, SpelledMessage};
 use afs_num::sequences::Sequence;
 use afs_num::types::{Head, Key, Mem};
 use std::alloc::Global;
 
 /// The call that a reply of this header answers.
-fn key_answered(head: &Head) -> Key
+pub fn key_answered(head: &Head) -> Key
     ensures { result ≡ record { node = head.now.to; epoch = head.now.epoch; number = head.now.number } }
 {
     Key {
@@ -35,7 +36,7 @@ fn is_reply_to(key: &Key, reply: &SpelledMessage) -> bool
 }
 
 /// The first of the replies that answers this call.
-fn held_under<'a>(key: &Key, replies: &'a [HeldReply]) -> Option<&'a HeldReply>
+pub fn held_under<'a>(key: &Key, replies: &'a [HeldReply]) -> Option<&'a HeldReply>
     ensures { option_copied result ≡ held_under key.now replies.entry.now }
 {
     for one in replies {
@@ -54,6 +55,16 @@ impl Turn {
     {
         self.calls.sent.push(message)?;
         Ok(())
+    }
+
+    /// These messages go out. It takes no memory.
+    pub fn send_all(&mut self, messages: Sent)
+        requires fresh { IsFresh self.old }
+        ensures turn { (l : Lists) → l.owed ≡ self.old.owed.items → IsTurn (sent_turns messages (backs_with l self.old.held self.old.calls)) self.new }
+        ensures stand { self.new.stand ≡ self.old.stand }
+        ensures ready { IsReady self.old → IsReady self.new }
+    {
+        self.calls.sent = messages;
     }
 
     /// A reply goes out, now or once the breaks of these numbers have ended.

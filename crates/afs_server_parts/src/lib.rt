@@ -2,11 +2,12 @@
 //! plans with them before anything is changed.
 #![tactic(auto)]
 
-mod answering;
+pub mod answering;
 pub mod callees;
 pub mod callers;
 pub mod calling;
 pub mod ending;
+pub mod faults;
 pub mod few;
 pub mod held;
 pub mod owed;

@@ -25,18 +25,18 @@ some_is {A} x y e = cc
 -- ---- one volume
 
 in_refused : (holds : Table ℕ) (s : ServerState) (clock : ℕ) (head : Head) (caller : Caller) (call : FsCall) (id code : ℕ) (o : Option Stored) → code_by holds s id o ≡ Some code → file_in holds s clock head caller call id o ≡ refuses head (pos code)
-in_refused holds s clock head caller call id code None e = ap (λ (c : ℕ). refuses head (pos c)) (some_is (missing_code s id) code e)
+in_refused holds s clock head caller call id code None e = ap (λ (c : ℕ). refuses head (pos c)) (some_is (missing_code s.lasting id) code e)
 in_refused holds s clock head caller call id code (Some st) e = ap (λ (c : Option ℕ). unless_closed head c (decided s clock head caller call id st (op id caller call st.volume))) e
 
 in_served : (holds : Table ℕ) (s : ServerState) (clock : ℕ) (head : Head) (caller : Caller) (call : FsCall) (id : ℕ) (o : Option Stored) → code_by holds s id o ≡ None → file_in holds s clock head caller call id o ≡ in_volume s clock head caller call id o
 in_served holds s clock head caller call id None e = absurd cc
 in_served holds s clock head caller call id (Some st) e = ap (λ (c : Option ℕ). unless_closed head c (decided s clock head caller call id st (op id caller call st.volume))) e
 
-sight_refused : (holds : Table ℕ) (s : ServerState) (caller : Caller) (f : Fid) (code : ℕ) (o : Option Stored) → code_by holds s f.volume o ≡ Some code → file_sight holds s caller f o ≡ Err code
-sight_refused holds s caller f code None e = ap (λ (c : ℕ). Err c) (some_is (missing_code s f.volume) code e)
+sight_refused : (holds : Table ℕ) (s : ServerState) (caller : Caller) (f : Fid) (code : ℕ) (o : Option Stored) → code_by holds s f.volume o ≡ Some code → file_sight holds s.lasting caller f o ≡ Err code
+sight_refused holds s caller f code None e = ap (λ (c : ℕ). Err c) (some_is (missing_code s.lasting f.volume) code e)
 sight_refused holds s caller f code (Some st) e = ap (λ (c : Option ℕ). sight_unless c (sight_by st (op f.volume caller (calls.FetchStatus f) st.volume))) e
 
-sight_served : (holds : Table ℕ) (s : ServerState) (caller : Caller) (f : Fid) (o : Option Stored) → code_by holds s f.volume o ≡ None → file_sight holds s caller f o ≡ sight_in caller f o
+sight_served : (holds : Table ℕ) (s : ServerState) (caller : Caller) (f : Fid) (o : Option Stored) → code_by holds s f.volume o ≡ None → file_sight holds s.lasting caller f o ≡ sight_in caller f o
 sight_served holds s caller f None e = absurd cc
 sight_served holds s caller f (Some st) e = ap (λ (c : Option ℕ). sight_unless c (sight_by st (op f.volume caller (calls.FetchStatus f) st.volume))) e
 

@@ -32,7 +32,7 @@ use Rattle.afs_rows.specs.ServerSteps.{back_timeout_row, done, server_row, start
 use Rattle.afs_rows.specs.States.{BackCall, ServerState, durable_of}
 use Rattle.afs_rows.specs.Steps.{begun_before, Begun}
 use Rattle.afs_fold.specs.Effects.{vanished_lines}
-use Rattle.afs_fold.proofs.Plain.{none_vanish}
+use Rattle.afs_fold.proofs.Vanishing.{none_vanish}
 use Rattle.afs_volrows.specs.FileLaws.{IsOpen, OpenServersArePlain, OpenServersStayOpen, TellsFirst}
 use Rattle.afs_volrows.specs.FileRow.{closed_code, file_admits, file_called, file_carried, file_decides, file_hears, file_in, file_received, file_row, file_serves, file_sight, file_sights, file_start, file_volume, sight_unless, start_lines, unless_closed}
 
@@ -57,7 +57,7 @@ volume_by s clock head caller call id None open' there = rw open'.forwardings re
 volume_by s clock head caller call id (Some st) open' there =
     ap (λ (c : Option ℕ). unless_closed head c (decided s clock head caller call id st (op id caller call st.volume))) (not_closed s id st open' there)
 
-sight_is : (s : ServerState) (caller : Caller) (f : Fid) (o : Option Stored) → IsOpen s → get f.volume s.lasting.volumes ≡ o → file_sight [] s caller f o ≡ sight_in caller f o
+sight_is : (s : ServerState) (caller : Caller) (f : Fid) (o : Option Stored) → IsOpen s → get f.volume s.lasting.volumes ≡ o → file_sight [] s.lasting caller f o ≡ sight_in caller f o
 sight_is s caller f None open' there = rw open'.forwardings refl
 sight_is s caller f (Some st) open' there = ap (λ (c : Option ℕ). sight_unless c (sight_by st (op f.volume caller (calls.FetchStatus f) st.volume))) (not_closed s f.volume st open' there)
 
@@ -230,11 +230,11 @@ open_stay = record {
 join : Result Sight ℕ → Result (List Sight) ℕ → Result (List Sight) ℕ
 join o os = o >>= λ x. (os >>= λ xs. Ok (x ∷ xs))
 
-sights_plain : (s : ServerState) (caller : Caller) (fs : List Fid) → IsOpen s → file_sights [] s caller fs ≡ sights s.lasting.volumes caller fs
+sights_plain : (s : ServerState) (caller : Caller) (fs : List Fid) → IsOpen s → file_sights [] s.lasting caller fs ≡ sights s.lasting.volumes caller fs
 unfolding join
 sights_plain s caller [] h = refl
 sights_plain s caller (f ∷ fs) h =
-    ap (λ (o : Result Sight ℕ). join o (file_sights [] s caller fs)) (sight_is s caller f (get f.volume s.lasting.volumes) h refl)
+    ap (λ (o : Result Sight ℕ). join o (file_sights [] s.lasting caller fs)) (sight_is s caller f (get f.volume s.lasting.volumes) h refl)
     ∙ ap (λ (os : Result (List Sight) ℕ). join (sight_in caller f (get f.volume s.lasting.volumes)) os) (sights_plain s caller fs h)
 
 volume_plain : (s : ServerState) (clock : ℕ) (head : Head) (caller : Caller) (call : FsCall) (o : Option ℕ) → IsOpen s → file_volume [] s clock head caller call o ≡ with_volume s clock head caller call o

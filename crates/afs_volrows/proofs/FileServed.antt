@@ -54,7 +54,7 @@ in_by holds s clock head caller call id st None e = inl refl
 in_by holds s clock head caller call id st (Some code) e = inr (record { head = head; code = code; closed = closed_by (nat_eq st.volume.flags 0) st (get id holds) code e; is = refl })
 
 in_served : (holds : Table ℕ) (s : ServerState) (clock : ℕ) (head : Head) (caller : Caller) (call : FsCall) (id : ℕ) (o : Option Stored) → IsSameOrCloses (file_in holds s clock head caller call id o) (in_volume s clock head caller call id o)
-in_served holds s clock head caller call id None = inr (record { head = head; code = missing_code s id; closed = missing_by (is_some (get id s.lasting.forwardings)); is = refl })
+in_served holds s clock head caller call id None = inr (record { head = head; code = missing_code s.lasting id; closed = missing_by (is_some (get id s.lasting.forwardings)); is = refl })
 in_served holds s clock head caller call id (Some st) = in_by holds s clock head caller call id st (closed_code st (get id holds)) refl
 
 volume_served : (holds : Table ℕ) (s : ServerState) (clock : ℕ) (head : Head) (caller : Caller) (call : FsCall) (o : Option ℕ) → IsSameOrCloses (file_volume holds s clock head caller call o) (with_volume s clock head caller call o)
@@ -73,8 +73,8 @@ sight_shut : (holds : Table ℕ) (s : ServerState) (caller : Caller) (f : Fid) (
 sight_shut holds s caller f st None e = inl refl
 sight_shut holds s caller f st (Some code) e = inr (record { code = code; closed = closed_by (nat_eq st.volume.flags 0) st (get f.volume holds) code e; is = refl })
 
-sight_served : (holds : Table ℕ) (s : ServerState) (caller : Caller) (f : Fid) (o : Option Stored) → (file_sight holds s caller f o ≡ sight_in caller f o) ⊎ IsShut (file_sight holds s caller f o)
-sight_served holds s caller f None = inr (record { code = missing_code s f.volume; closed = missing_by (is_some (get f.volume s.lasting.forwardings)); is = refl })
+sight_served : (holds : Table ℕ) (s : ServerState) (caller : Caller) (f : Fid) (o : Option Stored) → (file_sight holds s.lasting caller f o ≡ sight_in caller f o) ⊎ IsShut (file_sight holds s.lasting caller f o)
+sight_served holds s caller f None = inr (record { code = missing_code s.lasting f.volume; closed = missing_by (is_some (get f.volume s.lasting.forwardings)); is = refl })
 sight_served holds s caller f (Some st) = sight_shut holds s caller f st (closed_code st (get f.volume holds)) refl
 
 join : Result Sight ℕ → Result (List Sight) ℕ → Result (List Sight) ℕ
@@ -96,11 +96,11 @@ unfolding join
 sights_by a b xs bs (inl same) rest = join_by a b xs bs same rest
 sights_by a b xs bs (inr shut) rest = inr (record { code = shut.code; closed = shut.closed; is = ap (λ (x : Result Sight ℕ). join x xs) shut.is })
 
-sights_served : (holds : Table ℕ) (s : ServerState) (caller : Caller) (fs : List Fid) → (file_sights holds s caller fs ≡ sights s.lasting.volumes caller fs) ⊎ IsShut (file_sights holds s caller fs)
+sights_served : (holds : Table ℕ) (s : ServerState) (caller : Caller) (fs : List Fid) → (file_sights holds s.lasting caller fs ≡ sights s.lasting.volumes caller fs) ⊎ IsShut (file_sights holds s.lasting caller fs)
 unfolding join
 sights_served holds s caller [] = inl refl
 sights_served holds s caller (f ∷ fs) =
-    sights_by (file_sight holds s caller f (get f.volume s.lasting.volumes)) (sight_in caller f (get f.volume s.lasting.volumes)) (file_sights holds s caller fs) (sights s.lasting.volumes caller fs)
+    sights_by (file_sight holds s.lasting caller f (get f.volume s.lasting.volumes)) (sight_in caller f (get f.volume s.lasting.volumes)) (file_sights holds s.lasting caller fs) (sights s.lasting.volumes caller fs)
     (sight_served holds s caller f (get f.volume s.lasting.volumes)) (sights_served holds s caller fs)
 
 several_served : (head : Head) (caller : Caller) (a b : Result (List Sight) ℕ) → (a ≡ b) ⊎ IsShut a → IsSameOrCloses (several head caller a) (several head caller b)
@@ -112,7 +112,7 @@ several_served head caller a b (inr shut) = inr (record { head = head; code = sh
 serves_served : (holds : Table ℕ) (s : ServerState) (clock : ℕ) (head : Head) (user : List ℕ) (call : FsCall) → IsSameOrCloses (file_serves holds s clock head user call) (serves_call s clock head user call)
 serves_served holds s clock head user (calls.GiveUpCallBacks fids callbacks) = inl refl
 serves_served holds s clock head user calls.GetTime = inl refl
-serves_served holds s clock head user (calls.BulkStatus fids) = several_served head (the_user user) (file_sights holds s (the_user user) fids) (sights s.lasting.volumes (the_user user) fids) (sights_served holds s (the_user user) fids)
+serves_served holds s clock head user (calls.BulkStatus fids) = several_served head (the_user user) (file_sights holds s.lasting (the_user user) fids) (sights s.lasting.volumes (the_user user) fids) (sights_served holds s (the_user user) fids)
 serves_served holds s clock head user call = volume_served holds s clock head (the_user user) call (volume_called call)
 
 carried_served : (holds : Table ℕ) (s : ServerState) (clock : ℕ) (head : Head) (c : Carried) → IsSameOrCloses (file_carried holds s clock head c) (runs_carried s clock head c)

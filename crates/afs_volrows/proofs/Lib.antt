@@ -1,5 +1,8 @@
 pub mod Deciding
 pub mod FileOpen
+pub mod FirstOpen
+pub mod CellOpen
+pub mod HostPlain
 pub mod FileServed
 pub mod FileClosed
 pub mod VolKeeping
@@ -9,5 +12,6 @@ pub mod VolHolds
 pub mod VolTurns
 pub mod VolNodes
 pub mod VolResting
+pub mod HostResting
 pub mod VolWaiting
 pub mod VolWorked

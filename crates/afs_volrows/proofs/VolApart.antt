@@ -139,7 +139,7 @@ rest_found : (family m n : ℕ) (ts : Table Transaction) (t : Transaction) → A
 rest_found family m n [] t up e = e
 rest_found family m n (p ∷ ps) t up e = rest_found_by (is_of_other family p) family n p ps (without_family family ps) t up.1 (rest_found family (p.0 + 1) n ps t up.1) e
 
-rest_apart : (v : Table Stored) (last family : ℕ) (ts : Table Transaction) → AreApart v last ts → AreApart v last (without_family family ts)
+pub rest_apart : (v : Table Stored) (last family : ℕ) (ts : Table Transaction) → AreApart v last ts → AreApart v last (without_family family ts)
 rest_apart v last family ts h = fewer v last ts (without_family family ts) (rest_ascends family 1 ts h.ascend) (λ n t e. rest_found family 1 n ts t h.ascend e) h
 
 pub no_both : (b : Bool) → b ≡ true → b ≡ false → ⊥
@@ -162,29 +162,29 @@ deleted v last number t ts is h =
 
 -- ---- verdicts
 
-after_body : Option RecordBody → Durable → Durable
+unfoldable pub after_body : Option RecordBody → Durable → Durable
 after_body None d = d
 after_body (Some body) d = done_by body d
 
-None_begun : After → Type 0
+unfoldable pub None_begun : After → Type 0
 None_begun (begins id f flags s) = ⊥
 None_begun stay = ⊤
 None_begun (ends number) = ⊤
 None_begun (gives number bytes) = ⊤
 
-Apart : Durable → Table Transaction → ℕ → Verdict → Type 0
+unfoldable pub Apart : Durable → Table Transaction → ℕ → Verdict → Type 0
 Apart d ts last (refused code after) = None_begun after
 Apart d ts last (accepted p) = AreApart (after_body p.body d).volumes (last_after last p.after) (transactions_after last p.after ts)
 Apart d ts last (sends x) = ⊤
 
-none_apart : (v : Table Stored) (last : ℕ) (after : After) (ts : Table Transaction) → None_begun after → AreApart v last ts → AreApart v (last_after last after) (transactions_after last after ts)
+pub none_apart : (v : Table Stored) (last : ℕ) (after : After) (ts : Table Transaction) → None_begun after → AreApart v last ts → AreApart v (last_after last after) (transactions_after last after ts)
 unfolding None_begun
 none_apart v last stay ts n h = h
 none_apart v last (begins id f flags s) ts n h = absurd n
 none_apart v last (ends number) ts n h = ended v last number ts h
 none_apart v last (gives number bytes) ts n h = gave_apart v last number bytes (get number ts) ts refl h
 
-full_none : (after : After) → None_begun (when_full after)
+pub full_none : (after : After) → None_begun (when_full after)
 unfolding None_begun
 full_none stay = tt
 full_none (begins id f flags s) = tt
@@ -291,7 +291,7 @@ dumps_apart : (d : Durable) (ts : Table Transaction) (last offset : ℕ) (bytes 
 unfolding Apart None_begun after_body
 dumps_apart d ts last offset bytes h = unless_apart d ts last (nat_lt (length bytes) offset) bad_dump _ (λ f. h)
 
-verdict_apart : (d : Durable) (ts : Table Transaction) (last stamp : ℕ) (call : VolCall) → AreApart d.volumes last ts → Apart d ts last (verdict d ts last stamp call)
+pub verdict_apart : (d : Durable) (ts : Table Transaction) (last stamp : ℕ) (call : VolCall) → AreApart d.volumes last ts → Apart d ts last (verdict d ts last stamp call)
 unfolding Apart None_begun after_body
 verdict_apart d ts last stamp (calls.CreateVolume family id name kind flags quota) h =
     unless_apart d ts last (has_volume id d) is_there_already _ (λ e. unless_apart d ts last (not (has_volume_room d)) no_more _
@@ -346,7 +346,7 @@ same_apart d head ts last (refused code after) own h = none_apart d.volumes last
 same_apart d head ts last (accepted p) own h = same_apart_body d head ts last p p.body own h
 same_apart d head ts last (sends x) own h = tt
 
-or_stamp_is : (o : Option RecordBody) (d : Durable) → after_body o d ≡ done_by (or_stamp o) d
+pub or_stamp_is : (o : Option RecordBody) (d : Durable) → after_body o d ≡ done_by (or_stamp o) d
 unfolding after_body
 or_stamp_is None d = refl
 or_stamp_is (Some body) d = refl

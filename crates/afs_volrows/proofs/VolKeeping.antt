@@ -28,11 +28,11 @@ use Rattle.afs_volrows.specs.VolSteps.{Deed, VolDecision, deed_head, deed_record
 
 -- ---- verdicts: what an accepted call writes can be taken
 
-BodyTaken : Durable → Option ℕ → Option RecordBody → Type 0
+unfoldable pub BodyTaken : Durable → Option ℕ → Option RecordBody → Type 0
 BodyTaken d w None = w ≡ None
 BodyTaken d w (Some body) = (can_take body d ≡ true) × (w ≡ withdrawn_by d body)
 
-Taken : Durable → Verdict → Type 0
+unfoldable pub Taken : Durable → Verdict → Type 0
 Taken d (refused code after) = ⊤
 Taken d (accepted p) = BodyTaken d p.withdraws p.body
 Taken d (sends x) = ⊤
@@ -105,7 +105,7 @@ dumps_taken : (d : Durable) (offset : ℕ) (bytes : List ℕ) → Taken d (dumps
 unfolding Taken BodyTaken
 dumps_taken d offset bytes = unless_taken d (nat_lt (length bytes) offset) bad_dump _ (λ f. refl)
 
-verdict_taken : (d : Durable) (ts : Table Transaction) (last stamp : ℕ) (call : VolCall) → Taken d (verdict d ts last stamp call)
+pub verdict_taken : (d : Durable) (ts : Table Transaction) (last stamp : ℕ) (call : VolCall) → Taken d (verdict d ts last stamp call)
 unfolding Taken BodyTaken
 verdict_taken d ts last stamp (calls.CreateVolume family id name kind flags quota) =
     unless_taken d (has_volume id d) is_there_already _ (λ e. unless_taken d (not (has_volume_room d)) no_more _ (λ f. (rw (e, not_false (has_volume_room d) f) refl, refl)))
@@ -159,7 +159,7 @@ same_fits d head ts last (refused code after) h = tt
 same_fits d head ts last (accepted p) h = same_fits_body d head ts last p p.body h
 same_fits d head ts last (sends x) h = tt
 
-stamp_taken : (d : Durable) (w : Option ℕ) (o : Option RecordBody) → BodyTaken d w o → (can_take (or_stamp o) d ≡ true) × (w ≡ withdrawn_by d (or_stamp o))
+pub stamp_taken : (d : Durable) (w : Option ℕ) (o : Option RecordBody) → BodyTaken d w o → (can_take (or_stamp o) d ≡ true) × (w ≡ withdrawn_by d (or_stamp o))
 unfolding BodyTaken
 stamp_taken d w None h = (refl, h)
 stamp_taken d w (Some body) h = h

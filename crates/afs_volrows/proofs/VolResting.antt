@@ -18,7 +18,7 @@ with_held v hs s = record {
   sent = s.sent ++ replies_of (filter (is_ready s.state.backs.lists.owed) hs);
 }
 
-none_held : (v : VolState) (s : Step ServerState) → v.held ≡ [] → file_stepped v s ≡ resting v s
+pub none_held : (v : VolState) (s : Step ServerState) → v.held ≡ [] → file_stepped v s ≡ resting v s
 unfolding with_held
 none_held v s none =
     ap (λ (hs : List Held). with_held v hs s) none

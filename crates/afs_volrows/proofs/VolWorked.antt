@@ -1,6 +1,6 @@
 -- Worked calls of a volume server: what each is answered and tells, and what the file server beside it answers meanwhile.
 use Rattle.std.proofs.Common.{◌≡◌, ℕ, List, [], ◌∷◌, ◌++◌, Some, None, map, pos, negsuc, refl}
-use Rattle.std.specs.Prelude.{codes, false}
+use Rattle.std.specs.Prelude.{codes, false, true}
 use Rattle.std.specs.Fmt.{digits}
 use Rattle.afs_num.specs.Names.{name_ok}
 use Rattle.afs_num.specs.declared.calls.AfsStoreStatus.{AfsStoreStatus}
@@ -38,11 +38,14 @@ use Rattle.afs_records.specs.Durable.{Stored}
 use Rattle.afs_dumps.specs.Dumps.{dump_of}
 use Rattle.afs_dumps.specs.Restores.{fed, finished}
 use Rattle.afs_dumps.specs.Streams.{dump_at, dump_bytes, dump_field, dump_header_field, image_field, live_field, volume_header_field}
+use Rattle.afs_rows.specs.Hosts as host
+use Rattle.afs_rows.specs.Hosts.{comes_up, fails_midway, in_boot, in_step, restarted, steady, HostStep}
 use Rattle.afs_rows.specs.Runs.{first_server}
 use Rattle.afs_rows.specs.Steps.{begun_before}
 use Rattle.afs_fold.specs.Deeds.{created}
 use Rattle.afs_fold.specs.Effects.{version_lines}
 use Rattle.afs_volrows.specs.FileRow.{file_row, file_start}
+use Rattle.afs_volrows.specs.NodeHosts.{node_kind, NodeHost}
 use Rattle.afs_volrows.specs.VolStates.{fresh_vol, NodeState}
 use Rattle.afs_volrows.specs.VolSteps.{node_begun_after, node_row, node_start_row}
 
@@ -215,6 +218,35 @@ flagged_then_gone :
     ≡ lines.Fence home (Server 1) ∷ lines.Restart (Server 1) 2 ∷ lines.Vanish home (Server 1) ∷ lines.Owe (Server 1) (Client 1) None 1 ∷ []
 unfolding node_row node_start_row file_start file_row spelled record_bytes head_form volume_form word opaque pad directory_bytes name_bytes rights_of image acl_text digits entry_text name_ok
 flagged_then_gone = refl
+
+-- so it is at its host: the disk fails at the last of the step's four calls, and the record is whole
+abbrev failing : NodeHost
+failing = record { state = after start (asks 1 1 (calls.TransCreate home home 1) ∷ []); down = None; armed = record { stop = None; fail = Some 4 } }
+
+abbrev flags_it : Message
+flags_it = asks 2 1 (calls.SetFlags home 1 3)
+
+host_falls : (host.served (node_kind (Server 1)) failing 0 1 steady flags_it).lines ≡ lines.Given 1 ∷ lines.Fault (Server 1) ∷ []
+unfolding node_row node_start_row file_start file_row spelled record_bytes head_form volume_form word opaque pad directory_bytes name_bytes rights_of image acl_text digits entry_text name_ok
+host_falls = refl
+
+host_rises :
+    (restarted (node_kind (Server 1)) (host.served (node_kind (Server 1)) failing 0 1 steady flags_it).host 9 1 true comes_up (in_step flags_it 0 (record { call = 4; is_set = true; stops = false; pick = 0 }))).lines
+    ≡ lines.Fence home (Server 1) ∷ lines.Restart (Server 1) 2 ∷ lines.Vanish home (Server 1) ∷ lines.Owe (Server 1) (Client 1) None 1 ∷ []
+unfolding node_row node_start_row file_start file_row spelled record_bytes head_form volume_form word opaque pad directory_bytes name_bytes rights_of image acl_text digits entry_text name_ok
+host_rises = refl
+
+-- The disk fails again behind the record of that start, and the volume that vanished with it is told by the next, first of all.
+abbrev rises_halfway : HostStep NodeState
+rises_halfway = restarted (node_kind (Server 1)) (host.served (node_kind (Server 1)) failing 0 1 steady flags_it).host 9 1 true fails_midway (in_step flags_it 0 (record { call = 4; is_set = true; stops = false; pick = 0 }))
+
+host_fails_again : rises_halfway.lines ≡ lines.Fence home (Server 1) ∷ lines.Fault (Server 1) ∷ []
+unfolding node_row node_start_row file_start file_row spelled record_bytes head_form volume_form word opaque pad directory_bytes name_bytes rights_of image acl_text digits entry_text name_ok
+host_fails_again = refl
+
+host_rises_again : (restarted (node_kind (Server 1)) rises_halfway.host 9 1 true comes_up in_boot).lines ≡ lines.Vanish home (Server 1) ∷ lines.Restart (Server 1) 3 ∷ lines.Owe (Server 1) (Client 1) None 1 ∷ []
+unfolding node_row node_start_row file_start file_row spelled record_bytes head_form volume_form word opaque pad directory_bytes name_bytes rights_of image acl_text digits entry_text name_ok
+host_rises_again = refl
 
 -- ---- a restart ends the transactions, and their numbers begin anew
 

@@ -80,9 +80,9 @@ abbrev pub FileStepsAreServedOrClose : Type 0
 FileStepsAreServedOrClose = (me : Node) (holds : Table ℕ) (s : ServerState) (clock place : ℕ) (m : Received) →
     (file_row me holds s clock place m ≡ server_row me s clock place m) ⊎ IsClosingStep me holds s clock place m
 
--- the code with which the volume of this number refuses every call, if it does
+-- the code with which the volume of this number refuses every call that looks at it, if it does
 abbrev pub code_by : Table ℕ → ServerState → ℕ → Option Stored → Option ℕ
-code_by holds s id None = Some (missing_code s id)
+code_by holds s id None = Some (missing_code s.lasting id)
 code_by holds s id (Some st) = closed_code st (get id holds)
 
 abbrev pub volume_code : Table ℕ → ServerState → ℕ → Option ℕ
@@ -97,8 +97,8 @@ pub record ClosedAreRefused : Type 0 where
       file_serves holds s clock head user call ≡ refuses head (pos code)
   pub served : (holds : Table ℕ) (s : ServerState) (clock : ℕ) (head : Head) (user : List ℕ) (call : FsCall) (id : ℕ) → volume_called call ≡ Some id → volume_code holds s id ≡ None →
       file_serves holds s clock head user call ≡ serves_call s clock head user call
-  pub unseen : (holds : Table ℕ) (s : ServerState) (caller : Caller) (f : Fid) (code : ℕ) → volume_code holds s f.volume ≡ Some code → file_sight holds s caller f (get f.volume s.lasting.volumes) ≡ Err code
-  pub seen : (holds : Table ℕ) (s : ServerState) (caller : Caller) (f : Fid) → volume_code holds s f.volume ≡ None → file_sight holds s caller f (get f.volume s.lasting.volumes) ≡ sight_in caller f (get f.volume s.lasting.volumes)
+  pub unseen : (holds : Table ℕ) (s : ServerState) (caller : Caller) (f : Fid) (code : ℕ) → volume_code holds s f.volume ≡ Some code → file_sight holds s.lasting caller f (get f.volume s.lasting.volumes) ≡ Err code
+  pub seen : (holds : Table ℕ) (s : ServerState) (caller : Caller) (f : Fid) → volume_code holds s f.volume ≡ None → file_sight holds s.lasting caller f (get f.volume s.lasting.volumes) ≡ sight_in caller f (get f.volume s.lasting.volumes)
 
 -- It begins again as the other does: only its lines are told besides.
 pub record StartsAlike : Type 0 where

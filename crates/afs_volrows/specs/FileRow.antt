@@ -25,7 +25,7 @@ use Rattle.afs_records.specs.Durable.{Stored}
 use Rattle.afs_rows.specs.Callbacks.{expired, risen_turn, turned_in}
 use Rattle.afs_rows.specs.ServerRow.{code_of_unreadable, decided, drops, given_up_read, is_client, no_volume, not_served, refuses, repeats, revived, several, shows, sight_by, tells_boot, time_read, whole, Decision, Sight}
 use Rattle.afs_rows.specs.ServerSteps.{done, stepped}
-use Rattle.afs_rows.specs.States.{ServerState}
+use Rattle.afs_rows.specs.States.{Lasting, ServerState}
 use Rattle.afs_rows.specs.Steps.{Begun, Step}
 use Rattle.afs_fold.specs.Effects.{vanished_lines}
 
@@ -35,8 +35,8 @@ use Rattle.afs_fold.specs.Effects.{vanished_lines}
 abbrev pub went_on : ℕ
 went_on = 111
 
-abbrev pub missing_code : ServerState → ℕ → ℕ
-missing_code s id = if is_some (get id s.lasting.forwardings) then went_on else no_volume
+abbrev pub missing_code : Lasting → ℕ → ℕ
+missing_code l id = if is_some (get id l.forwardings) then went_on else no_volume
 
 -- 106: out of service, or offline in a transaction
 abbrev pub out_of_service : ℕ
@@ -50,7 +50,7 @@ abbrev pub held_code : Option ℕ → Option ℕ
 held_code None = None
 held_code (Some hold) = if nat_eq hold 1 then Some out_of_service else Some busy
 
--- the code with which the volume refuses every call
+-- the code with which the volume refuses every call that looks at it
 abbrev pub closed_code : Stored → Option ℕ → Option ℕ
 closed_code st hold = if nat_eq st.volume.flags 0 then held_code hold else Some out_of_service
 
@@ -61,7 +61,7 @@ unless_closed head None d = d
 unless_closed head (Some code) d = refuses head (pos code)
 
 abbrev pub file_in : Table ℕ → ServerState → ℕ → Head → Caller → FsCall → ℕ → Option Stored → Decision
-file_in holds s clock head caller call id None = refuses head (pos (missing_code s id))
+file_in holds s clock head caller call id None = refuses head (pos (missing_code s.lasting id))
 file_in holds s clock head caller call id (Some st) =
     unless_closed head (closed_code st (get id holds)) (decided s clock head caller call id st (op id caller call st.volume))
 
@@ -75,23 +75,23 @@ abbrev pub sight_unless : Option ℕ → Result Sight ℕ → Result Sight ℕ
 sight_unless None r = r
 sight_unless (Some code) r = Err code
 
-abbrev pub file_sight : Table ℕ → ServerState → Caller → Fid → Option Stored → Result Sight ℕ
-file_sight holds s caller f None = Err (missing_code s f.volume)
-file_sight holds s caller f (Some st) =
+abbrev pub file_sight : Table ℕ → Lasting → Caller → Fid → Option Stored → Result Sight ℕ
+file_sight holds l caller f None = Err (missing_code l f.volume)
+file_sight holds l caller f (Some st) =
     sight_unless (closed_code st (get f.volume holds)) (sight_by st (op f.volume caller (calls.FetchStatus f) st.volume))
 
 -- all of them, or the code of the first that fails
-abbrev pub file_sights : Table ℕ → ServerState → Caller → List Fid → Result (List Sight) ℕ
-file_sights holds s caller [] = Ok []
-file_sights holds s caller (f ∷ fs) =
-    file_sight holds s caller f (get f.volume s.lasting.volumes) >>= λ x. (file_sights holds s caller fs >>= λ xs. Ok (x ∷ xs))
+abbrev pub file_sights : Table ℕ → Lasting → Caller → List Fid → Result (List Sight) ℕ
+file_sights holds l caller [] = Ok []
+file_sights holds l caller (f ∷ fs) =
+    file_sight holds l caller f (get f.volume l.volumes) >>= λ x. (file_sights holds l caller fs >>= λ xs. Ok (x ∷ xs))
 
 -- ---- what is decided on a message: all else is as in ServerRow
 
 abbrev pub file_serves : Table ℕ → ServerState → ℕ → Head → List ℕ → FsCall → Decision
 file_serves holds s clock head user (calls.GiveUpCallBacks fids callbacks) = shows head (given_up_read fids)
 file_serves holds s clock head user calls.GetTime = shows head (time_read clock)
-file_serves holds s clock head user (calls.BulkStatus fids) = several head (the_user user) (file_sights holds s (the_user user) fids)
+file_serves holds s clock head user (calls.BulkStatus fids) = several head (the_user user) (file_sights holds s.lasting (the_user user) fids)
 file_serves holds s clock head user call = file_volume holds s clock head (the_user user) call (volume_called call)
 
 abbrev pub file_carried : Table ℕ → ServerState → ℕ → Head → Carried → Decision

@@ -2,6 +2,9 @@ pub mod FileRow
 pub mod VolStates
 pub mod VolRow
 pub mod VolSteps
-pub mod NodeHosts
 pub mod FileLaws
+pub mod FileHosts
+pub mod NodeHosts
+pub mod RestingHosts
+pub mod CellLaws
 pub mod VolLaws

@@ -4,9 +4,9 @@ use Rattle.afs_num.specs.declared.messages.Received.TheVariants.{Whole}
 use Rattle.afs_num.specs.declared.types.Node.{Node}
 use Rattle.afs_rows.specs.Hosts.{goes, Host, HostStep, Kind}
 use Rattle.afs_rows.specs.ServerHosts.{can_start}
-use Rattle.afs_rows.specs.ServerRow.{revived}
 use Rattle.afs_rows.specs.States.{BackCall, ServerState}
 use Rattle.afs_rows.specs.Steps.{Begun}
+use Rattle.afs_volrows.specs.FileHosts.{file_begun_again}
 use Rattle.afs_volrows.specs.VolStates.{NodeState, PieceCall}
 use Rattle.afs_volrows.specs.VolSteps.{node_back_timeout_row, node_begun_after, node_device_calls, node_row, node_start_row, node_wake_row, piece_timeout_row}
 
@@ -17,8 +17,8 @@ NodeHost = Host NodeState
 abbrev pub with_file : NodeState → ServerState → NodeState
 with_file s file = record s { file = file }
 
--- A restart begins with what its file server's begins with: what the disk has, and the lines of the step that was interrupted. The
--- memory of the volume server is lost.
+-- A restart begins with what its file server's begins with: what the disk has, and the lines of the step that was interrupted. What the
+-- volume server had in memory is seen until the start, which makes it anew.
 abbrev pub node_begun : NodeState → Begun ServerState → Begun NodeState
 node_begun s begun = record { state = with_file s begun.state; before = begun.before }
 
@@ -32,7 +32,7 @@ node_kind me = record {
   device_calls = node_device_calls me;
   row = node_row me;
   begun_after = λ s clock m. node_begun s (node_begun_after me s clock (Whole m));
-  revived = λ s. with_file s (revived s.file);
+  begun_again = λ s. node_begun s (file_begun_again me s.file);
   start = λ clock count begun. node_start_row me clock count (file_begun begun);
   can_start = λ s. can_start s.file;
 }

@@ -1,6 +1,6 @@
 -- The row of a volume server: what it decides on a call that runs. Each verdict is of the durable part and the transactions, in the
 -- order of refusals: an old stamp; a volume that is there; no such transaction or volume; one that another transaction holds; a dump
--- that is none; no room.
+-- that is none; no room. A dump that is longer than one may be finds no room, whatever its bytes are.
 use Rattle.std.specs.Prelude.{ℕ, ◌+◌, List, [], ◌∷◌, ◌++◌, Bool, not, ◌&&◌, ◌||◌, Option, Some, None, Result, Ok, Err, nat_eq, nat_lt, length, map, filter, if◌then◌else◌}
 use Rattle.std.specs.List.{list_any}
 use Rattle.afs_num.specs.declared.records.RecordBody.{RecordBody}

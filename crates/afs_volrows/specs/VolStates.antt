@@ -6,7 +6,7 @@ use Rattle.afs_ideal.specs.Tables.{Table}
 use Rattle.afs_rows.specs.States.{Held, Seat, ServerState, Unanswered}
 
 -- A transaction holds a volume of the family under a stamp. Its flags are 1 for a volume that is offline, 2 for one that is busy.
--- `given` are the bytes of the dump that was given to it so far.
+-- `given` are the bytes of the dump that was given to it so far. The stamp is looked at by the laws alone.
 pub record Transaction : Type 0 where
   pub volume : ℕ
   pub family : ℕ

@@ -128,7 +128,8 @@ abbrev pub or_stamp : Option RecordBody → RecordBody
 or_stamp None = bodies.Stamp
 or_stamp (Some body) = body
 
--- Under a higher stamp: that is stored, whatever the answer, and the family's transactions have ended; `live` are the others.
+-- Under a higher stamp: that is stored, whatever the answer, and the family's transactions have ended; `live` are the others. A call that
+-- is sent on would store nothing, but none is: it asks for a transaction of the family.
 abbrev pub raised_by : Durable → Head → ℕ → Table Transaction → ℕ → Verdict → VolDecision → VolDecision
 raised_by d head family live last (refused code after) full = written d head
     (record {
@@ -297,7 +298,8 @@ queued head x v = record v { sendings = put_at (Server x.server) (v.sendings (Se
 abbrev pub dispatched : Node → Lasting → VolState → Backs → Head → Dispatch → VolTurn
 dispatched me l v b head x = next_piece me l.boot (Server x.server) (vol_rests l (queued head x (in_progress head v)) b)
 
--- a kept reply: of one that waits nothing is sent, as the call is in progress
+-- A kept reply. Of one that waits nothing is sent, as the call is in progress; where the breaks on all have ended in this very step, and
+-- it was asked for again, it is sent beside the one that waited.
 abbrev pub vol_repeats : Lasting → VolState → Backs → Message → Option Held → Bool → VolTurn
 vol_repeats l v b reply (Some h) good = if h.again && is_ready b.lists.owed h then vol_answers l v b [] reply [] true else vol_rests l v b
 vol_repeats l v b reply None true = vol_answers l v b [] reply (alls b.lists.owed) true

@@ -1,6 +1,9 @@
 //! Laws about the steps of a volume server, and of the file server beside it. Each is the contract of a function that does nothing.
 
+ghost use Rattle.afs_volrows.specs.CellLaws.{CellsStayOpen};
+ghost use Rattle.afs_volrows.specs.FileHosts.{OpenHostsArePlain};
 ghost use Rattle.afs_volrows.specs.FileLaws.{ClosedAreRefused, FilesAreServedOrClosed, FileStepsAreServedOrClose, OpenServersArePlain, OpenServersStayOpen, StartsAlike};
+ghost use Rattle.afs_volrows.specs.RestingHosts.{RestingHostsAreFiles};
 ghost use Rattle.afs_volrows.specs.VolLaws.{ClientsLeaveVolumesAlone, DeedsAreFolded, DeedsAreShown, DeedsAreTold, DeedsAreWritable, FencesWait, HeldAreKept, HeldGoOutLast, HoldsFollow, NodesStayApart, NodesStayStamped, OthersLeaveFiles, StampsStand, TransactionsStayApart};
 
 /// Where no volume is held, out of service or elsewhere, the file server steps as one without a volume server.
@@ -11,6 +14,16 @@ pub fn open_servers_are_plain()
 /// And it stays so.
 pub fn open_servers_stay_open()
     ensures { OpenServersStayOpen }
+{}
+
+/// The servers of a cell whose runs have no volume server are so from set-up on, and stay so.
+pub fn cells_stay_open()
+    ensures { CellsStayOpen }
+{}
+
+/// As a host it is one without a volume server, where its volumes are all in service.
+pub fn open_hosts_are_plain()
+    ensures { OpenHostsArePlain }
 {}
 
 /// Every file server decides as one without a volume server, or refuses because a volume is closed.
@@ -36,6 +49,11 @@ pub fn starts_alike()
 /// A message of a client to a node is its file server's, and its volume server rests.
 pub fn clients_leave_volumes_alone()
     ensures { ClientsLeaveVolumesAlone }
+{}
+
+/// So is the host of a node whose callers are clients the host of its file server, from one restart to the next.
+pub fn resting_hosts_are_files()
+    ensures { RestingHostsAreFiles }
 {}
 
 /// What a volume server writes can be taken by the fold of its records, there is room for it, and it withdraws what its record says.

@@ -1,7 +1,7 @@
 use Rattle.std.specs.Prelude.{◌≡◌, ◌≤◌, ◌↔◌, Err, IsSome}
 use Rattle.std.proofs.Common.{subst}
 use Rattle.afs_model.specs.Messages.{received}
-use Rattle.afs_server.specs.declared.faults.NodeFault.{NodeFault}
+use Rattle.afs_server_parts.specs.declared.faults.NodeFault.{NodeFault}
 use Rattle.afs_host.specs.LocSeats.{loc_disk_of}
 use Rattle.afs_host.specs.LocServing.{loc_disk_served, IsLocServed, LocBecomes}
 use Rattle.afs_cell.proofs.DatabaseSeats.{loc_fell_happens, loc_fell_keeps, loc_heard_up}

@@ -1,10 +1,20 @@
-use Rattle.std.proofs.Common.{refl}
-use Rattle.afs_cell.proofs.FirstStores.{first_server, same_back}
+use Rattle.std.proofs.Common.{ap, sym, ◌∙◌, arith}
+use Rattle.afs_disk.specs.Fuses.{Fused}
+use Rattle.afs_volstore.specs.Stores.{Store}
+use Rattle.afs_cell.proofs.FirstStores.{first_is_node, first_server, node_serves, unseated_with}
 use Rattle.afs_cell.proofs.seating.server_at_first.Goals as goal
 
-pub returns-in_default-clause-err : goal.returns-in_default-clause-err
-returns-in_default-clause-err g c = record { cause = refl; back = same_back g.D.Disk.seen g.D.Disk.may_leave g.D.Disk.faults g.D.Disk.limit c.args.script.now c.args.server c.args.disk }
+pub new-requires-clause-node : goal.new-requires-clause-node
+new-requires-clause-node g c = first_is_node g.D.Disk.seen g.D.Disk.may_leave g.D.Disk.faults g.D.Disk.limit c.args.script.now c.args.server c.requires.script c.args.disk c.in_ok-store.store c.requires.server.0 c.requires.server.1 c.in_ok-store.ensures.ok
 
-pub returns-clause-ok : goal.returns-clause-ok
-returns-clause-ok g c =
-    first_server g.D.Disk.seen g.D.Disk.may_leave g.D.Disk.faults g.D.Disk.limit c.args.script.now c.args.server c.args.disk c.in_ok-store.store c.in-Ok.memory c.new-2.result c.in_ok-store.ensures.ok c.in-Ok.ensures c.new-2.ensures.value c.new-2.ensures.can_run
+pub new-requires-in-Ok-clause-serves : goal.new-requires-in-Ok-clause-serves
+new-requires-in-Ok-clause-serves g c =
+    node_serves g.D.Disk.seen g.D.Disk.may_leave g.D.Disk.faults g.D.Disk.limit c.args.script.now c.args.server c.requires.script c.args.disk c.in_ok-store.store c.in-Ok.memory c.requires.server.0 c.requires.server.1 c.in_ok-store.ensures.ok c.in-Ok.ensures.file c.in-Ok.ensures.volumes
+
+pub returns-in-Ok-clause-ok : goal.returns-in-Ok-clause-ok
+returns-in-Ok-clause-ok g c =
+    first_server g.D.Disk.seen g.D.Disk.may_leave g.D.Disk.faults g.D.Disk.limit c.args.script.now c.args.server c.args.disk c.in_ok-store.store c.in-Ok.memory c.new-in-Ok.result c.in_ok-store.ensures.ok c.in-Ok.ensures.file c.in-Ok.ensures.vol c.new-in-Ok.ensures.value c.new-in-Ok.ensures.can_run
+
+pub returns-in-Err-clause-err : goal.returns-in-Err-clause-err
+returns-in-Err-clause-err g c =
+    unseated_with g.D.Disk.seen g.D.Disk.may_leave g.D.Disk.faults g.D.Disk.limit c.args.script.now c.args.server c.args.disk c.in_ok-store.store c.in_ok-store.ensures.ok c.into_inner.result (c.into_inner.ensures ∙ ap (λ (f : Fused g.row.D.Denot). f.disk) c.into_disk.ensures)

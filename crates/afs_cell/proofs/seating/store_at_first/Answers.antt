@@ -5,7 +5,7 @@ use Rattle.afs_num.specs.declared.types.Node.TheVariants.{Server}
 use Rattle.afs_history.specs.declared.scripts.VolumeLine.{VolumeLine}
 use Rattle.afs_disk.specs.Disk.{LeavesJust}
 use Rattle.afs_disk.specs.Fuses.{last_count, Fused}
-use Rattle.afs_records.specs.Changes.{set_up}
+use Rattle.afs_fold.specs.SetUps.{set_up}
 use Rattle.afs_grammar.specs.Lines.{volumes_at}
 use Rattle.afs_volstore.specs.Opening.{IsSetUpSoFar}
 use Rattle.afs_volstore.specs.Stores.{IsCaused}
@@ -29,7 +29,7 @@ returns-in-Ok-create-clause-ok g c =
     let none : c.new.result.calls ≡ 0 = ap (λ (f : Fused g.row.D.Denot). f.calls) c.new.ensures in
     let most : store.disk.calls ≤ c.new.result.calls + 12 = m.few in
     first_store g.D.Disk.seen g.D.Disk.may_leave g.D.Disk.faults g.D.Disk.limit c.args.script.now c.requires.script c.args.server c.args.disk ls c.set_ups_are_first.ensures c.numbers_ascend.ensures store lines c.requires.capacity
-    (subst (λ (d : g.row.D.Denot). set_up (g.D.Disk.limit d) ls ≡ Some store.durable) disk e.made) e.rest (m.same_setting ∙ ap (λ (f : Fused g.row.D.Denot). setting_of f) c.new.ensures) (omega (arith, most, none)) (m.same_limit ∙ ap g.D.Disk.limit disk)
+    (subst (λ (d : g.row.D.Denot). set_up (g.D.Disk.limit d) ls ≡ Some store.durable) disk e.made) e.rest e.free (m.same_setting ∙ ap (λ (f : Fused g.row.D.Denot). setting_of f) c.new.ensures) (omega (arith, most, none)) (m.same_limit ∙ ap g.D.Disk.limit disk)
     (subst (λ (d : g.row.D.Denot). g.D.Disk.faults store.disk.disk ≡ g.D.Disk.faults d) disk e.quiet.1) (subst (λ (d : g.row.D.Denot). IsSome (g.D.Disk.seen store.disk.disk) ↔ IsSome (g.D.Disk.seen d)) disk e.told) e.kept
 
 pub returns-clause-err : goal.returns-clause-err

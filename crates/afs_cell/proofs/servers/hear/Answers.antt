@@ -1,16 +1,29 @@
 use Rattle.std.specs.Prelude.{◌≡◌, ◌≤◌, ◌↔◌, Err, IsSome}
 use Rattle.afs_model.specs.Messages.{received}
-use Rattle.afs_server.specs.declared.faults.NodeFault.{NodeFault}
-use Rattle.afs_host.specs.Seats.{disk_of}
+use Rattle.afs_server_parts.specs.declared.faults.NodeFault.{NodeFault}
+use Rattle.afs_host.specs.Seats.{disk_of, with_behind}
 use Rattle.afs_host.specs.Serving.{disk_served, Becomes, IsServed}
 use Rattle.afs_cell.proofs.Falling.{fell_happens, fell_keeps}
-use Rattle.afs_cell.proofs.Seats.{heard_up}
-use Rattle.std.proofs.Common.{subst}
+use Rattle.afs_history.specs.declared.lines.Line.TheVariants as lines
+use Rattle.afs_host.specs.Seated.{ServerSeat}
+use Rattle.afs_host.specs.declared.seats.Seat.TheVariants.{Up}
+use Rattle.afs_cell.specs.SeatSteps.{HasHeard, IsFallen, SeatGoes, SeatHappens}
+use Rattle.afs_cell.proofs.Seats.{gave_out, goes_up, heard_up}
+use Rattle.std.proofs.Common.{arith, subst, sym, [], ◌∷◌}
 use Rattle.afs_cell.proofs.servers.hear.Goals as goal
 
 pub returns-in-Ok-clause-happens : goal.returns-in-Ok-clause-happens
 returns-in-Ok-clause-happens g c = λ me place own.
-    heard_up g.D.Disk.seen g.D.Disk.may_leave g.D.Disk.faults g.D.Disk.limit me c.args.now place c.args.bytes.now c.args.seat.now c.in-Up.running c.serve.new.self c.in-Ok.outs c.in-Up.is own c.in-Ok.ensures.served
+    let outs = with_behind (c.in-Ok.outs, c.in-Ok.behind) in
+    gave_out
+    (λ what. SeatHappens g.D.Disk.seen g.D.Disk.may_leave g.D.Disk.faults g.D.Disk.limit me (lines.Given place ∷ []) IsFallen (HasHeard me c.args.now place c.args.bytes.now) c.args.seat.now (Up c.serve.new.self) what) outs c.given_out.result c.given_out.ensures
+    (heard_up g.D.Disk.seen g.D.Disk.may_leave g.D.Disk.faults g.D.Disk.limit me c.args.now place c.args.bytes.now c.args.seat.now c.in-Up.running c.serve.new.self outs c.in-Up.is own c.in-Ok.ensures.served) tt
+
+pub returns-in-Ok-clause-goes : goal.returns-in-Ok-clause-goes
+returns-in-Ok-clause-goes g c = λ me own.
+    subst (λ (seat : ServerSeat g.row.D.Denot). SeatGoes me seat (Up c.serve.new.self) c.given_out.result) (sym c.in-Up.is)
+    (gave_out (λ what. SeatGoes me (Up c.in-Up.running) (Up c.serve.new.self) what) (with_behind (c.in-Ok.outs, c.in-Ok.behind)) c.given_out.result c.given_out.ensures
+    (λ entries ready. goes_up me 4 50 entries c.in-Up.running c.serve.new.self (omega arith) (omega arith) c.in-Ok.ensures.goes_on ready) tt)
 
 pub returns-in-Err-Down-clause-happens : goal.returns-in-Err-Down-clause-happens
 returns-in-Err-Down-clause-happens g c = λ me place own.

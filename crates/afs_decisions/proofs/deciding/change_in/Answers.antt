@@ -18,7 +18,7 @@ returns c =
     let applies = c.apply_ready-applied.ensures.applies in
     let is : ChangesAs w.head.id x d = subst (λ (h : VolumeHead). ChangesAs h.id x d) c.head.ensures.value c.in_ok-decided.ensures in
     record {
-      decides = λ s there. change_decides s c.args.now c.args.head.now caller w call x d c.requires.on there applies is;
+      decides = λ new s there. change_decides s c.args.now c.args.head.now caller new w call x d c.requires.on there applies is;
       told = change_can_be_told c.args.head.now.opcode c.args.now caller w call x d c.requires.call.opcode applies c.apply_ready-applied.ensures.reply is;
       fits = change_fits c.args.now caller w call x d c.requires.on applies c.apply_ready-applied.ensures.fits is;
     }

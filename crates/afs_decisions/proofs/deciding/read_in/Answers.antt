@@ -8,8 +8,8 @@ pub read-read-requires-clause-on : goal.read-read-requires-clause-on
 read-read-requires-clause-on c = is_on c.args.call.now c.args.volume.now.head.id c.requires.on
 
 pub returns-clause-decides : goal.returns-clause-decides
-returns-clause-decides c s =
-    read_decides s c.args.now c.args.head.now (the_user c.args.user.now) c.args.volume.now c.args.call.now c.read-read.result c.in_ok-decided.decided c.requires.reading c.requires.on c.read-read.ensures.replies c.in_ok-decided.ensures
+returns-clause-decides c new s =
+    read_decides s c.args.now c.args.head.now (the_user c.args.user.now) new c.args.volume.now c.args.call.now c.read-read.result c.in_ok-decided.decided c.requires.reading c.requires.on c.read-read.ensures.replies c.in_ok-decided.ensures
 
 pub returns-clause-told : goal.returns-clause-told
 returns-clause-told c =

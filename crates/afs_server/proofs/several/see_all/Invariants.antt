@@ -1,9 +1,12 @@
 use Rattle.std.proofs.Common.{drop}
 use Rattle.afs_ideal.specs.Operations.{the_user}
-use Rattle.afs_rows.specs.ServerRow.{sights}
+use Rattle.afs_volrows.specs.FileRow.{file_sights}
+use Rattle.afs_server.specs.Handling.{holds_seen}
+use Rattle.afs_server.specs.Seen.{lasting_of}
 use Rattle.afs_decisions.specs.Several.{AreFirst}
 use Rattle.afs_server.proofs.several.see_all.Given as goal
 
 abbrev pub invariant-loop-fid : goal.invariant-loop-fid
 invariant-loop-fid g l =
-    AreFirst (the_user l.user) (sights l.store.durable.volumes (the_user l.user) l.fids) (sights l.store.durable.volumes (the_user l.user) (drop l.fid-index l.fids)) l.fid-index l.told
+    let seen = file_sights (holds_seen l.store) (lasting_of l.store.durable) (the_user l.user) in
+    AreFirst (the_user l.user) (seen l.fids) (seen (drop l.fid-index l.fids)) l.fid-index l.told

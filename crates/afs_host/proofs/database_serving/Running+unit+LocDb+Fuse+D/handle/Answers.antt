@@ -11,9 +11,8 @@ use Rattle.afs_rows.specs.LocRow.{loc_decides, loc_device_calls}
 use Rattle.afs_rows.specs.LocSteps.{loc_begun_after, loc_row}
 use Rattle.afs_locdb.specs.Handling.{loc_calls_served, loc_decided_then, loc_record_then, Handles, IsQuiet, IsWritten}
 use Rattle.afs_locdb.specs.Seen.{loc_seen}
-use Rattle.afs_locdb.specs.declared.faults.NodeFault.{NodeFault}
-use Rattle.afs_locdb.specs.declared.faults.NodeFault.TheVariants as faults
-use Rattle.afs_server.specs.declared.faults.NodeFault.TheVariants as nodes
+use Rattle.afs_server_parts.specs.declared.faults.NodeFault.{NodeFault}
+use Rattle.afs_server_parts.specs.declared.faults.NodeFault.TheVariants as nodes
 use Rattle.afs_host.specs.LocSeats.{DatabaseRunning, LocCanRun}
 use Rattle.afs_host.specs.LocStanding.{loc_keeping}
 use Rattle.afs_host.specs.LocServing.{IsLocHandled, RunsLocRow}
@@ -108,7 +107,7 @@ returns-in-Err-Down-clause-handled g c =
     let closed = subst (λ (f : NodeFault). Handles (loc_row s 0 found) (lines.Given 0 ∷ []) inside.store c.handle.new.self (Err f)) is (e.step 0) in
     let decided = loc_record_then inside.store c.args.bytes.now in
     let written : (r : LocRecord) → decided ≡ Some r → IsWritten {T = Outs} r decided (Err c.in-Err-Down.field-0) = λ r w. subst (λ (f : NodeFault). IsWritten {T = Outs} r decided (Err f)) (sym is) w in
-    let err : IsErrOf {T = Outs} {E = NodeFault} (Err c.in-Err-Down.field-0) faults.Down = ap (λ (f : NodeFault). Err f) is in
+    let err : IsErrOf {T = Outs} {E = NodeFault} (Err c.in-Err-Down.field-0) nodes.Down = ap (λ (f : NodeFault). Err f) is in
     let some = e.down err in
     let next = loc_begun_after s (loc_decides s found) in
     let before = inside.store.store.disk.disk in
@@ -147,6 +146,6 @@ pub returns-in-Err-Down-clause-row : goal.returns-in-Err-Down-clause-row
 returns-in-Err-Down-clause-row g c =
     let inside = c.self.inside in
     let e = c.in-Err-Down.ensures in
-    let err : IsErrOf {T = Outs} {E = NodeFault} (Err c.in-Err-Down.field-0) faults.Down = ap (λ (f : NodeFault). Err f) c.in-Err-Down.field-0-is in
+    let err : IsErrOf {T = Outs} {E = NodeFault} (Err c.in-Err-Down.field-0) nodes.Down = ap (λ (f : NodeFault). Err f) c.in-Err-Down.field-0-is in
     let of = loc_message_of (loc_seen inside.store) inside.store.store.durable.boot (received_by loc_calls_served c.args.bytes.now) (e.down err) in
     (of.0, loc_stands_there c.args.bytes.now of.0 of.1)

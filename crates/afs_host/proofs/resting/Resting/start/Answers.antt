@@ -6,13 +6,12 @@ use Rattle.afs_num.specs.declared.types.Node.{Node}
 use Rattle.afs_history.specs.declared.lines.Line.{Line}
 use Rattle.afs_disk.specs.Disk.{Rose, Setting}
 use Rattle.afs_disk.specs.Fuses.{Fused}
-use Rattle.afs_rows.specs.ServerSteps.{start_row}
-use Rattle.afs_rows.specs.States.{ServerState}
+use Rattle.afs_volrows.specs.VolStates.{NodeState}
 use Rattle.afs_rows.specs.Steps.{Begun}
-use Rattle.afs_volstore.specs.Stores.{IsCaused, Store}
+use Rattle.afs_volstore.specs.Stores.{recorded, IsCaused, Store}
 use Rattle.afs_host.specs.Seats.{Resting, ServerRunning}
 use Rattle.afs_host.specs.Standing.{server_keeping}
-use Rattle.afs_host.specs.Starting.{disk_started, server_sight, BootsFrom, BootsOver, GoesOnBooted, IsFound, IsRefused, IsStarted, StartsOver}
+use Rattle.afs_host.specs.Starting.{disk_started, node_start, server_sight, BootsFrom, BootsOver, GoesOnBooted, IsFound, IsRefused, IsStarted, StartsOver}
 use Rattle.afs_host.specs.declared.starting.Start.{Start}
 use Rattle.afs_host.proofs.Rising.{server_fits}
 use Rattle.afs_host.proofs.Started.{boots_over, own_cause, own_quiet, refused_over, refused_so, taken_up, Refused}
@@ -29,7 +28,7 @@ returns-in-Ok-attach-clause-started g c =
     let node : s.node ≡ c.args.node = ap (λ (t : Store (Fused g.row.D.Denot)). t.node) e.rest in
     let is : old ≡ c.args.self = ap (λ (d : g.row.D.Denot). record { disk = d; mark = c.self.inside.mark }) (ap (λ (f : Fused g.row.D.Denot). f.disk) c.new.ensures) ∙ c.self.view_is in
     subst (λ (x : Resting g.row.D.Denot). IsSome (g.D.Disk.seen x.disk) → IsStarted g.D.Disk c.args.node c.args.now c.args.clients x c.boot.result) is
-    (taken_up k (server_fits c.args.node) g.D.Disk old server_sight c.args.now c.args.clients s c.in-Ok-attach.front c.boot.result (record {
+    (taken_up k (server_fits c.args.node) g.D.Disk old server_sight c.args.now c.args.clients (recorded s) c.in-Ok-attach.front c.boot.result (record {
       shows = λ d bytes told. g.met.D.Disk.leaves d 1 bytes (g.met.D.Disk.shows d ∙ told);
       stands = λ bytes told. e.stands bytes told;
       lines_are = λ bytes told. e.lines bytes told;
@@ -37,7 +36,7 @@ returns-in-Ok-attach-clause-started g c =
       counted = λ bytes told. e.count bytes told;
       capacity = e.capacity;
       quiet = e.quiet.1;
-      boots = subst (λ (n : Node). (begun : Begun ServerState) (records : List (List ℕ)) → IsFound (server_keeping n) g.D.Disk begun records c.in-Ok-attach.front s → BootsFrom g.D.Disk begun records n c.args.now c.args.clients s.disk.disk c.boot.result) node b.boots;
+      boots = subst (λ (n : Node). (begun : Begun NodeState) (records : List (List ℕ)) → IsFound (server_keeping n) g.D.Disk begun records c.in-Ok-attach.front (recorded s) → BootsFrom g.D.Disk begun records n c.args.now c.args.clients s.disk.disk c.boot.result) node b.boots;
       unchanged = λ d is. (
         subst (λ (x : Start (ServerRunning g.row.D.Denot) (Resting g.row.D.Denot)). GoesOnBooted s old.mark x) is b.goes_on,
         subst (λ (x : Start (ServerRunning g.row.D.Denot) (Resting g.row.D.Denot)). g.D.Disk.limit (disk_started x) ≡ g.D.Disk.limit old.disk) is (b.limit ∙ e.limit),
@@ -77,7 +76,7 @@ returns-in-Ok-attach-clause-over g c =
     let is : old ≡ c.args.self = ap (λ (d : g.row.D.Denot). record { disk = d; mark = c.self.inside.mark }) (ap (λ (f : Fused g.row.D.Denot). f.disk) c.new.ensures) ∙ c.self.view_is in
     let node = ap (λ (t : Store (Fused g.row.D.Denot)). t.node) e.rest in
     subst (λ (x : Resting g.row.D.Denot). StartsOver g.D.Disk c.args.node c.args.now c.args.clients x c.boot.result) is
-    (boots_over (server_keeping c.args.node) server_sight g.D.Disk (start_row c.args.node c.args.now c.args.clients) old s c.in-Ok-attach.front e.capacity c.boot.result
+    (boots_over (server_keeping c.args.node) server_sight g.D.Disk (node_start c.args.node c.args.now c.args.clients) old (recorded s) c.in-Ok-attach.front e.capacity c.boot.result
     (subst (λ (before : ℕ). BootsOver g.D.Disk s.durable c.in-Ok-attach.front c.args.node c.args.now c.args.clients before c.boot.result) e.quiet.1
     (subst (λ (n : Node). BootsOver g.D.Disk s.durable c.in-Ok-attach.front n c.args.now c.args.clients (g.D.Disk.faults s.disk.disk) c.boot.result) node c.boot.ensures.over)))
 
@@ -90,7 +89,7 @@ returns-in-Err-clause-over g c =
     let is : old ≡ c.args.self = ap (λ (d : g.row.D.Denot). record { disk = d; mark = c.self.inside.mark }) (ap (λ (f : Fused g.row.D.Denot). f.disk) c.new.ensures) ∙ c.self.view_is in
     let inner : new.disk ≡ c.in-Err.fuse.disk = c.into_inner.ensures in
     subst (λ (x : Resting g.row.D.Denot). StartsOver g.D.Disk c.args.node c.args.now c.args.clients x c.refused.result) is
-    (refused_over (server_keeping c.args.node) server_sight g.D.Disk (start_row c.args.node c.args.now c.args.clients) old new c.in-Err.refusal (λ number is bytes told. e.bad number is bytes told)
+    (refused_over (server_keeping c.args.node) server_sight g.D.Disk (node_start c.args.node c.args.now c.args.clients) old new c.in-Err.refusal (λ number is bytes told. e.bad number is bytes told)
     (λ failed. subst (λ (d : g.row.D.Denot). Rose (g.D.Disk.faults old.disk) (g.D.Disk.faults d)) (sym inner)
     (own_cause (record { stop = fuse.stop; fail = fuse.fail }) c.in-Err.fuse.calls _ _ _ _ c.in-Err.refusal (ap (λ (f : Fused g.row.D.Denot). f.stop) c.new.ensures) (ap (λ (f : Fused g.row.D.Denot). f.fail) c.new.ensures) e.err.1 failed)) refl e.refusals
     (λ memory. ap g.D.Disk.faults inner ∙ own_quiet (record { stop = fuse.stop; fail = fuse.fail }) c.in-Err.fuse.calls _ _ _ _ c.in-Err.refusal e.err.1 memory)

@@ -4,7 +4,7 @@ use Rattle.afs_history.specs.declared.lines.Outs.{Outs}
 use Rattle.afs_records.specs.LocRecords.{FitsLocRecord}
 use Rattle.afs_locdb.specs.Saving.{LocStoreOf}
 use Rattle.afs_locdb.specs.Seen.{Database}
-use Rattle.afs_locdb.specs.declared.faults.NodeFault.{NodeFault}
+use Rattle.afs_server_parts.specs.declared.faults.NodeFault.{NodeFault}
 use Rattle.afs_locdb.proofs.Still.{handed_up, with_fault, with_value, OfDisk}
 use Rattle.afs_locdb.proofs.database.LocDb.put.Goals as goal
 

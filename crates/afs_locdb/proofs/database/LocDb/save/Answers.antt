@@ -9,8 +9,8 @@ use Rattle.afs_locdb.specs.Handling.{loc_record_decided}
 use Rattle.afs_locdb.specs.Saving.{IsChangeOf, LocStoreOf, Puts}
 use Rattle.afs_locdb.specs.Handling.{Answers}
 use Rattle.afs_locdb.specs.Seen.{loc_seen, lasting_of, Database, IsInBoot}
-use Rattle.afs_locdb.specs.declared.faults.NodeFault.{NodeFault}
-use Rattle.afs_locdb.specs.declared.faults.NodeFault.TheVariants as nodes
+use Rattle.afs_server_parts.specs.declared.faults.NodeFault.{NodeFault}
+use Rattle.afs_server_parts.specs.declared.faults.NodeFault.TheVariants as nodes
 use Rattle.afs_locdb.proofs.Kept.{known_to_nodes}
 use Rattle.afs_locdb.proofs.OnDisks.{disk_all}
 use Rattle.afs_locdb.proofs.Saved.{can, folds}

@@ -3,8 +3,9 @@ use Rattle.std.specs.Prelude.{OnOk}
 use Rattle.afs_model.specs.Messages.{received_by}
 use Rattle.afs_rows.specs.Callbacks as row
 use Rattle.afs_rows.specs.Callbacks.{turned_in}
-use Rattle.afs_rows.specs.ServerRow.{decides, device_calls}
-use Rattle.afs_server.specs.Handling.{calls_served, server_seen}
+use Rattle.afs_rows.specs.ServerRow.{device_calls}
+use Rattle.afs_volrows.specs.FileRow.{file_decides}
+use Rattle.afs_server.specs.Handling.{calls_served, holds_seen, server_seen}
 use Rattle.afs_server.proofs.Wholly.{calls_decided, called_after, done_after, draws_after, left_down, serves_after, some_down, step_at, store_after, told_after}
 use Rattle.afs_server.proofs.server.FileServer.handle.Goals as goal
 
@@ -15,41 +16,41 @@ returns-clause-step g c place =
 pub returns-clause-serves : goal.returns-clause-serves
 returns-clause-serves g c =
     let s = c.args.store.now in
-    let d = decides s.node (server_seen c.args.self.now s) c.args.now (received_by calls_served c.args.bytes.now) in
+    let d = file_decides s.node (holds_seen s) (server_seen c.args.self.now s) c.args.now (received_by calls_served c.args.bytes.now) in
     let turn = turned_in s.node (server_seen c.args.self.now s) c.args.now (row.expired c.args.now (server_seen c.args.self.now s).backs) d (received_by calls_served c.args.bytes.now) in
     serves_after c.args.now d turn c.args.self.now c.take_bytes.new.self s c.take_bytes.new.store c.take_bytes.result c.take_bytes.ensures.took.does
 
 pub returns-clause-store : goal.returns-clause-store
 returns-clause-store g c =
     let s = c.args.store.now in
-    let d = decides s.node (server_seen c.args.self.now s) c.args.now (received_by calls_served c.args.bytes.now) in
+    let d = file_decides s.node (holds_seen s) (server_seen c.args.self.now s) c.args.now (received_by calls_served c.args.bytes.now) in
     let turn = turned_in s.node (server_seen c.args.self.now s) c.args.now (row.expired c.args.now (server_seen c.args.self.now s).backs) d (received_by calls_served c.args.bytes.now) in
     store_after c.args.now d turn c.args.self.now c.take_bytes.new.self s c.take_bytes.new.store c.take_bytes.result c.take_bytes.ensures.took.does
 
 pub returns-clause-kept : goal.returns-clause-kept
 returns-clause-kept g c =
     let s = c.args.store.now in
-    let d = decides s.node (server_seen c.args.self.now s) c.args.now (received_by calls_served c.args.bytes.now) in
+    let d = file_decides s.node (holds_seen s) (server_seen c.args.self.now s) c.args.now (received_by calls_served c.args.bytes.now) in
     let turn = turned_in s.node (server_seen c.args.self.now s) c.args.now (row.expired c.args.now (server_seen c.args.self.now s).backs) d (received_by calls_served c.args.bytes.now) in
     done_after c.args.now d turn c.args.self.now c.take_bytes.new.self s c.take_bytes.new.store c.take_bytes.result c.take_bytes.ensures.took.does
 
 pub returns-clause-draws : goal.returns-clause-draws
 returns-clause-draws g c =
     let s = c.args.store.now in
-    let d = decides s.node (server_seen c.args.self.now s) c.args.now (received_by calls_served c.args.bytes.now) in
+    let d = file_decides s.node (holds_seen s) (server_seen c.args.self.now s) c.args.now (received_by calls_served c.args.bytes.now) in
     draws_after c.args.now d (received_by calls_served c.args.bytes.now) c.args.self.now c.take_bytes.new.self s c.take_bytes.new.store c.take_bytes.result c.take_bytes.ensures.took.does
 
 pub returns-clause-down : goal.returns-clause-down
 returns-clause-down g c =
     let s = c.args.store.now in
-    let d = decides s.node (server_seen c.args.self.now s) c.args.now (received_by calls_served c.args.bytes.now) in
+    let d = file_decides s.node (holds_seen s) (server_seen c.args.self.now s) c.args.now (received_by calls_served c.args.bytes.now) in
     let turn = turned_in s.node (server_seen c.args.self.now s) c.args.now (row.expired c.args.now (server_seen c.args.self.now s).backs) d (received_by calls_served c.args.bytes.now) in
     some_down c.args.now d turn c.args.self.now c.take_bytes.new.self s c.take_bytes.new.store c.take_bytes.result c.take_bytes.ensures.took.does
 
 pub returns-clause-interrupted : goal.returns-clause-interrupted
 returns-clause-interrupted g c =
     let s = c.args.store.now in
-    let d = decides s.node (server_seen c.args.self.now s) c.args.now (received_by calls_served c.args.bytes.now) in
+    let d = file_decides s.node (holds_seen s) (server_seen c.args.self.now s) c.args.now (received_by calls_served c.args.bytes.now) in
     let turn = turned_in s.node (server_seen c.args.self.now s) c.args.now (row.expired c.args.now (server_seen c.args.self.now s).backs) d (received_by calls_served c.args.bytes.now) in
     left_down c.args.now d turn c.args.self.now c.take_bytes.new.self s c.take_bytes.new.store c.take_bytes.result c.take_bytes.ensures.took.does
 
@@ -74,7 +75,7 @@ returns-clause-told g c = c.take_bytes.ensures.took.disk.told
 pub returns-clause-effects : goal.returns-clause-effects
 returns-clause-effects g c r written ls =
     let s = c.args.store.now in
-    let d = decides s.node (server_seen c.args.self.now s) c.args.now (received_by calls_served c.args.bytes.now) in
+    let d = file_decides s.node (holds_seen s) (server_seen c.args.self.now s) c.args.now (received_by calls_served c.args.bytes.now) in
     let turn = turned_in s.node (server_seen c.args.self.now s) c.args.now (row.expired c.args.now (server_seen c.args.self.now s).backs) d (received_by calls_served c.args.bytes.now) in
     told_after c.args.now d turn c.args.self.now c.take_bytes.new.self s c.take_bytes.new.store c.take_bytes.result c.take_bytes.ensures.took.does r written ls
 
@@ -93,5 +94,5 @@ returns-clause-setting g c = c.take_bytes.ensures.took.disk.set
 pub returns-clause-calls : goal.returns-clause-calls
 returns-clause-calls g c =
     let s = c.args.store.now in
-    let d = decides s.node (server_seen c.args.self.now s) c.args.now (received_by calls_served c.args.bytes.now) in
+    let d = file_decides s.node (holds_seen s) (server_seen c.args.self.now s) c.args.now (received_by calls_served c.args.bytes.now) in
     called_after (server_seen c.args.self.now s) s.durable c.args.now d c.take_bytes.result _ _ c.take_bytes.ensures.took.disk.called

@@ -4,7 +4,8 @@ use Rattle.afs_history.specs.declared.lines.Outs.{Outs}
 use Rattle.afs_breaks.specs.Promises.{expired, grants_all, lasting, withdrawn, Lists}
 use Rattle.afs_breaks.specs.declared.types.Promise.{Promise}
 use Rattle.afs_model.specs.Calls.{call_seated}
-use Rattle.afs_records.specs.Durable.{folded, Durable}
+use Rattle.afs_records.specs.Durable.{Durable}
+use Rattle.afs_fold.specs.Fold.{folded}
 use Rattle.afs_records.specs.Records.{FitsRecord}
 use Rattle.afs_rows.specs.ServerRow.{seat_for}
 use Rattle.afs_callbacks.specs.Saving.{withdraws_each}
@@ -14,8 +15,8 @@ use Rattle.afs_server.specs.Seen.{Memory}
 use Rattle.afs_volstore.specs.Stores.{Store}
 use Rattle.afs_message.specs.Spelled.{IsSpelling, Spells}
 use Rattle.afs_server_parts.specs.declared.ending.Ended.{Ended}
-use Rattle.afs_server.specs.declared.faults.NodeFault.{NodeFault}
-use Rattle.afs_server.specs.declared.faults.NodeFault.TheVariants as nodes
+use Rattle.afs_server_parts.specs.declared.faults.NodeFault.{NodeFault}
+use Rattle.afs_server_parts.specs.declared.faults.NodeFault.TheVariants as nodes
 use Rattle.afs_promise.specs.Found.{without_found}
 use Rattle.afs_callbacks.proofs.Found.{found_held, found_then, found_withdrawn}
 use Rattle.afs_callbacks.proofs.Holding.{all_few}

@@ -16,8 +16,8 @@ use Rattle.afs_server.specs.Handling.{record_decided, server_seen, turn_then}
 use Rattle.afs_callbacks.specs.Answering.{reply_told}
 use Rattle.afs_callbacks.specs.Saving.{change_kept, fids_granted, hits_each, new_grants}
 use Rattle.afs_server.specs.Seen.{Serves}
-use Rattle.afs_server.specs.declared.faults.NodeFault.{NodeFault}
-use Rattle.afs_server.specs.declared.faults.NodeFault.TheVariants as nodes
+use Rattle.afs_server_parts.specs.declared.faults.NodeFault.{NodeFault}
+use Rattle.afs_server_parts.specs.declared.faults.NodeFault.TheVariants as nodes
 use Rattle.afs_memory.specs.Named.{IsNamed}
 use Rattle.afs_volstore.specs.Stores.{Store}
 use Rattle.afs_volume.specs.Listed.{listed_as}

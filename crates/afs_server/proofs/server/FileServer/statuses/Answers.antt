@@ -1,7 +1,8 @@
 use Rattle.std.proofs.Common.{◌≡◌, length}
 use Rattle.afs_ideal.specs.Operations.{the_user}
-use Rattle.afs_rows.specs.ServerRow.{sights}
-use Rattle.afs_server.specs.Handling.{server_seen}
+use Rattle.afs_volrows.specs.FileRow.{file_sights}
+use Rattle.afs_server.specs.Handling.{holds_seen, server_seen}
+use Rattle.afs_server.specs.Seen.{lasting_of}
 use Rattle.afs_decisions.proofs.Sights.{told_can_be_told, told_decides, told_fits}
 use Rattle.afs_server.proofs.server.FileServer.statuses.Goals as goal
 
@@ -9,7 +10,7 @@ pub returns : goal.returns
 returns g c =
     let caller = the_user c.args.user.now in
     let count = length c.args.fids.now in
-    let seen = sights c.args.store.now.durable.volumes caller c.args.fids.now in
+    let seen = file_sights (holds_seen c.args.store.now) (lasting_of c.args.store.now.durable) caller c.args.fids.now in
     let x = c.see_all-told.result in
     let d = c.in_ok-decided.decided in
     let sees = c.see_all-told.ensures in

@@ -1,8 +1,8 @@
 use Rattle.std.proofs.Common.{◌≡◌, refl, subst}
 use Rattle.afs_model.specs.Messages.{received_by}
 use Rattle.afs_num.specs.declared.messages.Received.{Received}
-use Rattle.afs_rows.specs.ServerRow.{decides}
-use Rattle.afs_server.specs.Handling.{calls_served, decided_then, server_seen, turned_then}
+use Rattle.afs_volrows.specs.FileRow.{file_decides}
+use Rattle.afs_server.specs.Handling.{calls_served, decided_then, holds_seen, server_seen, turned_then}
 use Rattle.afs_server.specs.Putting.{Took}
 use Rattle.afs_server.proofs.Still.{out_of_memory}
 use Rattle.afs_server.proofs.Taken.{wants_took}
@@ -13,7 +13,7 @@ returns-clause-took g c =
     let s = c.args.store.now in
     let old = c.args.self.now in
     let value : c.in_ok-received.received ≡ received_by calls_served c.args.bytes.now = c.in_ok-received.ensures.value in
-    subst (λ (m : Received). let d = decides s.node (server_seen old s) c.args.now m in Took g.D.Disk c.args.now d (turned_then old s c.args.now d m) old c.take.new.self s c.take.new.store c.take.result)
+    subst (λ (m : Received). let d = file_decides s.node (holds_seen s) (server_seen old s) c.args.now m in Took g.D.Disk c.args.now d (turned_then old s c.args.now d m) old c.take.new.self s c.take.new.store c.take.result)
     value c.take.ensures
 
 pub returns-in_err-received-clause-took : goal.returns-in_err-received-clause-took

@@ -1,0 +1,11 @@
+pub mod Answered
+pub mod FileSame
+pub mod Heard
+pub mod Out
+pub mod Readied
+pub mod Serving
+pub mod Sides
+pub mod Stepped
+pub mod Taken
+pub mod VolumeSame
+pub mod Whose

@@ -1,0 +1,130 @@
+use Rattle.std.specs.Prelude.{◌≤◌, ◌+◌, length, Ok, Err, Result, IsErrOf, List, []}
+use Rattle.std.proofs.Common.{ap, subst, sym, ◌∙◌}
+use Rattle.afs_num.specs.declared.types.Parcel.{Parcel}
+use Rattle.afs_history.specs.declared.lines.Outs.{Outs}
+use Rattle.afs_server_parts.specs.Called.{call_to}
+use Rattle.afs_server_parts.specs.declared.faults.NodeFault.{NodeFault}
+use Rattle.afs_server_parts.specs.declared.faults.NodeFault.TheVariants as faults
+use Rattle.afs_server.proofs.Still.{handed_up, out_of_memory}
+use Rattle.afs_callbacks.specs.States.{CallbackState}
+use Rattle.afs_sendings.specs.Pieces.{call_seen}
+use Rattle.afs_volserv.specs.Handling.{vol_timed_then, HandlesVolumes}
+use Rattle.afs_volserv.specs.Seen.{VolMemory}
+use Rattle.afs_volrows.specs.VolSteps.{piece_timeout_row}
+use Rattle.afs_node.specs.Handling.{HandlesNode}
+use Rattle.afs_node.specs.Seen.{node_seen}
+use Rattle.afs_node.proofs.Readied.{err_wants, late_drawn, own_wanted, own_wants, piece_err, piece_kept, piece_out, readied, room_stored, some_call, stored_since, up_as}
+use Rattle.afs_node.proofs.Serving.{with_callbacks}
+use Rattle.afs_node.proofs.node.ServerNode.late_piece.Goals as goal
+
+-- ---- it was made
+
+pub returns-clause-step : goal.returns-clause-step
+returns-clause-step g c b there =
+    let m = c.args.self.now in
+    let s = c.args.store.now in
+    let v = c.ready.new.self in
+    let t = c.ready.new.store in
+    piece_out m (record m { vol = v }) s t (readied m v s t c.in_ok-ready.ensures.same c.in_ok-ready.ensures.store c.in_ok-ready.ensures.holds) c.args.now c.args.callee b c.timeout.new.self c.timeout.new.callbacks c.release-behind.new.self c.timeout.new.store c.in_ok-outs.outs c.release-behind.result there (subst (λ (l : CallbackState). HandlesVolumes (vol_timed_then v l t c.args.now c.args.callee (call_seen b) b.content) v c.timeout.new.self l c.timeout.new.callbacks t c.timeout.new.store (Ok c.in_ok-outs.outs)) c.callbacks_mut.ensures.value (c.in_ok-outs.ensures.step b (ap (λ (x : VolMemory). call_to x.callees c.args.callee) c.in_ok-ready.ensures.same ∙ there))) (record { sent = c.release-behind.ensures.sent; is = c.release-behind.ensures.held })
+
+pub returns-clause-serves : goal.returns-clause-serves
+returns-clause-serves g c =
+    let m = c.args.self.now in
+    let s = c.args.store.now in
+    let v = c.ready.new.self in
+    let t = c.ready.new.store in
+    piece_kept m (record m { vol = v }) s t (readied m v s t c.in_ok-ready.ensures.same c.in_ok-ready.ensures.store c.in_ok-ready.ensures.holds) c.timeout.new.self c.timeout.new.callbacks c.release-behind.new.self c.timeout.new.store c.release-behind.result c.requires.serves c.in_ok-outs.ensures.order (record { sent = c.release-behind.ensures.sent; is = c.release-behind.ensures.held })
+
+pub returns-clause-draws : goal.returns-clause-draws
+returns-clause-draws g c =
+    let m = c.args.self.now in
+    let s = c.args.store.now in
+    let v = c.ready.new.self in
+    let t = c.ready.new.store in
+    late_drawn m (record m { vol = v }) s t (readied m v s t c.in_ok-ready.ensures.same c.in_ok-ready.ensures.store c.in_ok-ready.ensures.holds) (record { file = with_callbacks m.file c.timeout.new.callbacks; vol = c.timeout.new.self }) c.release-behind.new.self c.timeout.new.store c.release-behind.result c.in_ok-outs.ensures.draws.calls (subst (λ (l : CallbackState). c.timeout.new.callbacks.lists.last_owed + length c.timeout.new.callbacks.lists.promises ≤ l.lists.last_owed + length l.lists.promises) c.callbacks_mut.ensures.value c.in_ok-outs.ensures.draws.breaks) (record { sent = c.release-behind.ensures.sent; is = c.release-behind.ensures.held })
+
+pub returns-clause-store : goal.returns-clause-store
+returns-clause-store g c =
+    let m = c.args.self.now in
+    let s = c.args.store.now in
+    let v = c.ready.new.self in
+    let t = c.ready.new.store in
+    stored_since m (record m { vol = v }) s t (readied m v s t c.in_ok-ready.ensures.same c.in_ok-ready.ensures.store c.in_ok-ready.ensures.holds) c.timeout.new.store c.in_ok-outs.ensures.store
+
+-- ---- a server of it made none
+
+pub returns-in_err-outs-clause-step : goal.returns-in_err-outs-clause-step
+returns-in_err-outs-clause-step g c b there =
+    let m = c.args.self.now in
+    let s = c.args.store.now in
+    let v = c.ready.new.self in
+    let t = c.ready.new.store in
+    let fault = c.in_err-outs.field-0.0 in
+    let r = c.from_residual-in_err-outs.result in
+    let is = handed_up r fault c.from_residual-in_err-outs.ensures.1 in
+    subst (λ (x : Result (Outs × List Parcel) NodeFault). HandlesNode (piece_timeout_row s.node (node_seen m s) c.args.now c.args.callee (call_seen b)) [] m (record { file = with_callbacks m.file c.timeout.new.callbacks; vol = c.timeout.new.self }) s c.timeout.new.store x) (sym is)
+    (piece_err m (record m { vol = v }) s t (readied m v s t c.in_ok-ready.ensures.same c.in_ok-ready.ensures.store c.in_ok-ready.ensures.holds) c.args.now c.args.callee b c.timeout.new.self c.timeout.new.callbacks c.timeout.new.store fault (subst (λ (l : CallbackState). HandlesVolumes (vol_timed_then v l t c.args.now c.args.callee (call_seen b) b.content) v c.timeout.new.self l c.timeout.new.callbacks t c.timeout.new.store (Err fault)) c.callbacks_mut.ensures.value (c.in_err-outs.ensures.step b (ap (λ (x : VolMemory). call_to x.callees c.args.callee) c.in_ok-ready.ensures.same ∙ there))))
+
+pub returns-in_err-outs-clause-store : goal.returns-in_err-outs-clause-store
+returns-in_err-outs-clause-store g c =
+    let m = c.args.self.now in
+    let s = c.args.store.now in
+    let v = c.ready.new.self in
+    let t = c.ready.new.store in
+    stored_since m (record m { vol = v }) s t (readied m v s t c.in_ok-ready.ensures.same c.in_ok-ready.ensures.store c.in_ok-ready.ensures.holds) c.timeout.new.store c.in_err-outs.ensures.store
+
+pub returns-in_err-outs-clause-up : goal.returns-in_err-outs-clause-up
+returns-in_err-outs-clause-up g c =
+    let fault = c.in_err-outs.field-0.0 in
+    let r = c.from_residual-in_err-outs.result in
+    let is = handed_up r fault c.from_residual-in_err-outs.ensures.1 in
+    subst (λ (x : Result (Outs × List Parcel) NodeFault). IsErrOf x faults.Down → ⊥) (sym is) (up_as fault c.in_err-outs.ensures.up)
+
+pub returns-in_err-outs-clause-wants : goal.returns-in_err-outs-clause-wants
+returns-in_err-outs-clause-wants g c = λ e.
+    let m = c.args.self.now in
+    let s = c.args.store.now in
+    let v = c.ready.new.self in
+    let t = c.ready.new.store in
+    let fault = c.in_err-outs.field-0.0 in
+    let r = c.from_residual-in_err-outs.result in
+    let is = handed_up r fault c.from_residual-in_err-outs.ensures.1 in
+    let call = some_call (call_to m.vol.callees c.args.callee) c.requires.waits in
+    let b = call.0 in
+    let there = call.1 in
+    err_wants m (record m { vol = v }) s t (readied m v s t c.in_ok-ready.ensures.same c.in_ok-ready.ensures.store c.in_ok-ready.ensures.holds) (piece_timeout_row s.node (node_seen m s) c.args.now c.args.callee (call_seen b)) (record { file = with_callbacks m.file c.timeout.new.callbacks; vol = c.timeout.new.self }) c.timeout.new.store fault (piece_err m (record m { vol = v }) s t (readied m v s t c.in_ok-ready.ensures.same c.in_ok-ready.ensures.store c.in_ok-ready.ensures.holds) c.args.now c.args.callee b c.timeout.new.self c.timeout.new.callbacks c.timeout.new.store fault (subst (λ (l : CallbackState). HandlesVolumes (vol_timed_then v l t c.args.now c.args.callee (call_seen b) b.content) v c.timeout.new.self l c.timeout.new.callbacks t c.timeout.new.store (Err fault)) c.callbacks_mut.ensures.value (c.in_err-outs.ensures.step b (ap (λ (x : VolMemory). call_to x.callees c.args.callee) c.in_ok-ready.ensures.same ∙ there)))) (λ down. c.in_err-outs.ensures.up (ap (λ (f : NodeFault). Err f) down))
+
+-- ---- no room could be made
+
+pub returns-in_err-ready-clause-step : goal.returns-in_err-ready-clause-step
+returns-in_err-ready-clause-step g c b there =
+    let m = c.args.self.now in
+    let s = c.args.store.now in
+    let v = c.ready.new.self in
+    let t = c.ready.new.store in
+    let r = c.from_residual.result in
+    let is = out_of_memory r c.from_residual.ensures.1 in
+    subst (λ (x : Result (Outs × List Parcel) NodeFault). HandlesNode (piece_timeout_row s.node (node_seen m s) c.args.now c.args.callee (call_seen b)) [] m (record m { vol = v }) s t x) (sym is)
+    (own_wants m (record m { vol = v }) s t (readied m v s t c.in_err-ready.ensures.same c.in_err-ready.ensures.store c.in_err-ready.ensures.holds) (piece_timeout_row s.node (node_seen m s) c.args.now c.args.callee (call_seen b)))
+
+pub returns-in_err-ready-clause-store : goal.returns-in_err-ready-clause-store
+returns-in_err-ready-clause-store g c =
+    let m = c.args.self.now in
+    let s = c.args.store.now in
+    let v = c.ready.new.self in
+    let t = c.ready.new.store in
+    room_stored m (record m { vol = v }) s t (readied m v s t c.in_err-ready.ensures.same c.in_err-ready.ensures.store c.in_err-ready.ensures.holds)
+
+pub returns-in_err-ready-clause-wants : goal.returns-in_err-ready-clause-wants
+returns-in_err-ready-clause-wants g c = λ e.
+    let m = c.args.self.now in
+    let s = c.args.store.now in
+    let v = c.ready.new.self in
+    let t = c.ready.new.store in
+    own_wanted m (record m { vol = v }) s t (readied m v s t c.in_err-ready.ensures.same c.in_err-ready.ensures.store c.in_err-ready.ensures.holds)
+
+pub returns-in_err-ready-clause-up : goal.returns-in_err-ready-clause-up
+returns-in_err-ready-clause-up g c =
+    let r = c.from_residual.result in
+    let is = out_of_memory r c.from_residual.ensures.1 in
+    subst (λ (x : Result (Outs × List Parcel) NodeFault). IsErrOf x faults.Down → ⊥) (sym is) (λ e. absurd cc)

@@ -1,0 +1,8 @@
+//! A server node: a file server and a volume server over one store. Messages of clients are the file server's, all others the volume server's.
+#![tactic(auto)]
+
+mod handling;
+mod node;
+mod waiting;
+
+pub use node::ServerNode;
