@@ -5,7 +5,8 @@
 # or is a reference program's; nothing here writes it.
 # The player is made from the sources by `rt try`, which proves nothing. All is done in a copy. The last line is
 # 'N plays passed, M failed'.
-# tests/plays.sh [PART..]: the rows of these parts alone.
+# tests/plays.sh [PART..]: the rows of these parts alone. With a folder CASES the player is given each of its files, as it reads rows,
+# and has to print what stands in the file of that name with `.stdout`: so many rows are played that one run may not print them all.
 set -eu
 
 cd "$(dirname "$0")/.."
@@ -15,11 +16,22 @@ trap 'rm -rf "$work"' EXIT
 trap 'exit 130' INT
 trap 'exit 143' TERM
 
-# The crate and those below it, by crates.txt: a name without a folder is a library of the toolchain.
+# These crates and those below them, by crates.txt: a name without a folder is a library of the toolchain.
 needed() {
-    [ -d "crates/$1" ] || return 0
-    echo "$1"
-    for below in $(sed -n "s/^$1://p" crates.txt); do needed "$below"; done
+    awk -v names="$*" '
+        { sub(/#.*/, "") }
+        /:/ { name = $1; sub(/:/, "", name); $1 = ""; below[name] = $0 }
+        END {
+            left = split(names, todo, " ")
+            while (left > 0) {
+                name = todo[left--]
+                if (name in below && !seen[name]++) {
+                    print name
+                    count = split(below[name], lower, " ")
+                    for (i = 1; i <= count; i++) { todo[++left] = lower[i] }
+                }
+            }
+        }' crates.txt
 }
 
 # Records of another program stand in a crate of tests, and the player takes them from there.
@@ -29,7 +41,7 @@ shared=crates/afs_volstore_tests/src/vectors.rt
 below=$(cat tests/plays/player/*.play | sed -n 's/.*\(afs_[a-z_]*\)::.*/\1/p' | sort -u | tr '\n' ' ')
 mkdir "$work/crates" "$work/told"
 cp HANDLES "$work"
-for crate in $(for name in $below; do needed "$name"; done | sort -u); do
+for crate in $(needed $below); do
     mkdir "$work/crates/$crate"
     for part in src specs proofs; do
         if [ -d "crates/$crate/$part" ]; then cp -R "crates/$crate/$part" "$work/crates/$crate"; fi
@@ -46,6 +58,11 @@ cp "$shared" "$player/src"
 : > "$player/specs/Lib.antt"
 : > "$player/proofs/Lib.antt"
 echo "afs_player: $below" >> "$work/crates.txt"
+
+if [ -n "${CASES:-}" ]; then
+    (cd "$player" && rt try --steps 1 --seconds "${SECONDS_TRIED:-600}" --cases "$CASES")
+    exit
+fi
 
 # The rows that are played, and what the player reads: of each row its part and its name, and its steps.
 for row in tests/plays/*/*.row; do

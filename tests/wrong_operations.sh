@@ -20,7 +20,7 @@ cd "$(dirname "$0")/.."
 case ${WRONG:-operations} in
     operations) changed_crate=afs_ideal edits=tests/wrong_operations law=operations_leave_sound ;;
     dumps) changed_crate=afs_dumps edits=tests/wrong_dumps law=dumps_finish ;;
-    fold) changed_crate=afs_fold edits=tests/wrong_fold law=plain_records_fold_alike ;;
+    fold) changed_crate=afs_fold edits=tests/wrong_fold law=records_leave_storable ;;
     volrows) changed_crate=afs_volrows edits=tests/wrong_volrows law=deeds_are_told ;;
     *) echo 'WRONG is operations, dumps, fold or volrows'; exit 1 ;;
 esac

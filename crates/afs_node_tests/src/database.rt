@@ -9,9 +9,9 @@ use crate::words::put_hex;
 use afs_disk::{Disk, MemDisk};
 use afs_history::lines::{Line, Outs};
 use afs_locdb::LocDb;
-use afs_locdb::faults::NodeFault;
 use afs_num::records::Mark;
 use afs_num::types::Mem;
+use afs_server_parts::faults::NodeFault;
 use std::alloc::Global;
 use std::fmt::Write;
 

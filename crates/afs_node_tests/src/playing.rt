@@ -10,7 +10,7 @@ use afs_history::lines::Outs;
 use afs_num::records::Mark;
 use afs_num::types::Node;
 use afs_server::FileServer;
-use afs_server::faults::NodeFault;
+use afs_server_parts::faults::NodeFault;
 use afs_volstore::VolStore;
 use std::alloc::Global;
 
