@@ -3,5 +3,6 @@
 
 pub mod acts;
 pub mod lines;
+pub mod orders;
 pub mod scripts;
 pub mod written;

@@ -1,8 +1,9 @@
 //! What is told of a run.
 
 use crate::acts::SharedAct;
+use crate::orders::SharedAdminAct;
 use afs_num::histories::{Actor, ReadBody, ReadSource, Version};
-use afs_num::sequences::Sequence;
+use afs_num::sequences::{Octets, Sequence};
 use afs_num::types::{Code, Fid, Key, Node, Parcels};
 
 /// A line of a history. Messages stand beside the lines of their entry.
@@ -164,6 +165,29 @@ pub enum Line {
     Located {
         volume: u32,
         server: Node,
+    },
+    /// The client's act ends with 105: it had no site left, and the release that one offered last is below the one that the
+    /// client has seen.
+    Older {
+        node: Node,
+        offered: u32,
+        seen: u32,
+    },
+    /// An act of an administrator begins.
+    BeginAdmin {
+        node: Node,
+        act: SharedAdminAct,
+    },
+    /// The administrator's act ends with this code, and what it left isn't in order.
+    Stuck {
+        node: Node,
+        code: Code,
+    },
+    /// The administrator holds a whole dump of so many bytes under this label.
+    Dumped {
+        node: Node,
+        label: Octets,
+        length: u32,
     },
     /// Nothing happened.
     Void,

@@ -14,6 +14,7 @@ use Rattle.afs_history.specs.declared.acts.Act.{Act}
 use Rattle.afs_history.specs.declared.acts.Act.TheVariants as acts
 use Rattle.afs_history.specs.declared.acts.Operand.TheVariants as operands
 use Rattle.afs_history.specs.declared.acts.Written.TheVariants.{Hex}
+use Rattle.afs_history.specs.declared.scripts.AdminAct.TheVariants as admin_acts
 use Rattle.afs_history.specs.declared.scripts.Script.{Script}
 use Rattle.afs_history.specs.declared.scripts.SetupLine.TheVariants as setup
 use Rattle.afs_model.specs.CellRows as cell_rows
@@ -69,7 +70,7 @@ use Rattle.afs_num.specs.declared.messages.Reply.{Reply}
 use Rattle.afs_num.specs.declared.messages.Reply.TheVariants as tell
 use Rattle.afs_num.specs.declared.calls.FsReply.TheVariants as replies
 use Rattle.afs_num.specs.declared.messages.Message.{Message}
-use Rattle.afs_num.specs.declared.types.Node.TheVariants.{Client, Server, Loc}
+use Rattle.afs_num.specs.declared.types.Node.TheVariants.{Client, Server, Loc, Admin}
 use Rattle.std.proofs.Common.{arith, eqb-true, ◌<◌, ◌≤◌, ◌≡◌, ◌∙◌, true, false, cond, not, nat_eq, Bool, ℕ, ℤ, List, [], ◌∷◌, ◌++◌, ◌⊎◌, Option, None, Some, ap, sym, subst, refl, inl, inr, negsuc, pos}
 use Rattle.std.specs.Fmt.{digits}
 use Rattle.std.specs.Prelude.{⊤, ◌&&◌, codes, drop, map, take}
@@ -2407,3 +2408,17 @@ answered_in_a_boot =
 loc_answered_of_another_boot : Legal answered_in_a_boot (script 1) → ⊥
 unfolding moved begin_row client_row server_row back_timeout_row wake_row start_row record_bytes head_form volume_form spelled opaque pad word laid_at led name_ok directory_bytes name_bytes rights_of image acl_text digits entry_text directory_of names_at opaque_at word_at counted_at whole_at count_at name_at spelled_at bytes_below
 loc_answered_of_another_boot h = elim h.1.0.1.0.1.1.0.1.1.1.1 [ inl x ↦ (let e : Some 1 ≡ Some 7 = x in let no_ : 1 ≡ 7 = some_of 1 7 e in absurd (omega (arith, no_))) | inr x ↦ (let e : 1 ≡ 7 = sym x.0 in absurd (omega (arith, e))) ]
+
+-- ---- a script has no act of an administrator, and no client compares the releases of copies
+
+begun_for_an_administrator : Legal (step_of (Client 1) (lines.BeginAdmin (Admin 1) (admin_acts.Backup (codes "proj")) ∷ []) [] ∷ []) (script 1) → ⊥
+begun_for_an_administrator h = h.0.0.0.0
+
+stuck_for_an_administrator : Legal (step_of (Client 1) (lines.Stuck (Admin 1) (record { 0 = pos 103 }) ∷ []) [] ∷ []) (script 1) → ⊥
+stuck_for_an_administrator h = h.0.0.0.0
+
+dumped_for_an_administrator : Legal (step_of (Client 1) (lines.Dumped (Admin 1) (codes "d1") 280 ∷ []) [] ∷ []) (script 1) → ⊥
+dumped_for_an_administrator h = h.0.0.0.0
+
+offered_an_older_release : Legal (step_of (Client 1) (lines.Older (Client 1) 1 2 ∷ []) [] ∷ []) (script 1) → ⊥
+offered_an_older_release h = h.0.0.0.0

@@ -1300,7 +1300,8 @@ IsBegun s c past own = (own ≡ []) × (running s c (lines_of past) ≡ None)
 -- change; an act runs where a client reads or answers, and what is read from the cache it needs next; a timeout stands in an entry that is given no
 -- message and in which its node begins no act; and a server that begins again owes each client of the script a break on all. A crash is of any
 -- node, a fault of a server or of the location database, for clients have no disk; and what that locks, unlocks and tells of places stands in its
--- entries. No volume is made, fenced, enabled, deleted or released: clients can't do that, and a script has no others
+-- entries. No volume is made, fenced, enabled, deleted or released: clients can't do that, and a script has no others. So no act of an administrator
+-- begins, is stuck or has its dump. Nor is a client answered 105: none compares the releases of copies
 abbrev pub IsInPlace : Script → Actor → Line → List Entry → List Line → List Line → Type 0
 IsInPlace s who (lines.Begin c act) past own next = IsOfClient who c × IsBegun s c past own
 IsInPlace s who (lines.Given place) past own next = own ≡ []
@@ -1331,6 +1332,10 @@ IsInPlace s who (lines.Locked v stamp operation) past own next = who ≡ actors.
 IsInPlace s who (lines.Unlocked v) past own next = who ≡ actors.Node Loc
 IsInPlace s who (lines.Recovered v) past own next = who ≡ actors.Node Loc
 IsInPlace s who (lines.Located v server) past own next = who ≡ actors.Node Loc
+IsInPlace s who (lines.Older c offered known) past own next = ⊥
+IsInPlace s who (lines.BeginAdmin a act) past own next = ⊥
+IsInPlace s who (lines.Stuck a code) past own next = ⊥
+IsInPlace s who (lines.Dumped a label size) past own next = ⊥
 IsInPlace s who lines.Void past own next = who ≡ actors.Nobody
 
 -- a line is in its place; and what it grants, changes, reads, answers, times out, owes, settles or gives up is good

@@ -1,5 +1,5 @@
 -- What versions and reads hold, and acts, as they are read back.
-use Rattle.std.proofs.Common.{◌≡◌, ℕ, zero, suc, ◌/◌, ◌%◌, ◌≤◌, Bool, true, false, cond, List, [], ◌∷◌, ◌++◌, drop, length, length-append, None, refl, ap, ◌∙◌, append_assoc, codes, nat_eq, eq-eqb, ne_eqb, arith}
+use Rattle.std.proofs.Common.{◌≡◌, ℕ, zero, suc, ◌/◌, ◌%◌, ◌≤◌, Bool, true, false, cond, List, [], ◌∷◌, ◌++◌, drop, length, length-append, None, refl, ap, ◌∙◌, append_assoc, codes, nat_eq, eq-eqb, ne_eqb, Option, Some, arith}
 use Rattle.std.specs.List.{flat_map}
 use Rattle.std.specs.Fmt.{decimal, digit_glyph}
 use Rattle.afs_num.specs.declared.directories.Name.{Name}
@@ -15,10 +15,12 @@ use Rattle.afs_history.specs.declared.acts.Operand.TheVariants as operands
 use Rattle.afs_history.specs.declared.acts.Path.{Path}
 use Rattle.afs_history.specs.declared.acts.Written.{Written}
 use Rattle.afs_history.specs.declared.acts.Written.TheVariants.{Hex, Fill}
+use Rattle.afs_history.specs.declared.scripts.AdminAct.{AdminAct}
+use Rattle.afs_history.specs.declared.scripts.AdminAct.TheVariants as admin_acts
 use Rattle.afs_model.specs.LineText.{body_text, directory_text, entry_name_text, hex_byte, hex_text, is_plain, more_names_text, name_byte, name_text, read_body_text, status_text}
-use Rattle.afs_text.specs.ActText.{act_text, names_text, octal, operand_text, path_text, written_text}
-use Rattle.afs_text.specs.Whole.{AreWholeNames, IsWholeAct, IsWholeBody, IsWholeName, IsWholeOperand, IsWholeReadBody, IsWholeStatus, IsWholeWritten}
-use Rattle.afs_text.proofs.WordsRead.{at_word, behind, ends_number, fid_at, fid_last, in_row, is_digit, mode_at, mode_last, number_at, number_last, number_open, number_row, number_tail, read}
+use Rattle.afs_text.specs.ActText.{act_text, admin_act_text, names_text, octal, operand_text, path_text, written_text}
+use Rattle.afs_text.specs.Whole.{AreWholeNames, IsWholeAct, IsWholeAdminAct, IsWholeBody, IsWholeName, IsWholeOperand, IsWholeReadBody, IsWholeStatus, IsWholeWritten}
+use Rattle.afs_text.proofs.WordsRead.{at_word, behind, closed, ends_number, fid_at, fid_last, in_row, is_digit, mode_at, mode_last, number_at, number_last, number_open, number_row, number_tail, read}
 use Rattle.afs_text.proofs.BytesRead.{ends_name, hex_at, hex_last, name_open, name_tail, no_name}
 
 -- ---- items, each behind a mark
@@ -294,3 +296,79 @@ act_last acts.GiveUp whole rest = refl
 
 pub act_row : (a : Act) → IsWholeAct a → (x rest : List ℕ) → act_at ((act_text a ++ 10 ∷ x) ++ rest) ≡ (a, x ++ rest)
 act_row a whole x rest = in_row act_at (act_text a) 10 x rest a (act_last a whole (x ++ rest))
+
+-- ---- acts of administrators
+
+-- a name, without the byte that ends it
+pub named_at : List ℕ → List ℕ × List ℕ
+named_at bytes = closed (name_open bytes)
+
+pub named_last : (name : List ℕ) (c : ℕ) → ends_name (c ∷ []) ≡ true → (rest : List ℕ) → named_at (name_text name ++ c ∷ rest) ≡ (name, rest)
+unfolding named_at
+named_last name c stop rest = ap (λ (r : List ℕ × List ℕ). closed r) (name_tail name (c ∷ rest) stop)
+
+pub named_row : (name : List ℕ) (c : ℕ) → ends_name (c ∷ []) ≡ true → (x rest : List ℕ) → named_at ((name_text name ++ c ∷ x) ++ rest) ≡ (name, x ++ rest)
+named_row name c stop x rest = in_row named_at (name_text name) c x rest name (named_last name c stop (x ++ rest))
+
+-- a server, without the letter before its number
+server_at : List ℕ → ℕ × List ℕ
+server_at bytes = number_at (drop 1 bytes)
+
+abbrev of_name : (List ℕ → AdminAct) → List ℕ → Option (AdminAct × List ℕ)
+of_name act bytes = read (named_at bytes) (λ n t. Some (act n, t))
+
+abbrev of_server : (List ℕ → ℕ → AdminAct) → List ℕ → Option (AdminAct × List ℕ)
+of_server act bytes = read (named_at bytes) (λ n r. read (server_at r) (λ s t. Some (act n s, t)))
+
+-- an act of an administrator, where its word stands here
+pub admin_act_at : List ℕ → Option (AdminAct × List ℕ)
+admin_act_at bytes =
+    at_word (behind (codes "create ") bytes) (λ r. read (named_at r) (λ n s. read (server_at s) (λ i u. read (number_at u) (λ q t. Some (admin_acts.Create n i q, t)))))
+    (at_word (behind (codes "restore ") bytes) (λ r. read (named_at r) (λ n s. read (server_at s) (λ i u. read (named_at u) (λ l t. Some (admin_acts.Restore n i l, t)))))
+    (at_word (behind (codes "addsite ") bytes) (of_server admin_acts.AddSite)
+    (at_word (behind (codes "backup ") bytes) (of_name admin_acts.Backup)
+    (at_word (behind (codes "release ") bytes) (of_name admin_acts.Release)
+    (at_word (behind (codes "move ") bytes) (of_server admin_acts.Move)
+    (at_word (behind (codes "dump ") bytes) (λ r. read (named_at r) (λ n s. read (named_at s) (λ l u. read (number_at u) (λ k t. Some (admin_acts.Dump n l k, t)))))
+    (at_word (behind (codes "remove ") bytes) (of_name admin_acts.Remove)
+    (at_word (behind (codes "recover ") bytes) (of_name admin_acts.Recover)
+    None))))))))
+
+admin_act_last : (a : AdminAct) → IsWholeAdminAct a → (rest : List ℕ) → admin_act_at (admin_act_text a ++ 10 ∷ rest) ≡ Some (a, rest)
+unfolding admin_act_at admin_act_text server_at
+admin_act_last (admin_acts.Create name server quota) whole rest = rw (named_row name 32 refl, number_row server 32 whole.0 refl, number_last quota 10 whole.1 refl rest) refl
+admin_act_last (admin_acts.Restore name server label) whole rest = rw (named_row name 32 refl, number_row server 32 whole refl, named_last label 10 refl rest) refl
+admin_act_last (admin_acts.AddSite name server) whole rest = rw (named_row name 32 refl, number_last server 10 whole refl rest) refl
+admin_act_last (admin_acts.Backup name) whole rest = rw (named_last name 10 refl rest) refl
+admin_act_last (admin_acts.Release name) whole rest = rw (named_last name 10 refl rest) refl
+admin_act_last (admin_acts.Move name server) whole rest = rw (named_row name 32 refl, number_last server 10 whole refl rest) refl
+admin_act_last (admin_acts.Dump name label from) whole rest = rw (named_row name 32 refl, named_row label 32 refl, number_last from 10 whole refl rest) refl
+admin_act_last (admin_acts.Remove name) whole rest = rw (named_last name 10 refl rest) refl
+admin_act_last (admin_acts.Recover name) whole rest = rw (named_last name 10 refl rest) refl
+
+pub admin_act_row : (a : AdminAct) → IsWholeAdminAct a → (x rest : List ℕ) → admin_act_at ((admin_act_text a ++ 10 ∷ x) ++ rest) ≡ Some (a, x ++ rest)
+admin_act_row a whole x rest = ap admin_act_at (append_assoc (admin_act_text a) (10 ∷ x) rest) ∙ admin_act_last a whole (x ++ rest)
+
+-- no act of a client begins with such a word
+no_admin_act : (a : Act) (tail : List ℕ) → admin_act_at (act_text a ++ tail) ≡ None
+unfolding admin_act_at act_text
+no_admin_act (acts.Open o) tail = refl
+no_admin_act (acts.ListNames o) tail = refl
+no_admin_act (acts.ReadLink o) tail = refl
+no_admin_act (acts.Stat o) tail = refl
+no_admin_act (acts.StatAll o) tail = refl
+no_admin_act (acts.Close o contents) tail = refl
+no_admin_act (acts.Make p) tail = refl
+no_admin_act (acts.MakeDirectory p) tail = refl
+no_admin_act (acts.Remove p) tail = refl
+no_admin_act (acts.RemoveDirectory p) tail = refl
+no_admin_act (acts.Move p q) tail = refl
+no_admin_act (acts.Link p q) tail = refl
+no_admin_act (acts.Symlink p target) tail = refl
+no_admin_act (acts.SetMode o mode) tail = refl
+no_admin_act (acts.SetAccessList o text) tail = refl
+no_admin_act (acts.GetAccessList o) tail = refl
+no_admin_act acts.GiveUp tail = refl
+
+pub act_is_no_admins : (a : Act) (x rest : List ℕ) → admin_act_at ((act_text a ++ x) ++ rest) ≡ None
+act_is_no_admins a x rest = ap admin_act_at (append_assoc (act_text a) x rest) ∙ no_admin_act a (x ++ rest)

@@ -116,18 +116,36 @@ mode_last n c whole stop rest =
     let k = digits_is_IsNumeral 8 false (omega arith) (omega arith) n whole in
     ap (λ (r : ℕ × List ℕ). closed r) (digits_from 8 0 (digits 8 false n) (c ∷ rest) k.0.1 (ap not stop) ∙ valued _ n (c ∷ rest) k.1)
 
--- a signed number
+-- ---- signed numbers
+
 abbrev negative : ℕ → ℤ
 negative zero = pos 0
 negative (suc n) = negsuc n
 
+-- a signed number, and the bytes from the one on that ends it
+pub signed_open : List ℕ → ℤ × List ℕ
+signed_open bytes = at_word (behind (codes "-") bytes) (λ r. read (number_open r) (λ n t. (negative n, t))) (read (number_open bytes) (λ n t. (pos n, t)))
+
+signed_tail : (z : ℤ) → IsWholeSigned z → (tail : List ℕ) → ends_number 10 tail ≡ true → signed_open (signed_decimal z ++ tail) ≡ (z, tail)
+unfolding signed_open
+signed_tail (pos n) whole tail stop = rw (number_refuses n 45 [] whole refl tail, number_tail n whole tail stop) refl
+signed_tail (negsuc n) whole tail stop = rw (number_tail (suc n) whole tail stop) refl
+
+-- a text of which the number is the beginning, and then a byte that ends it
+pub signed_before : (z : ℤ) (c : ℕ) → IsWholeSigned z → is_digit 10 c ≡ false → (x rest : List ℕ) → signed_open ((signed_decimal z ++ c ∷ x) ++ rest) ≡ (z, c ∷ (x ++ rest))
+signed_before z c whole stop x rest = ap signed_open (append_assoc (signed_decimal z) (c ∷ x) rest) ∙ signed_tail z whole (c ∷ (x ++ rest)) (ap not stop)
+
+-- the code of an answer that tells two releases behind it
+pub older_code : (x : List ℕ) → signed_open (codes "105 " ++ x) ≡ (pos 105, codes " " ++ x)
+unfolding signed_open number_open number_from
+older_code x = refl
+
 pub signed_at : List ℕ → ℤ × List ℕ
-signed_at bytes = at_word (behind (codes "-") bytes) (λ r. read (number_at r) (λ n t. (negative n, t))) (read (number_at bytes) (λ n t. (pos n, t)))
+signed_at bytes = closed (signed_open bytes)
 
 pub signed_last : (z : ℤ) (c : ℕ) → IsWholeSigned z → is_digit 10 c ≡ false → (rest : List ℕ) → signed_at (signed_decimal z ++ c ∷ rest) ≡ (z, rest)
 unfolding signed_at
-signed_last (pos n) c whole stop rest = rw (number_refuses n 45 [] whole refl (c ∷ rest), number_last n c whole stop rest) refl
-signed_last (negsuc n) c whole stop rest = rw (number_last (suc n) c whole stop rest) refl
+signed_last z c whole stop rest = ap (λ (r : ℤ × List ℕ). closed r) (signed_tail z whole (c ∷ rest) (ap not stop))
 
 pub signed_row : (z : ℤ) (c : ℕ) → IsWholeSigned z → is_digit 10 c ≡ false → (x rest : List ℕ) → signed_at ((signed_decimal z ++ c ∷ x) ++ rest) ≡ (z, x ++ rest)
 signed_row z c whole stop x rest = in_row signed_at (signed_decimal z) c x rest z (signed_last z c whole stop (x ++ rest))

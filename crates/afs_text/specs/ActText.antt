@@ -4,6 +4,7 @@ use Rattle.std.specs.List.{flat_map}
 use Rattle.std.specs.Fmt.{decimal, digits}
 use Rattle.afs_num.specs.Texts.{node_text, fid_text}
 use Rattle.afs_num.specs.declared.types.Node.{Node}
+use Rattle.afs_num.specs.declared.types.Node.TheVariants.{Server}
 use Rattle.afs_model.specs.LineText.{hex_byte, hex_text, name_text}
 use Rattle.afs_history.specs.declared.acts.Act.{Act}
 use Rattle.afs_history.specs.declared.acts.Act.TheVariants as acts
@@ -12,6 +13,8 @@ use Rattle.afs_history.specs.declared.acts.Operand.TheVariants as operands
 use Rattle.afs_history.specs.declared.acts.Path.{Path}
 use Rattle.afs_history.specs.declared.acts.Written.{Written}
 use Rattle.afs_history.specs.declared.acts.Written.TheVariants.{Hex, Fill}
+use Rattle.afs_history.specs.declared.scripts.AdminAct.{AdminAct}
+use Rattle.afs_history.specs.declared.scripts.AdminAct.TheVariants as admin_acts
 
 -- ---- operands
 
@@ -58,5 +61,20 @@ act_text (acts.SetAccessList o text) = codes "setacl " ++ (operand_text o ++ (co
 act_text (acts.GetAccessList o) = codes "getacl " ++ operand_text o
 act_text acts.GiveUp = codes "giveup"
 
-unfoldable pub begin_text : Node → Act → List ℕ
-begin_text node act = codes "begin " ++ (node_text node ++ (codes " " ++ (act_text act ++ codes "\n")))
+-- ---- acts of administrators: each names its volume first
+
+unfoldable pub admin_act_text : AdminAct → List ℕ
+admin_act_text (admin_acts.Create name server quota) = codes "create " ++ (name_text name ++ (codes " " ++ (node_text (Server server) ++ (codes " " ++ decimal quota))))
+admin_act_text (admin_acts.Restore name server label) = codes "restore " ++ (name_text name ++ (codes " " ++ (node_text (Server server) ++ (codes " " ++ name_text label))))
+admin_act_text (admin_acts.AddSite name server) = codes "addsite " ++ (name_text name ++ (codes " " ++ node_text (Server server)))
+admin_act_text (admin_acts.Backup name) = codes "backup " ++ name_text name
+admin_act_text (admin_acts.Release name) = codes "release " ++ name_text name
+admin_act_text (admin_acts.Move name server) = codes "move " ++ (name_text name ++ (codes " " ++ node_text (Server server)))
+admin_act_text (admin_acts.Dump name label from) = codes "dump " ++ (name_text name ++ (codes " " ++ (name_text label ++ (codes " " ++ decimal from))))
+admin_act_text (admin_acts.Remove name) = codes "remove " ++ name_text name
+admin_act_text (admin_acts.Recover name) = codes "recover " ++ name_text name
+
+-- ---- the line with which an act of this text begins
+
+unfoldable pub begin_text : Node → List ℕ → List ℕ
+begin_text node act = codes "begin " ++ (node_text node ++ (codes " " ++ (act ++ codes "\n")))

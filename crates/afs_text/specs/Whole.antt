@@ -21,6 +21,8 @@ use Rattle.afs_history.specs.declared.acts.Operand.{Operand}
 use Rattle.afs_history.specs.declared.acts.Operand.TheVariants as operands
 use Rattle.afs_history.specs.declared.acts.Written.{Written}
 use Rattle.afs_history.specs.declared.acts.Written.TheVariants.{Hex, Fill}
+use Rattle.afs_history.specs.declared.scripts.AdminAct.{AdminAct}
+use Rattle.afs_history.specs.declared.scripts.AdminAct.TheVariants as admin_acts
 use Rattle.afs_history.specs.declared.lines.Line.{Line}
 use Rattle.afs_history.specs.declared.lines.Line.TheVariants as lines
 use Rattle.afs_model.specs.Text.{code_of}
@@ -84,6 +86,17 @@ IsWholeAct (acts.SetAccessList o text) = IsWholeOperand o × IsWholeWritten text
 IsWholeAct (acts.GetAccessList o) = IsWholeOperand o
 IsWholeAct acts.GiveUp = Unit {0}
 
+abbrev pub IsWholeAdminAct : AdminAct → Type 0
+IsWholeAdminAct (admin_acts.Create name server quota) = IsWhole server × IsWhole quota
+IsWholeAdminAct (admin_acts.Restore name server label) = IsWhole server
+IsWholeAdminAct (admin_acts.AddSite name server) = IsWhole server
+IsWholeAdminAct (admin_acts.Backup name) = Unit {0}
+IsWholeAdminAct (admin_acts.Release name) = Unit {0}
+IsWholeAdminAct (admin_acts.Move name server) = IsWhole server
+IsWholeAdminAct (admin_acts.Dump name label from) = IsWhole from
+IsWholeAdminAct (admin_acts.Remove name) = Unit {0}
+IsWholeAdminAct (admin_acts.Recover name) = Unit {0}
+
 -- ---- what versions and reads hold
 
 abbrev pub IsWholeName : Name → Type 0
@@ -142,6 +155,10 @@ IsWholeLine (lines.Locked volume stamp operation) = IsWhole volume × IsWhole st
 IsWholeLine (lines.Unlocked volume) = IsWhole volume
 IsWholeLine (lines.Recovered volume) = IsWhole volume
 IsWholeLine (lines.Located volume server) = IsWhole volume × IsWholeNode server
+IsWholeLine (lines.Older node offered seen) = IsWholeNode node × IsWhole offered × IsWhole seen
+IsWholeLine (lines.BeginAdmin node act) = IsWholeNode node × IsWholeAdminAct act
+IsWholeLine (lines.Stuck node code) = IsWholeNode node × IsWholeSigned code.0
+IsWholeLine (lines.Dumped node label size) = IsWholeNode node × IsWhole size
 IsWholeLine lines.Void = Unit {0}
 
 abbrev pub AreWholeLines : List Line → Type 0

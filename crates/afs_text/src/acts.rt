@@ -4,12 +4,13 @@ ghost use Rattle.std.specs.Prelude.{◌≡◌, ◌<◌, ◌++◌, codes};
 ghost use Rattle.afs_outside.specs.Outside.{Puts};
 ghost use Rattle.afs_model.specs.LineText.{hex_byte};
 ghost use Rattle.afs_text.specs.Laying.{Lays};
-ghost use Rattle.afs_text.specs.ActText.{act_text, begin_text, names_text, octal, operand_text, path_text, step_text, written_text};
+ghost use Rattle.afs_text.specs.ActText.{act_text, admin_act_text, begin_text, names_text, octal, operand_text, path_text, step_text, written_text};
 
 use crate::bytes::{Hex, HexByte, Name};
-use crate::laying::{TextPiece, lay_short, put_piece, put_short};
-use crate::pieces::Print;
+use crate::laying::{TextPiece, lay_short, put_short};
+use crate::pieces::{Print, lay_long};
 use afs_history::acts::{Act, Operand, Path, Written};
+use afs_history::scripts::AdminAct;
 use afs_num::sequences::Octets;
 use afs_num::types::Node;
 use afs_outside::outside::{Failed, Sink, put_bytes};
@@ -125,6 +126,19 @@ fn put_two<K: Sink, P: Print + Drop, Q: Print + Drop>(
     row!(word, first, " ", second).print(sink)
 }
 
+/// Writes the word of an act, and its three operands.
+fn put_three<K: Sink, P: Print + Drop, Q: Print + Drop, R: Print + Drop>(
+    sink: &mut K,
+    word: &str,
+    first: P,
+    second: Q,
+    third: R,
+) -> Result<(), Failed>
+    ensures { Puts (word.now ++ (P.text first ++ (codes " " ++ (Q.text second ++ (codes " " ++ R.text third))))) (K.held sink.old) (K.held sink.new) (K.faults sink.old) (K.faults sink.new) result }
+{
+    row!(word, first, " ", second, " ", third).print(sink)
+}
+
 impl<'a> Print for &'a Act {
     ghost text = { λ act. act_text act.now };
 
@@ -152,24 +166,72 @@ impl<'a> Print for &'a Act {
     }
 }
 
-/// Lays an act, and the line's end: what the piece holds is put, and then these.
-fn lay_act<K: Sink>(sink: &mut K, piece: &mut TextPiece, act: &Act) -> Result<(), Failed>
-    ensures { Lays (act_text act.now ++ codes "\n") piece.old piece.new (K.held sink.old) (K.held sink.new) (K.faults sink.old) (K.faults sink.new) result }
-{
-    put_piece(sink, piece)?;
-    row!(act, "\n").print(sink)
+impl<'a> Print for &'a AdminAct {
+    ghost text = { λ act. admin_act_text act.now };
+
+    #[tactic(auto, unfolding(crate::specs::ActText::admin_act_text))]
+    fn print<K: Sink>(&self, sink: &mut K) -> Result<(), Failed> {
+        match *self {
+            AdminAct::Create {
+                name,
+                server,
+                quota,
+            } => put_three(
+                sink,
+                "create ",
+                Name(name.as_slice()),
+                Node::Server(*server),
+                *quota,
+            ),
+            AdminAct::Restore {
+                name,
+                server,
+                label,
+            } => put_three(
+                sink,
+                "restore ",
+                Name(name.as_slice()),
+                Node::Server(*server),
+                Name(label.as_slice()),
+            ),
+            AdminAct::AddSite { name, server } => put_two(
+                sink,
+                "addsite ",
+                Name(name.as_slice()),
+                Node::Server(*server),
+            ),
+            AdminAct::Backup { name } => put_one(sink, "backup ", Name(name.as_slice())),
+            AdminAct::Release { name } => put_one(sink, "release ", Name(name.as_slice())),
+            AdminAct::Move { name, server } => put_two(
+                sink,
+                "move ",
+                Name(name.as_slice()),
+                Node::Server(*server),
+            ),
+            AdminAct::Dump { name, label, from } => put_three(
+                sink,
+                "dump ",
+                Name(name.as_slice()),
+                Name(label.as_slice()),
+                *from,
+            ),
+            AdminAct::Remove { name } => put_one(sink, "remove ", Name(name.as_slice())),
+            AdminAct::Recover { name } => put_one(sink, "recover ", Name(name.as_slice())),
+        }
+    }
 }
 
 /// Lays the line with which an act begins.
 #[tactic(auto, unfolding(crate::specs::ActText::begin_text))]
-pub fn lay_begin<K: Sink>(
+pub fn lay_begin<K: Sink, P: Print>(
     sink: &mut K,
     piece: &mut TextPiece,
     node: Node,
-    act: &Act,
+    act: &P,
 ) -> Result<(), Failed>
-    ensures { Lays (begin_text node act.now) piece.old piece.new (K.held sink.old) (K.held sink.new) (K.faults sink.old) (K.faults sink.new) result }
+    ensures { Lays (begin_text node (P.text act.now)) piece.old piece.new (K.held sink.old) (K.held sink.new) (K.faults sink.old) (K.faults sink.new) result }
 {
     lay_short(sink, piece, &row!("begin ", node, " "))?;
-    lay_act(sink, piece, act)
+    lay_long(sink, piece, act)?;
+    lay_short(sink, piece, &"\n")
 }

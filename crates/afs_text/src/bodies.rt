@@ -6,8 +6,8 @@ ghost use Rattle.afs_text.specs.Laying.{Lays};
 ghost use Rattle.afs_model.specs.LineText.{entry_name_text, hex_text, name_text, more_names_text, directory_text, body_text, status_text, read_body_text, source_text, owed_text};
 
 use crate::bytes::{Name, lay_hex};
-use crate::laying::{Short, TextPiece, lay_short, make_room, put_piece};
-use crate::pieces::Print;
+use crate::laying::{Short, TextPiece, lay_short, make_room};
+use crate::pieces::{Print, lay_long};
 use afs_num::directories;
 use afs_num::histories::{Body, ReadBody, ReadSource, ReadStatus};
 use afs_num::types::Fid;
@@ -48,16 +48,8 @@ fn lay_name<K: Sink>(
         piece.lay(&name);
         return Ok(());
     }
-    lay_long_name(sink, piece, bytes)?;
+    lay_long(sink, piece, &Name(bytes))?;
     lay_short(sink, piece, &row!("=", name.vnode, ".", name.unique))
-}
-
-/// Puts what the piece holds, and then a name.
-fn lay_long_name<K: Sink>(sink: &mut K, piece: &mut TextPiece, name: &[u8]) -> Result<(), Failed>
-    ensures { Lays (name_text name.now) piece.old piece.new (K.held sink.old) (K.held sink.new) (K.faults sink.old) (K.faults sink.new) result }
-{
-    put_piece(sink, piece)?;
-    Name(name).print(sink)
 }
 
 /// Lays a comma and a name in a directory. Each byte of the name may need three, the comma and the numbers need 25.

@@ -1,11 +1,15 @@
 //! The lines of a history, but for the one with which an act begins.
 
 ghost use Rattle.afs_text.specs.Laying.{Lays};
+ghost use Rattle.afs_text.specs.RunText.{dumped_text, older_text, stuck_text};
 ghost use Rattle.afs_model.specs.LineText.{answer_text, change_text, crash_text, drop_all_text, drop_text, enable_text, fail_text, fault_text, fence_text, full_text, given_text, grant_text, located_text, locked_text, made_text, owe_text, quit_text, read_text, recovered_text, released_text, restart_text, settle_text, stop_text, tick_text, timeout_text, unlocked_text, vanish_text, version_text};
 
 use crate::bodies::{Owed, lay_body, lay_read_body};
+use crate::bytes::Name;
 use crate::laying::{TextPiece, lay_short};
+use crate::pieces::lay_long;
 use afs_num::histories::{ReadBody, ReadSource, Version};
+use afs_num::sequences::Octets;
 use afs_num::types::{Code, Fid, Key, Node};
 use afs_outside::outside::{Failed, Sink};
 
@@ -84,6 +88,50 @@ pub fn lay_answer<K: Sink>(
     ensures { Lays (answer_text node code) piece.old piece.new (K.held sink.old) (K.held sink.new) (K.faults sink.old) (K.faults sink.new) result }
 {
     lay_short(sink, piece, &row!("answer ", node, " ", code, "\n"))
+}
+
+#[tactic(auto, unfolding(crate::specs::RunText::older_text))]
+pub fn lay_older<K: Sink>(
+    sink: &mut K,
+    piece: &mut TextPiece,
+    node: Node,
+    offered: u32,
+    seen: u32,
+) -> Result<(), Failed>
+    ensures { Lays (older_text node offered seen) piece.old piece.new (K.held sink.old) (K.held sink.new) (K.faults sink.old) (K.faults sink.new) result }
+{
+    lay_short(
+        sink,
+        piece,
+        &row!("answer ", node, " 105 ", offered, " ", seen, "\n"),
+    )
+}
+
+#[tactic(auto, unfolding(crate::specs::RunText::stuck_text))]
+pub fn lay_stuck<K: Sink>(
+    sink: &mut K,
+    piece: &mut TextPiece,
+    node: Node,
+    code: Code,
+) -> Result<(), Failed>
+    ensures { Lays (stuck_text node code) piece.old piece.new (K.held sink.old) (K.held sink.new) (K.faults sink.old) (K.faults sink.new) result }
+{
+    lay_short(sink, piece, &row!("answer ", node, " ", code, " stuck\n"))
+}
+
+#[tactic(auto, unfolding(crate::specs::RunText::dumped_text))]
+pub fn lay_dumped<K: Sink>(
+    sink: &mut K,
+    piece: &mut TextPiece,
+    node: Node,
+    label: &Octets,
+    size: u32,
+) -> Result<(), Failed>
+    ensures { Lays (dumped_text node label.now size) piece.old piece.new (K.held sink.old) (K.held sink.new) (K.faults sink.old) (K.faults sink.new) result }
+{
+    lay_short(sink, piece, &row!("dumped ", node, " "))?;
+    lay_long(sink, piece, &Name(label.as_slice()))?;
+    lay_short(sink, piece, &row!(" ", size, "\n"))
 }
 
 #[tactic(auto, unfolding(afs_model::specs::LineText::given_text))]

@@ -5,8 +5,9 @@ ghost use Rattle.std.specs.List.{flat_map};
 ghost use Rattle.std.specs.Fmt.{decimal, signed_decimal};
 ghost use Rattle.afs_num.specs.Texts.{node_text, fid_text, key_text};
 ghost use Rattle.afs_outside.specs.Outside.{Puts};
+ghost use Rattle.afs_text.specs.Laying.{Lays};
 
-use crate::laying::{Short, put_short};
+use crate::laying::{Short, TextPiece, put_piece, put_short};
 use crate::numbers::lay_signed;
 use afs_num::types::{Code, Fid, Key, Node};
 use afs_outside::outside::{Failed, Sink, put_bytes};
@@ -19,6 +20,18 @@ pub trait Print {
     /// Writes its text.
     fn print<K: Sink>(&self, sink: &mut K) -> Result<(), Failed>
         ensures { Puts (text self.now) (K.held sink.old) (K.held sink.new) (K.faults sink.old) (K.faults sink.new) result };
+}
+
+/// Lays a text of any length: what the piece holds is put, and then the text.
+pub(crate) fn lay_long<K: Sink, P: Print>(
+    sink: &mut K,
+    piece: &mut TextPiece,
+    item: &P,
+) -> Result<(), Failed>
+    ensures { Lays (P.text item.now) piece.old piece.new (K.held sink.old) (K.held sink.new) (K.faults sink.old) (K.faults sink.new) result }
+{
+    put_piece(sink, piece)?;
+    item.print(sink)
 }
 
 /// Writes the texts of these items, one behind another.

@@ -6,10 +6,10 @@ ghost use Rattle.afs_text.specs.RunText.{line_text};
 use crate::acts::lay_begin;
 use crate::laying::{TextPiece, lay_short};
 use crate::lines::{
-    lay_answer, lay_change, lay_crash, lay_drop, lay_drop_all, lay_enable, lay_fail, lay_fault,
-    lay_fence, lay_full, lay_given, lay_grant, lay_located, lay_locked, lay_made, lay_owe,
-    lay_quit, lay_read, lay_recovered, lay_released, lay_restart, lay_settle, lay_stop, lay_tick,
-    lay_timeout, lay_unlocked, lay_vanish, lay_version,
+    lay_answer, lay_change, lay_crash, lay_drop, lay_drop_all, lay_dumped, lay_enable, lay_fail,
+    lay_fault, lay_fence, lay_full, lay_given, lay_grant, lay_located, lay_locked, lay_made,
+    lay_older, lay_owe, lay_quit, lay_read, lay_recovered, lay_released, lay_restart, lay_settle,
+    lay_stop, lay_stuck, lay_tick, lay_timeout, lay_unlocked, lay_vanish, lay_version,
 };
 use crate::pieces::Print;
 use afs_history::lines::Line;
@@ -25,7 +25,7 @@ pub(crate) fn lay_line<K: Sink>(
     ensures { Lays (line_text line.now) piece.old piece.new (K.held sink.old) (K.held sink.new) (K.faults sink.old) (K.faults sink.new) result }
 {
     match line {
-        Line::Begin { node, act } => lay_begin(sink, piece, *node, act.get()),
+        Line::Begin { node, act } => lay_begin(sink, piece, *node, &act.get()),
         Line::Given { place } => lay_given(sink, piece, *place),
         Line::Grant {
             server,
@@ -98,6 +98,18 @@ pub(crate) fn lay_line<K: Sink>(
         Line::Unlocked { volume } => lay_unlocked(sink, piece, *volume),
         Line::Recovered { volume } => lay_recovered(sink, piece, *volume),
         Line::Located { volume, server } => lay_located(sink, piece, *volume, *server),
+        Line::Older {
+            node,
+            offered,
+            seen,
+        } => lay_older(sink, piece, *node, *offered, *seen),
+        Line::BeginAdmin { node, act } => lay_begin(sink, piece, *node, &act.get()),
+        Line::Stuck { node, code } => lay_stuck(sink, piece, *node, *code),
+        Line::Dumped {
+            node,
+            label,
+            length,
+        } => lay_dumped(sink, piece, *node, label, *length),
         Line::Void => lay_short(sink, piece, &"void\n"),
     }
 }
