@@ -3,7 +3,8 @@
 # computation judge it. Each tests/wrong_operations/NAME.edit changes one definition of crate afs_ideal, and the row that it
 # names has to be refused; laws on all operations may be refused as well, and are counted. WRONG=dumps tries the clones and dumps of
 # crate afs_dumps in the same way, by tests/wrong_dumps; WRONG=fold and WRONG=volrows try the records and the rows of a volume server
-# (crates afs_fold and afs_volrows), by tests/wrong_fold and tests/wrong_volrows.
+# (crates afs_fold and afs_volrows), by tests/wrong_fold and tests/wrong_volrows; WRONG=adminrows tries the acts of administrators (crate
+# afs_adminrows) by tests/wrong_adminrows, and WRONG=copyrows clients of read-only volumes (crate afs_copyrows) by tests/wrong_copyrows.
 # Run it when the definitions or the rows have changed. It takes some 15 s an edit, so it is no part of the gate. With NAMEs it
 # tries these alone. All is done in a copy: the repository stays as it is.
 #
@@ -22,7 +23,9 @@ case ${WRONG:-operations} in
     dumps) changed_crate=afs_dumps edits=tests/wrong_dumps law=dumps_finish ;;
     fold) changed_crate=afs_fold edits=tests/wrong_fold law=records_leave_storable ;;
     volrows) changed_crate=afs_volrows edits=tests/wrong_volrows law=deeds_are_told ;;
-    *) echo 'WRONG is operations, dumps, fold or volrows'; exit 1 ;;
+    adminrows) changed_crate=afs_adminrows edits=tests/wrong_adminrows law=copy ;;
+    copyrows) changed_crate=afs_copyrows edits=tests/wrong_copyrows law=copies_are_plain ;;
+    *) echo 'WRONG is operations, dumps, fold, volrows, adminrows or copyrows'; exit 1 ;;
 esac
 
 work=$(mktemp -d)

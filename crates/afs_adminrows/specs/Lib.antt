@@ -1,0 +1,12 @@
+pub mod Entries
+pub mod Asks
+pub mod Turns
+pub mod Creating
+pub mod Copying
+pub mod Releasing
+pub mod Surveying
+pub mod Moving
+pub mod Removing
+pub mod Recovering
+pub mod Acts
+pub mod AdminRow

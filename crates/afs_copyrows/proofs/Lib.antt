@@ -1,0 +1,2 @@
+pub mod PlainCopies
+mod CopyWorked
