@@ -1,46 +1,13 @@
--- Numbers of nodes, and the clients that a server that begins again owes breaks.
-use Rattle.std.proofs.Common.{◌≡◌, ◌<◌, ◌+◌, ◌-◌, ℕ, suc, Bool, true, false, cond, Option, Some, None, refl, sym, ap, ◌∙◌, arith, eqb, eqb-true, le-leb, ne_eqb}
-use Rattle.std.specs.Prelude.{nat_eq, nat_le}
-use Rattle.std.proofs.lemmas.Bool.{leb-true, lt-leb}
-use Rattle.afs_num.specs.Nodes.{is_between, node_number, node_of, IsNode}
-use Rattle.afs_num.specs.declared.types.Node.{Node}
-use Rattle.afs_num.specs.declared.types.Node.TheVariants.{Loc, Server, Client, Admin}
-use Rattle.afs_model.proofs.Basics.{both}
+-- The clients that a server that begins again owes breaks.
+use Rattle.std.proofs.Common.{◌≡◌, ◌<◌, ◌+◌, ◌-◌, ℕ, suc, Option, Some, refl, ap, arith, le-leb, ne_eqb}
+use Rattle.std.proofs.lemmas.Bool.{lt-leb}
+use Rattle.afs_num.specs.Nodes.{IsNode}
+use Rattle.afs_num.specs.declared.types.Node.TheVariants.{Client}
 use Rattle.afs_breaks.specs.Promises.{owes_all, Lists}
 use Rattle.afs_rows.specs.Callbacks.{owed_to_clients}
 
 abbrev some : {A : Type 0} → A → Option A
 some x = Some x
-
-some_of : {A : Type 0} (x y : A) → some x ≡ some y → x ≡ y
-some_of x y e = cc
-
--- a number's node has that number, which is a small one
-pub record IsNumbered (k : ℕ) (n : Node) : Type 0 where
-  pub number : node_number n ≡ k
-  pub small : k < 205
-
-numbered_at : (k : ℕ) (m n : Node) → some m ≡ some n → node_number m ≡ k → k < 205 → IsNumbered k n
-numbered_at k m n e q lt = record { number = ap node_number (sym (some_of m n e)) ∙ q; small = lt }
-
-numbered_by : (k : ℕ) (n : Node) (a b c d : Bool) → nat_eq k 0 ≡ a → is_between 1 8 k ≡ b → is_between 101 116 k ≡ c → is_between 201 204 k ≡ d →
-    cond a (some Loc) (cond b (some (Server k)) (cond c (some (Client (k - 100))) (cond d (some (Admin (k - 200))) None))) ≡ some n → IsNumbered k n
-numbered_by k n true b c d x y z w e = let q = eqb-true k 0 x in numbered_at k Loc n e (sym q) (omega (arith, q))
-numbered_by k n false true c d x y z w e = let p = both (nat_le 1 k) (nat_le k 8) y in let most = leb-true k 8 p.1 in numbered_at k (Server k) n e refl (omega (arith, most))
-numbered_by k n false false true d x y z w e =
-    let p = both (nat_le 101 k) (nat_le k 116) z in
-    let least = leb-true 101 k p.0 in
-    let most = leb-true k 116 p.1 in
-    numbered_at k (Client (k - 100)) n e (omega (arith, least)) (omega (arith, most))
-numbered_by k n false false false true x y z w e =
-    let p = both (nat_le 201 k) (nat_le k 204) w in
-    let least = leb-true 201 k p.0 in
-    let most = leb-true k 204 p.1 in
-    numbered_at k (Admin (k - 200)) n e (omega (arith, least)) (omega (arith, most))
-numbered_by k n false false false false x y z w e = absurd cc
-
-pub numbered : (k : ℕ) (n : Node) → node_of k ≡ Some n → IsNumbered k n
-numbered k n e = numbered_by k n (nat_eq k 0) (is_between 1 8 k) (is_between 101 116 k) (is_between 201 204 k) refl refl refl refl e
 
 pub client_is_node : (i : ℕ) → i < 16 → IsNode (Client (i + 1))
 client_is_node i lt =

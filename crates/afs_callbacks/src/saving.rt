@@ -35,6 +35,7 @@ use afs_server_parts::ending::Ended;
 use afs_server_parts::replies::key;
 use afs_server_parts::telling::{Grant, tell_grants, tell_owed};
 use afs_server_parts::turns::{Stand, Turn};
+use afs_server_parts::words::are_words;
 use std::alloc::Global;
 
 /// A promise lasts so many ticks.
@@ -340,13 +341,6 @@ fn saved_lines(
 }
 
 // ---- the record
-
-/// Each number is a word.
-fn are_words(numbers: &[u32])
-    ensures { AreWords numbers.now }
-{
-    let _ = numbers.len();
-}
 
 /// The words of an image are words.
 fn is_of_words(vnode: &Vnode)

@@ -6,13 +6,14 @@ use Rattle.afs_rows.specs.LocRow.{changes, loc_op, LocChange, LocState}
 use Rattle.afs_locstore.specs.States.{loc_placed, parts_of}
 use Rattle.afs_locstore.specs.declared.memory.State.{State}
 use Rattle.afs_locdb.specs.Deciding.{change_decided, change_in, lasting_seen, outcome_of, IsMadeIn}
-use Rattle.afs_locdb.specs.Seen.{lasting_of, seat_kept}
+use Rattle.afs_locdb.specs.Seen.{lasting_of}
 use Rattle.afs_locdb.specs.declared.decided.Decided.{Decided}
 use Rattle.afs_locdb.specs.declared.decided.Decided.TheVariants as decided
 use Rattle.afs_locdb.specs.declared.operations.Outcome.{Outcome}
 use Rattle.afs_locdb.specs.declared.operations.Outcome.TheVariants as outcomes
 use Rattle.afs_locdb.proofs.Saved.{op_same}
 use Rattle.std.specs.Prelude.{map}
+use Rattle.afs_saving.specs.Kept.{seat_kept}
 
 -- a call does the same over what is in memory and over what is on the disk
 pub op_here : (stamp : ℕ) (call : LocCall) (st : State) (journal capacity : ℕ) (d : LocDurable) → d ≡ loc_placed journal capacity (parts_of st) → loc_op stamp call (lasting_seen st) ≡ loc_op stamp call (lasting_of d)

@@ -3,11 +3,9 @@ pub mod Decides
 pub mod Formed
 pub mod Kept
 pub mod Keyed
-pub mod Numbered
 pub mod OnDisks
 pub mod Recorded
 pub mod Saved
 pub mod Saves
 pub mod Started
-pub mod Still
 pub mod Wholly

@@ -1,5 +1,5 @@
 -- The records of a change and of set-up have a spelling.
-use Rattle.std.proofs.Common.{◌≡◌, ◌≤◌, ◌<◌, ◌+◌, ◌^◌, ℕ, Bool, true, false, List, [], ◌∷◌, length, Option, Some, None, refl, sym, ap, subst, ◌∙◌, arith, lit<, eqb-true, if◌then◌else◌}
+use Rattle.std.proofs.Common.{◌≡◌, ◌≤◌, ◌<◌, ◌^◌, ℕ, Bool, true, false, List, [], ◌∷◌, length, Option, Some, refl, sym, ap, ◌∙◌, arith, lit<, eqb-true}
 use Rattle.std.specs.Prelude.{nat_eq}
 use Rattle.std.specs.List.{AllByRecursion}
 use Rattle.afs_history.specs.declared.scripts.VolumeLine.{VolumeLine}
@@ -8,14 +8,13 @@ use Rattle.afs_num.specs.Nodes.{node_number, node_of, same_node, IsNode}
 use Rattle.afs_num.specs.declared.types.Head.{Head}
 use Rattle.afs_num.specs.declared.types.Node.{Node}
 use Rattle.afs_num.specs.declared.types.Node.TheVariants.{Loc}
-use Rattle.afs_shape.specs.Taking.{◌>>=◌}
 use Rattle.afs_records.specs.Changes.{keeping, no_head}
 use Rattle.afs_records.specs.LocDurable.{lines_listed, listed_line, loc_first_record}
-use Rattle.afs_records.specs.LocRecords.{deed_form, listed_form, loc_record, Database, Deed, FitsLocRecord, Listed}
-use Rattle.afs_records.specs.Records.{caller_form, head_form}
+use Rattle.afs_records.specs.LocRecords.{deed_form, listed_form, loc_record, Database, Deed, FitsLocRecord}
+use Rattle.afs_records.specs.Records.{head_form}
 use Rattle.afs_rows.specs.ServerRow.{key_of}
 use Rattle.afs_locdb.specs.Creating.{CanBeListed}
-use Rattle.afs_locdb.proofs.Numbered.{numbered}
+use Rattle.afs_records.proofs.Callers.{caller_fits}
 
 abbrev some : {A : Type 0} → A → Option A
 some x = Some x
@@ -32,21 +31,11 @@ other_number true n e node other =
     let yes : same_node n Loc ≡ true = ap (λ (m : Node). same_node m Loc) (sym same) ∙ same_node-refl Loc in
     absurd cc
 
-not_none : (b : Bool) (o : Option (Option Node)) → b ≡ false → (if b then Some None else o) ≡ o
-not_none true o e = absurd cc
-not_none false o e = refl
-
-caller_fits : (n : Node) → IsNode n → same_node n Loc ≡ false → caller_form.Fits (Some n)
-caller_fits n node other =
-    let small = (numbered (node_number n) n node).small in
-    let known : ◌≡◌ {A = Option (Option Node)} (node_of (node_number n) >>= λ m. Some (Some m)) (Some (Some n)) = ap (λ (o : Option Node). o >>= λ m. Some (Some m)) node in
-    (omega (arith, small), not_none (nat_eq (node_number n) 0) (node_of (node_number n) >>= λ m. Some (Some m)) (other_number (nat_eq (node_number n) 0) n refl node other) ∙ known)
-
 pub change_fits : (head : Head) (reply : List ℕ) (deed : Deed) (next_id next_stamp : ℕ) → IsNode head.from → same_node head.from Loc ≡ false → head.epoch < 2 ^ 32 → head.number < 2 ^ 32 → length reply ≤ 4294967295 → deed_form.Fits deed →
     next_id < 2 ^ 32 → next_stamp < 2 ^ 32 → FitsLocRecord (loc_record (keeping (key_of head) reply) (Database deed next_id next_stamp))
 unfolding head_form
 change_fits head reply deed next_id next_stamp node other epoch number short fits id stamp = record {
-  head = ((lit< tt, (lit< tt, (caller_fits head.from node other, (epoch, (number, (short, omega (arith, short))))))), refl);
+  head = ((lit< tt, (lit< tt, (caller_fits head.from node (other_number (nat_eq (node_number head.from) 0) head.from refl node other), (epoch, (number, (short, omega (arith, short))))))), refl);
   body = (fits, (id, (stamp, tt)));
   caller = refl;
 }

@@ -1,5 +1,5 @@
 -- A change is made where there is room for its record; else its call is refused.
-use Rattle.std.proofs.Common.{◌≡◌, ◌+◌, ℕ, Bool, true, false, List, [], ◌∷◌, Option, Some, None, refl, sym, ap, subst, ◌∙◌, if◌then◌else◌}
+use Rattle.std.proofs.Common.{◌≡◌, ◌+◌, ℕ, Bool, true, false, List, [], ◌∷◌, Option, Some, None, inr, refl, sym, ap, subst, ◌∙◌, if◌then◌else◌}
 use Rattle.std.specs.Prelude.{pos, Result, Ok, Err, IsErrOf}
 use Rattle.afs_disk.specs.Disk.{Setting}
 use Rattle.afs_history.specs.declared.lines.Outs.{Outs}
@@ -19,8 +19,9 @@ use Rattle.afs_locdb.specs.Seen.{lasting_of, loc_seen, Database, IsInBoot}
 use Rattle.afs_server_parts.specs.declared.faults.NodeFault.{NodeFault}
 use Rattle.afs_server_parts.specs.declared.faults.NodeFault.TheVariants as nodes
 use Rattle.afs_locdb.specs.declared.saving.Planned.{Planned}
-use Rattle.afs_locdb.proofs.Kept.{AreToNodes}
 use Rattle.afs_locdb.proofs.Saved.{lasting_left}
+use Rattle.afs_saving.proofs.Still.{prepared_still}
+use Rattle.afs_saving.specs.Kept.{AreToNodes}
 
 abbrev some : {A : Type 0} → A → Option A
 some x = Some x
@@ -60,7 +61,10 @@ same_store {D} s t is = is ∙ (λ i. record s { disk = t.disk; prepared = sym (
 
 -- memory was wanting
 pub wanting : {D : Type 0} (d : LocDecision) (old new : Database D) (m : LocStoreOf D) (result : Result Outs NodeFault) → result ≡ Err nodes.OutOfMemory → m ≡ record old.store { disk = m.disk } → new ≡ in_store m old → DoesAll d old new result
-wanting {D} d old new m result is same in_place = subst (λ (r : Result Outs NodeFault). DoesAll d old new r) (sym is) (untouched old new m (same_store old.store m same) in_place)
+wanting {D} d old new m result is same in_place =
+    let left : new.store.prepared ≡ old.store.prepared = ap (λ (b : Database D). b.store.prepared) in_place ∙ ap (λ (u : LocStoreOf D). u.prepared) same in
+    let prepared = prepared_still {T = Outs} (loc_record_decided old.store.durable.boot d) old.store.prepared new.store.prepared (Err nodes.OutOfMemory) tt left in
+    subst (λ (r : Result Outs NodeFault). DoesAll d old new r) (sym is) (untouched old new m (same_store old.store m same) in_place, prepared)
 
 module _ {D : Type 0} (head : Head) (c : LocChange) (old new : Database D) (m : LocStoreOf D) (p : Planned) where
   room_by : (b : Bool) → loc_has_room old.store.durable (loc_record_of old.store.durable.boot head c) ≡ b → b ≡ true → roomed (loc_seen old) head c ≡ saves head c
@@ -105,6 +109,7 @@ module _ {D : Type 0} (head : Head) (c : LocChange) (old new : Database D) (m : 
         serves = record { boot = puts.1.0 ∙ (serves.boot ∙ sym (ap (λ (l : LocLasting). l.boot) lasting)); node = ap (λ (u : LocStoreOf D). u.node) store ∙ serves.node };
         store = store ∙ (λ i. record old.store { durable = new.store.durable; disk = new.store.disk; prepared = sym none i; count = sym count i });
         done = (fold, count);
+        prepared = none;
       }
 
   interrupted : m ≡ record old.store { disk = m.disk; prepared = Some p.rec } → IsChangeOf old head c p → can_do c.deed old.store.durable.entries ≡ true → IsNode head.from → AreToNodes old.store.durable.kept →
@@ -127,7 +132,9 @@ module _ {D : Type 0} (head : Head) (c : LocChange) (old new : Database D) (m : 
   saved_by : (result : Result Outs NodeFault) → m ≡ record old.store { disk = m.disk; prepared = Some p.rec } → IsChangeOf old head c p → can_do c.deed old.store.durable.entries ≡ true → IsNode head.from → AreToNodes old.store.durable.kept → IsInBoot old →
       Puts head p (in_store m old) new result → DoesAll (saves head c) old new result
   saved_by (Ok outs) prepared change can node are serves puts = saved_made outs prepared change can node are serves puts
-  saved_by (Err nodes.OutOfMemory) prepared change can node are serves puts = untouched old new m (prepared_same prepared) puts
+  saved_by (Err nodes.OutOfMemory) prepared change can node are serves puts =
+      let own = ap (λ (b : Database D). b.store.prepared) puts ∙ (ap (λ (u : LocStoreOf D). u.prepared) prepared ∙ ap (λ (r : LocRecord). Some r) change.rec_is) in
+      (untouched old new m (prepared_same prepared) puts, inr own)
   saved_by (Err nodes.Down) prepared change can node are serves puts = interrupted prepared change can node are puts
 
   -- ---- without room
@@ -145,8 +152,10 @@ module _ {D : Type 0} (head : Head) (c : LocChange) (old new : Database D) (m : 
         serves = is.1.0;
         store = same ∙ (λ i. record old.store { durable = sym durable i; disk = sym disk i; prepared = sym prepared i; count = sym count i });
         done = (durable, count);
+        prepared = prepared;
       }
-  refused_by (Err nodes.OutOfMemory) full answers up = untouched old new m (same_store old.store m full) answers
+  refused_by (Err nodes.OutOfMemory) full answers up =
+      (untouched old new m (same_store old.store m full) answers, ap (λ (b : Database D). b.store.prepared) answers ∙ ap (λ (u : LocStoreOf D). u.prepared) full)
   refused_by (Err nodes.Down) full answers up = absurd (up refl)
 
   -- ---- either way

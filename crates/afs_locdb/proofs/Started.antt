@@ -10,7 +10,8 @@ use Rattle.afs_records.specs.LocLaws.{loc_started}
 use Rattle.afs_rows.specs.LocRow.{loc_lasting_started, loc_revived, LocState}
 use Rattle.afs_rows.specs.States.{Seat}
 use Rattle.afs_locdb.specs.Saving.{LocStoreOf}
-use Rattle.afs_locdb.specs.Seen.{lasting_of, seat_kept, Database, Serves}
+use Rattle.afs_locdb.specs.Seen.{lasting_of, Database, Serves}
+use Rattle.afs_saving.specs.Kept.{seat_kept}
 
 abbrev some : {A : Type 0} → A → Option A
 some x = Some x

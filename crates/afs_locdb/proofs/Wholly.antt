@@ -22,13 +22,14 @@ use Rattle.afs_law.specs.DatabaseRuns.{is_given, IsSettled}
 use Rattle.afs_rows.specs.LocSteps.{loc_begun_after, loc_does, loc_row}
 use Rattle.afs_locdb.specs.Deciding.{decision_of, leaves_disk}
 use Rattle.afs_locdb.specs.Handling.{loc_record_decided, Does, Handles, IsDone, IsUntouched, IsWritten}
-use Rattle.afs_locdb.specs.Saving.{calls_for, DoesAll, IsMadeOf, IsStill, KeepsStore, LocStoreOf}
+use Rattle.afs_locdb.specs.Saving.{calls_for, DoesAll, IsMadeOf, IsStill, KeepsStore, LocStoreOf, OnDisk, LeavesPrepared}
 use Rattle.afs_locdb.specs.Seen.{lasting_of, loc_seen, Database, Serves}
 use Rattle.afs_locdb.specs.declared.decided.Decided.{Decided}
 use Rattle.afs_locdb.specs.declared.decided.Decided.TheVariants as decided
 use Rattle.afs_server_parts.specs.declared.faults.NodeFault.{NodeFault}
 use Rattle.afs_server_parts.specs.declared.faults.NodeFault.TheVariants as nodes
-use Rattle.afs_locdb.proofs.Still.{is_same, OfDisk}
+use Rattle.afs_saving.proofs.Still.{is_same, none_prepared, prepared_still}
+use Rattle.afs_locstore.specs.LocFold.{loc_fold}
 
 abbrev some : {A : Type 0} → A → Option A
 some x = Some x
@@ -65,6 +66,7 @@ module _ {D : Type 0} (d : LocDecision) (old new : Database D) where
         serves = does.1.0;
         store = is ∙ (λ i. record old.store { durable = sym durable i; disk = sym disk i; prepared = sym prepared i; count = sym count i });
         done = subst (λ (r : Option LocRecord). IsDone r old new) (sym none) (durable, count);
+        prepared = prepared_still {T = Outs} (loc_record_decided old.store.durable.boot d) old.store.prepared new.store.prepared (Ok outs) none prepared;
       }
 
   pub same_made : (outs : Outs) → Does {E = NodeFault} d old new (Ok outs) → new.store.disk ≡ old.store.disk
@@ -72,13 +74,15 @@ module _ {D : Type 0} (d : LocDecision) (old new : Database D) where
 
   -- memory was wanting
   pub none_made : (result : Result Outs NodeFault) → result ≡ Err nodes.OutOfMemory → new ≡ old → DoesAll d old new result
-  none_made result is same = subst (λ (r : Result Outs NodeFault). DoesAll d old new r) (sym is) (subst (λ (b : Database D). IsUntouched old b) (sym same) refl)
+  none_made result is same =
+      let prepared = prepared_still {T = Outs} (loc_record_decided old.store.durable.boot d) old.store.prepared new.store.prepared (Err nodes.OutOfMemory) tt (ap (λ (b : Database D). b.store.prepared) same) in
+      subst (λ (r : Result Outs NodeFault). DoesAll d old new r) (sym is) (subst (λ (b : Database D). IsUntouched old b) (sym same) refl, prepared)
 
   -- ---- what was done
 
   handles_at : (place : ℕ) (result : Result Outs NodeFault) → DoesAll d old new result → Handles (loc_does (loc_seen old) place d) (lines.Given place ∷ []) old new result
   handles_at place (Ok outs) does = record { state = does.makes.state; lines = ap (λ (ls : List Line). lines.Given place ∷ ls) does.makes.lines; sent = does.makes.sent }
-  handles_at place (Err nodes.OutOfMemory) does = does
+  handles_at place (Err nodes.OutOfMemory) does = does.0
   handles_at place (Err nodes.Down) does = does.closed
 
   pub step_at : (place : ℕ) (m : Received) (result : Result Outs NodeFault) → d ≡ loc_decides (loc_seen old) m → DoesAll d old new result → Handles (loc_row (loc_seen old) place m) (lines.Given place ∷ []) old new result
@@ -99,6 +103,12 @@ module _ {D : Type 0} (d : LocDecision) (old new : Database D) where
   pub done_after : (result : Result Outs NodeFault) → DoesAll d old new result → OnOk result (IsDone (loc_record_decided old.store.durable.boot d) old new)
   done_after (Ok outs) does = does.done
   done_after (Err fault) does = tt
+
+  pub prepared_after : (result : Result Outs NodeFault) → DoesAll d old new result → LeavesPrepared (loc_record_decided old.store.durable.boot d) old new result
+  prepared_after (Ok outs) does = does.prepared
+  prepared_after (Err nodes.OutOfMemory) does = does.1
+  prepared_after (Err nodes.Down) does =
+      none_prepared {T = Outs} (loc_record_decided old.store.durable.boot d) old.store.prepared new.store.prepared (Err nodes.Down) refl does.some (ap (λ (u : LocStoreOf D). u.prepared) does.closed)
 
   pub some_down : (result : Result Outs NodeFault) → DoesAll d old new result → IsErrOf result nodes.Down → loc_record_decided old.store.durable.boot d ≡ None → ⊥
   some_down (Ok outs) does down none = absurd cc
@@ -132,7 +142,7 @@ told_after {D} d old result r is ls = retold (loc_seen old) d old.store.durable.
 
 -- ---- device calls
 
-calls_decided : (s : LocState) (d : LocDecision) (durable : LocDurable) → calls_for durable (loc_record_decided s.lasting.boot d) ≡ loc_device_calls s d
+calls_decided : (s : LocState) (d : LocDecision) (durable : LocDurable) → calls_for (loc_record_decided s.lasting.boot d) ≡ loc_device_calls s d
 calls_decided s drops durable = refl
 calls_decided s (tells_boot head) durable = refl
 calls_decided s (repeats reply) durable = refl
@@ -140,15 +150,15 @@ calls_decided s (refuses head code) durable = refl
 calls_decided s (shows head reply) durable = refl
 calls_decided s (saves head c) durable = refl
 
-pub called_after : (s : LocState) (d : LocDecision) (durable : LocDurable) (result : Result Outs NodeFault) (before now : ℕ) → OnOk result (now ≡ before + calls_for durable (loc_record_decided s.lasting.boot d)) → OnOk result (now ≡ before + loc_device_calls s d)
+pub called_after : (s : LocState) (d : LocDecision) (durable : LocDurable) (result : Result Outs NodeFault) (before now : ℕ) → OnOk result (now ≡ before + calls_for (loc_record_decided s.lasting.boot d)) → OnOk result (now ≡ before + loc_device_calls s d)
 called_after s d durable (Ok outs) before now is = is ∙ ap (λ (n : ℕ). before + n) (calls_decided s d durable)
 called_after s d durable (Err fault) before now is = tt
 
 -- ---- steps that leave the disk alone
 
-pub answered_disk : {D : Type 0} (w : Ghosts D) (d : LocDecision) (old new : Database D) (outs : Outs) → loc_record_decided old.store.durable.boot d ≡ None → Does {E = NodeFault} d old new (Ok outs) → OfDisk w (loc_record_decided old.store.durable.boot d) old.store.durable old.store.disk new.store.disk (Ok outs)
-answered_disk {D} w d old new outs none does = is_same w (loc_record_decided old.store.durable.boot d) old.store.durable old.store.disk new.store.disk (Ok outs) none (ap (λ (u : LocStoreOf D). u.disk) does.1.1)
+pub answered_disk : {D : Type 0} (w : Ghosts D) (d : LocDecision) (old new : Database D) (outs : Outs) → loc_record_decided old.store.durable.boot d ≡ None → Does {E = NodeFault} d old new (Ok outs) → OnDisk w (loc_record_decided old.store.durable.boot d) old.store.durable old.store.disk new.store.disk (Ok outs)
+answered_disk {D} w d old new outs none does = is_same loc_fold w (loc_record_decided old.store.durable.boot d) old.store.durable old.store.disk new.store.disk (Ok outs) none (ap (λ (u : LocStoreOf D). u.disk) does.1.1)
 
-pub wanting_disk : {D : Type 0} (w : Ghosts D) (decided : Option LocRecord) (old new : Database D) (result : Result Outs NodeFault) → result ≡ Err nodes.OutOfMemory → new ≡ old → OfDisk w decided old.store.durable old.store.disk new.store.disk result
+pub wanting_disk : {D : Type 0} (w : Ghosts D) (decided : Option LocRecord) (old new : Database D) (result : Result Outs NodeFault) → result ≡ Err nodes.OutOfMemory → new ≡ old → OnDisk w decided old.store.durable old.store.disk new.store.disk result
 wanting_disk {D} w decided old new result is same =
-    subst (λ (r : Result Outs NodeFault). OfDisk w decided old.store.durable old.store.disk new.store.disk r) (sym is) (is_same w decided old.store.durable old.store.disk new.store.disk (Err nodes.OutOfMemory) tt (ap (λ (b : Database D). b.store.disk) same))
+    subst (λ (r : Result Outs NodeFault). OnDisk w decided old.store.durable old.store.disk new.store.disk r) (sym is) (is_same loc_fold w decided old.store.durable old.store.disk new.store.disk (Err nodes.OutOfMemory) tt (ap (λ (b : Database D). b.store.disk) same))

@@ -13,6 +13,7 @@ use Rattle.afs_rows.specs.Steps.{Step}
 use Rattle.afs_locdb.specs.Seen.{loc_seen, Database, IsInBoot}
 use Rattle.afs_server_parts.specs.declared.faults.NodeFault.{NodeFault}
 use Rattle.afs_server_parts.specs.declared.faults.NodeFault.TheVariants as faults
+pub use Rattle.afs_saving.specs.Saving.{IsQuiet, IsWritten}
 
 -- the calls that it serves
 abbrev pub loc_calls_served : List ℕ
@@ -73,14 +74,3 @@ loc_record_then {D} b bytes = loc_record_decided b.store.durable.boot (loc_decid
 abbrev pub IsDone : {D : Type 0} → Option LocRecord → Database D → Database D → Type 0
 IsDone {D} None old new = (new.store.durable ≡ old.store.durable) × (new.store.count ≡ old.store.count)
 IsDone {D} (Some r) old new = (loc_folded r old.store.durable ≡ Some new.store.durable) × (new.store.count ≡ old.store.count + 1)
-
--- no device call was made: the step makes no record, or memory was wanting
-abbrev pub IsQuiet : {T : Type 0} → Option LocRecord → Result T NodeFault → Type 0
-IsQuiet {T} None result = Unit {0}
-IsQuiet {T} (Some r) (Err faults.OutOfMemory) = Unit {0}
-IsQuiet {T} (Some r) result = ⊥
-
--- the record was written, or begun
-abbrev pub IsWritten : {T : Type 0} → LocRecord → Option LocRecord → Result T NodeFault → Type 0
-IsWritten {T} r decided (Err faults.OutOfMemory) = ⊥
-IsWritten {T} r decided result = decided ≡ Some r

@@ -1,28 +1,26 @@
 -- What becomes of a change: what its step does to the store, and to the disk.
-use Rattle.std.specs.Prelude.{◌≡◌, ◌≤◌, ◌↔◌, ◌+◌, ◌⊎◌, ℕ, List, [], ◌∷◌, Bool, true, false, Option, Some, None, Result, Ok, Err, IsErrOf, IsSome, OnOk}
-use Rattle.afs_disk.specs.Disk.{Rose, Trips}
-use Rattle.afs_disk.specs.Words.{CallsAtMost, LeavesOnlyBy, PassesBy, SameDiskBy, TellsOn}
+use Rattle.std.specs.Prelude.{◌≡◌, ◌+◌, [], ◌∷◌, Bool, true, false, Option, Some, None, Result, Ok, Err}
 use Rattle.afs_disk.specs.declared.disk.Disk.{Ghosts}
 use Rattle.afs_history.specs.declared.lines.Outs.{Outs}
-use Rattle.afs_journal.specs.Records.{whole_records}
-use Rattle.afs_journal.specs.Words.{LeavesByPickOf, ReachesBy, SameCountsBy}
 use Rattle.afs_num.specs.declared.messages.Received.TheVariants.{Whole}
 use Rattle.afs_num.specs.declared.types.Head.{Head}
 use Rattle.afs_model.specs.Calls.{call_seated}
 use Rattle.afs_model.specs.Messages.{messages_spelled, parcels_read, received, spelled}
-use Rattle.afs_records.specs.LocDurable.{loc_folded, loc_placing, LocDurable}
+use Rattle.afs_records.specs.LocDurable.{loc_folded, LocDurable}
 use Rattle.afs_records.specs.LocEffects.{deed_told}
-use Rattle.afs_records.specs.LocRecords.{loc_record_bytes, FitsLocRecord, LocRecord}
+use Rattle.afs_records.specs.LocRecords.{FitsLocRecord, LocRecord}
 use Rattle.afs_rows.specs.LocRow.{loc_record_of, reply_to, LocChange, LocDecision}
 use Rattle.afs_rows.specs.LocSteps.{loc_begun_after}
 use Rattle.afs_rows.specs.ServerRow.{seat_for}
-use Rattle.afs_store.specs.Stores.{LeftAround, StoreOf}
+use Rattle.afs_store.specs.Stores.{StoreOf}
 use Rattle.afs_locstore.specs.LocFold.{loc_fold}
-use Rattle.afs_locdb.specs.Handling.{loc_done, loc_record_decided, IsClosed, IsDone, IsQuiet, IsUntouched, IsWritten, Makes}
+use Rattle.afs_locdb.specs.Handling.{loc_done, loc_record_decided, IsClosed, IsDone, IsUntouched, Makes}
 use Rattle.afs_locdb.specs.Seen.{lasting_of, loc_seen, Database, IsInBoot}
 use Rattle.afs_server_parts.specs.declared.faults.NodeFault.{NodeFault}
 use Rattle.afs_server_parts.specs.declared.faults.NodeFault.TheVariants as nodes
 use Rattle.afs_locdb.specs.declared.saving.Planned.{Planned}
+use Rattle.afs_saving.specs.Saving as saving
+pub use Rattle.afs_saving.specs.Saving.{calls_for, IsStill, Ran}
 
 -- ---- a change
 
@@ -60,6 +58,10 @@ Puts {D} head p old new (Ok outs) =
 Puts {D} head p old new (Err nodes.OutOfMemory) = new ≡ old
 Puts {D} head p old new (Err nodes.Down) = Commits {T = Outs} p.rec old.store new.store (Err nodes.Down)
 
+-- which record a step that has this one, or none, leaves prepared
+abbrev pub LeavesPrepared : {D T : Type 0} → Option LocRecord → Database D → Database D → Result T NodeFault → Type 0
+LeavesPrepared {D} {T} decided old new result = saving.LeavesPrepared decided old.store.prepared new.store.prepared result
+
 -- ---- the whole step
 
 -- of its store a step changes what is kept, and what counts it
@@ -72,6 +74,7 @@ pub record IsMadeOf {D : Type 0} (d : LocDecision) (old new : Database D) (outs 
   pub serves : IsInBoot new
   pub store : KeepsStore old new
   pub done : IsDone (loc_record_decided old.store.durable.boot d) old new
+  pub prepared : LeavesPrepared (loc_record_decided old.store.durable.boot d) old new (Ok outs)
 
 -- the disk failed: one that keeps the record of the step keeps what the row leaves of it
 pub record IsInterrupted {D : Type 0} (d : LocDecision) (old new : Database D) : Type 0 where
@@ -82,41 +85,11 @@ pub record IsInterrupted {D : Type 0} (d : LocDecision) (old new : Database D) :
 -- what is decided is done; or memory was wanting, and all is as before; or the disk failed while the record was written
 abbrev pub DoesAll : {D : Type 0} → LocDecision → Database D → Database D → Result Outs NodeFault → Type 0
 DoesAll {D} d old new (Ok outs) = IsMadeOf d old new outs
-DoesAll {D} d old new (Err nodes.OutOfMemory) = IsUntouched old new
+DoesAll {D} d old new (Err nodes.OutOfMemory) = IsUntouched old new × LeavesPrepared {T = Outs} (loc_record_decided old.store.durable.boot d) old new (Err nodes.OutOfMemory)
 DoesAll {D} d old new (Err nodes.Down) = IsInterrupted d old new
 
--- no device call was made: no record was due, or memory was wanting
-abbrev pub IsStill : {T : Type 0} → Option LocRecord → Result T NodeFault → Type 0
-IsStill {T} decided (Ok x) = decided ≡ None
-IsStill {T} decided (Err nodes.OutOfMemory) = Unit {0}
-IsStill {T} decided (Err nodes.Down) = ⊥
+-- ---- the disk
 
--- the calls that a step makes, which has this record or none
-abbrev pub calls_for : LocDurable → Option LocRecord → ℕ
-calls_for d None = 0
-calls_for d (Some r) = (loc_placing d r).calls
-
--- A step's device calls: no count of faults falls; the node goes down only where one of them failed, as it was set to or by the disk
--- itself; and it goes on only where all of them passed.
-pub record Ran {D T : Type 0} (w : Ghosts D) (old new : D) (result : Result T NodeFault) : Type 0 where
-  pub never_falls : w.faults old ≤ w.faults new
-  pub own_never_falls : w.own_faults old ≤ w.own_faults new
-  pub down : IsErrOf result nodes.Down → Rose (w.faults old) (w.faults new) × (Trips (w.setting old) (w.calls new) ⊎ Rose (w.own_faults old) (w.own_faults new))
-  pub passed : OnOk result (PassesBy w old new)
-
--- What a step that has this record, or none, does to a disk that keeps this. Without a record, or where memory was wanting, it
--- leaves the disk alone; else a crash at any moment leaves what was kept before, or what is kept with the record. Either way a disk
--- that tells goes on telling. Where it was set to stop or to fail at one of the calls, that one tells what a crash with each pick
--- leaves.
-pub record OnDisk {D T : Type 0} (w : Ghosts D) (decided : Option LocRecord) (d : LocDurable) (old new : D) (result : Result T NodeFault) : Type 0 where
-  pub told : TellsOn w old new
-  pub quiet : IsQuiet decided result → SameDiskBy w old new × SameCountsBy w old new
-  pub any_moment : (r : LocRecord) → IsWritten r decided result → (bytes : List ℕ) → w.seen old ≡ Some bytes → LeavesOnlyBy w old new (LeftAround loc_fold (whole_records bytes) r d)
-  pub reached : IsErrOf result nodes.Down → ReachesBy w old new
-  pub left : IsErrOf result nodes.Down → (r : LocRecord) → decided ≡ Some r → (bytes : List ℕ) → w.seen old ≡ Some bytes → LeavesByPickOf w (whole_records bytes) (loc_record_bytes r) old new
-  pub fits : (r : LocRecord) → IsWritten r decided result → FitsLocRecord r
-  pub most : CallsAtMost 4 w old new
-  pub limited : w.limit new ≡ w.limit old
-  pub called : OnOk result (w.calls new ≡ w.calls old + calls_for d decided)
-  pub ran : Ran w old new result
-  pub set : w.setting new ≡ w.setting old
+-- what a step that has this record, or none, does to a disk that keeps this
+abbrev pub OnDisk : {D T : Type 0} → Ghosts D → Option LocRecord → LocDurable → D → D → Result T NodeFault → Type 0
+OnDisk {D} {T} w decided d old new result = saving.OnDisk loc_fold w decided d old new result

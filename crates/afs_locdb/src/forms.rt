@@ -7,13 +7,7 @@ ghost use Rattle.afs_shape.specs.Tables.{IsEntry};
 ghost use Rattle.afs_xdr.specs.Words.{AreWords};
 
 use afs_num::location_calls::{LocEntry, LocSite};
-
-/// Each number is a word.
-pub(crate) fn are_words(numbers: &[u32])
-    ensures { AreWords numbers.now }
-{
-    let _ = numbers.len();
-}
+use afs_server_parts::words::are_words;
 
 /// The numbers of a site are words.
 fn is_of_words(site: &LocSite)

@@ -20,7 +20,7 @@ ghost use Rattle.afs_store.specs.Stores.{LeftAround};
 ghost use Rattle.afs_locstore.specs.LocFold.{loc_fold};
 ghost use Rattle.afs_locdb.specs.Deciding.{decision_of, leaves_disk, CanBeTold, IsByAnother, IsMadeIn, IsUnder, Runs};
 ghost use Rattle.afs_locdb.specs.Handling.{loc_calls_served, loc_decided_then, loc_record_decided, loc_record_then, Does, Handles, IsDone, IsQuiet, IsWritten};
-ghost use Rattle.afs_locdb.specs.Saving.{DoesAll, OnDisk, Ran};
+ghost use Rattle.afs_locdb.specs.Saving.{DoesAll, OnDisk, Ran, LeavesPrepared};
 ghost use Rattle.afs_locdb.specs.Seen.{lasting_of, loc_seen, IsInBoot, Serves};
 ghost use Rattle.afs_server_parts.specs.declared.faults.NodeFault.TheVariants as faults;
 
@@ -197,6 +197,9 @@ impl<D: Disk> LocDb<D> {
 
         ensures store { OnOk result (self.new.store ≡ record self.old.store { durable = self.new.store.durable; disk = self.new.store.disk; prepared = self.new.store.prepared; count = self.new.store.count }) }
         ensures kept { OnOk result (IsDone (loc_record_then self.old bytes.now) self.old self.new) }
+
+        // It leaves no record prepared but what was there before: one that it writes is no more, and only want of memory may leave it.
+        ensures prepared { LeavesPrepared (loc_record_then self.old bytes.now) self.old self.new result }
 
         // Where the disk fails, what may be left with the record is what the row leaves behind it.
         ensures down { IsErrOf result faults.Down → loc_record_then self.old bytes.now ≡ None → ⊥ }

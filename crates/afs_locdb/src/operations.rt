@@ -14,7 +14,7 @@ ghost use Rattle.afs_locstore.specs.Listings.{entry_of};
 ghost use Rattle.afs_locdb.specs.Deciding.{fits_or, lasting_seen, outcome_of, CanAnswer, HasForm, HoldsAs, IsReplyTo};
 
 use crate::changes::LocChange;
-use crate::forms::{are_words, has_form};
+use crate::forms::has_form;
 use afs_locrecord::copying::{copy_entry, copy_held};
 use afs_locrecord::types::{Deed, Doing, Listed, Lock};
 use afs_locstore::memory::State;
@@ -22,6 +22,7 @@ use afs_num::location_calls::{LocCall, LocEntry, LocReply};
 use afs_num::names::volume_name_ok;
 use afs_num::sequences::Octets;
 use afs_num::types::Mem;
+use afs_server_parts::words::are_words;
 use std::alloc::{AllocError, Global};
 
 /// No entry has that number, name or index.

@@ -1,14 +1,12 @@
 //! The database is made of its disk at a restart, and begins its next boot.
 
-ghost use Rattle.std.specs.Prelude.{◌≡◌, ◌≤◌, ◌+◌, ◌∷◌, ◌++◌, ◌↔◌, ◌⊎◌, ℕ, List, [], None, Some, false, true, length, map, IfErr, IfOk, IsErrOf, IsOk, IsSome, MatchResult, OnOk};
+ghost use Rattle.std.specs.Prelude.{◌≡◌, ◌≤◌, ◌+◌, ◌∷◌, ◌++◌, ◌⊎◌, ℕ, List, [], None, Some, false, true, map, IfErr, IfOk, IsErrOf, IsOk, MatchResult};
 ghost use Rattle.afs_disk.specs.Words.{CallsAtMost, LeavesOnlyBy, SameFaults, SetAs, TellsOn};
 ghost use Rattle.afs_store.specs.Words.{IsTakenUpBy, ServedBy};
-ghost use Rattle.afs_num.specs.Nodes.{node_number, node_of};
 ghost use Rattle.afs_num.specs.declared.faults.StoreFault.TheVariants as faults;
 ghost use Rattle.afs_num.specs.declared.types.Node.TheVariants.{Loc};
 ghost use Rattle.afs_journal.specs.Log.{IsJournal};
 ghost use Rattle.afs_journal.specs.Records.{whole_records};
-ghost use Rattle.afs_model.specs.Calls.{call_seat};
 ghost use Rattle.afs_records.specs.LocDurable.{loc_boot_record, loc_can_boot};
 ghost use Rattle.afs_records.specs.LocLaws.{loc_started};
 ghost use Rattle.afs_records.specs.LocRecords.{loc_record_bytes};
@@ -18,7 +16,8 @@ ghost use Rattle.afs_store.specs.Rereading.{IsAttached, IsRefused};
 ghost use Rattle.afs_store.specs.Stores.{IsEarly, IsKept, LeftAround, Stands};
 ghost use Rattle.afs_locstore.specs.Kept.{AreOfNodes};
 ghost use Rattle.afs_locstore.specs.LocFold.{loc_fold};
-ghost use Rattle.afs_locdb.specs.Seen.{loc_seen, or_loc, seat_kept, seats_after, CanFollow, SameBut, Serves};
+ghost use Rattle.afs_locdb.specs.Seen.{loc_seen, SameBut, Serves};
+ghost use Rattle.afs_saving.specs.Kept.{seat_kept};
 
 use crate::database::LocDb;
 use afs_disk::Disk;
@@ -28,43 +27,14 @@ use afs_locstore::held::{Held, LocStore, Part};
 use afs_locstore::kept::KeptReplies;
 use afs_num::faults::StoreFault;
 use afs_num::records::Mark;
-use afs_num::types::{Key, Mem, Node};
-use afs_server_parts::callers::{Callers, restore};
+use afs_num::types::{Mem, Node};
+use afs_saving::restoring::keep_found;
+use afs_server_parts::callers::Callers;
 use afs_store::Store;
 use std::alloc::Global;
 
 /// Nodes have the numbers below this one.
 const NODE_NUMBERS: u32 = 205;
-
-/// A caller that has no seat yet gets one, with the kept reply to its call.
-fn keep_again(alloc: Global, callers: &mut Callers, key: Key, reply: &[u8]) -> Mem<()>
-    requires node { IsSome (node_of (node_number key.node)) }
-    requires fresh { call_seat (or_loc (node_of (node_number key.node))) callers.old.seats ≡ None }
-    ensures seats { OnOk result (callers.new.seats ≡ callers.old.seats ++ seat_kept (node_number key.node, record { epoch = key.epoch; number = key.number; reply = reply.now }) ∷ []) }
-    ensures boot { callers.new.boot ≡ callers.old.boot }
-{
-    let Some(node) = Node::from_number(key.node.number()) else {
-        unreachable!()
-    };
-    callers.reserve(1)?;
-    restore(alloc, callers, Key { node, ..key }, reply)?;
-    Ok(())
-}
-
-/// The caller of this kept reply gets its seat, if there is one.
-fn keep_found(alloc: Global, callers: &mut Callers, kept: Option<(Key, &[u8])>) -> Mem<()>
-    requires { CanFollow callers.old.seats kept }
-    ensures seats { OnOk result (callers.new.seats ≡ seats_after callers.old.seats kept.entry) }
-    ensures boot { callers.new.boot ≡ callers.old.boot }
-{
-    match kept {
-        Some((key, reply)) => {
-            keep_again(alloc, callers, key, reply)?;
-            Ok(())
-        }
-        None => Ok(()),
-    }
-}
 
 /// The callers to whom replies are kept, each with that, in this boot.
 fn callers_kept(alloc: Global, kept: &KeptReplies, boot: u32) -> Mem<Callers>

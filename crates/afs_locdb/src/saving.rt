@@ -24,7 +24,6 @@ ghost use Rattle.afs_server_parts.specs.declared.faults.NodeFault.TheVariants as
 use crate::answering::{reply_to, sent};
 use crate::changes::LocChange;
 use crate::database::LocDb;
-use crate::forms::are_words;
 use crate::operations::NO_ROOM;
 use afs_disk::Disk;
 use afs_history::lines::Outs;
@@ -37,6 +36,7 @@ use afs_num::sequences::Octets;
 use afs_num::types::{Head, Mem};
 use afs_server_parts::faults::NodeFault;
 use afs_server_parts::replies::key;
+use afs_server_parts::words::are_words;
 use std::alloc::{AllocError, Global};
 
 /// A record can't keep a longer reply.

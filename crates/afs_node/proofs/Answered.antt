@@ -20,7 +20,6 @@ use Rattle.afs_volrows.specs.VolSteps as volumes
 use Rattle.afs_volstore.specs.Stores.{Store}
 use Rattle.afs_server_parts.specs.declared.faults.NodeFault.{NodeFault}
 use Rattle.afs_server.specs.Handling.{calls_served, decided_then, holds_seen, record_decided, record_then, server_seen, Handles, ServesOver}
-use Rattle.afs_server.specs.Putting.{calls_for}
 use Rattle.afs_server.specs.Seen.{callbacks_of, Memory}
 use Rattle.afs_volserv.specs.Handling.{vol_calls_served, vol_decided_then, vol_record, vol_turned_then}
 use Rattle.afs_volserv.specs.Seen.{durable_seen, vol_seen, CanRelease, HasRoom, VolMemory}
@@ -31,6 +30,7 @@ use Rattle.afs_node.proofs.Serving.{file_serves}
 use Rattle.afs_node.proofs.Sides.{file_decided, is_files, is_volumes, IsFiles, IsVolumes}
 use Rattle.afs_node.proofs.Stepped.{steps_as}
 use Rattle.afs_node.proofs.Whose.{of_client, of_other}
+use Rattle.afs_saving.specs.Saving.{calls_for}
 
 -- ---- of a result
 
@@ -48,7 +48,7 @@ can_release {D} m s room = omega (arith, room.0)
 
 -- ---- the device calls of a record
 
-pub file_record_calls : (d : Durable) (s : ServerState) (boot clock : ℕ) (x : Decision) → device_calls s clock x ≡ calls_for d (record_decided boot clock x)
+pub file_record_calls : (d : Durable) (s : ServerState) (boot clock : ℕ) (x : Decision) → device_calls s clock x ≡ calls_for (record_decided boot clock x)
 file_record_calls d s boot clock drops = refl
 file_record_calls d s boot clock (tells_boot head) = refl
 file_record_calls d s boot clock (repeats reply) = refl
@@ -56,7 +56,7 @@ file_record_calls d s boot clock (refuses head code) = refl
 file_record_calls d s boot clock (shows head r) = refl
 file_record_calls d s boot clock (saves head c) = refl
 
-volume_record_calls : (d e : Durable) (x : VolDecision) → vol_device_calls e x ≡ calls_for d (vol_record x)
+volume_record_calls : (d e : Durable) (x : VolDecision) → vol_device_calls e x ≡ calls_for (vol_record x)
 volume_record_calls d e volumes.drops = refl
 volume_record_calls d e (volumes.tells_boot head) = refl
 volume_record_calls d e (volumes.repeats reply) = refl
@@ -64,7 +64,7 @@ volume_record_calls d e (volumes.replies_to head reply ts last) = refl
 volume_record_calls d e (volumes.dispatches head x) = refl
 volume_record_calls d e (volumes.saves head x) = refl
 
-pub volume_called : {D T E : Type 0} (w : Ghosts D) (d e : Durable) (x : VolDecision) (old new : D) (result : Result T E) → OnOk result (w.calls new ≡ w.calls old + vol_device_calls e x) → OnOk result (w.calls new ≡ w.calls old + calls_for d (vol_record x))
+pub volume_called : {D T E : Type 0} (w : Ghosts D) (d e : Durable) (x : VolDecision) (old new : D) (result : Result T E) → OnOk result (w.calls new ≡ w.calls old + vol_device_calls e x) → OnOk result (w.calls new ≡ w.calls old + calls_for (vol_record x))
 volume_called {D} {T} {E} w d e x old new (Ok y) calls = calls ∙ ap (λ (k : ℕ). w.calls old + k) (volume_record_calls d e x)
 volume_called {D} {T} {E} w d e x old new (Err f) calls = tt
 

@@ -1,6 +1,6 @@
 -- A step of a server node before which room was made, and behind which replies went out.
 use Rattle.std.specs.Prelude.{◌≡◌, ◌≤◌, ◌+◌, ◌++◌, ℕ, List, length, map, true, Option, None, Some, Ok, Err}
-use Rattle.std.proofs.Common.{refl, ap, sym, subst, ◌∙◌}
+use Rattle.std.proofs.Common.{⊎_elim, inl, inr, refl, ap, sym, subst, ◌∙◌}
 use Rattle.afs_num.specs.declared.records.StoreRecord.{StoreRecord}
 use Rattle.afs_num.specs.declared.types.Parcel.{Parcel}
 use Rattle.afs_disk.specs.declared.disk.Disk.{Ghosts}
@@ -15,14 +15,15 @@ use Rattle.afs_volrows.specs.VolStates.{NodeState}
 use Rattle.afs_volstore.specs.Stores.{Store}
 use Rattle.afs_server_parts.specs.declared.faults.NodeFault.{NodeFault}
 use Rattle.afs_server_parts.specs.declared.faults.NodeFault.TheVariants as faults
-use Rattle.afs_server.specs.Handling.{IsDone, IsQuiet}
-use Rattle.afs_server.specs.Putting.{OnDisk}
-use Rattle.afs_server.proofs.Still.{is_same}
+use Rattle.afs_saving.proofs.Still.{is_same, prepared_still}
 use Rattle.afs_node.specs.Handling.{let_out, HandlesNode, LeavesNode, StepsBy, TookNode}
 use Rattle.afs_node.specs.Seen.{node_seen, ClosesStored, SameNode, SameStored, ServesNode}
 use Rattle.afs_node.specs.declared.node.ServerNode.{ServerNode}
 use Rattle.afs_node.proofs.Serving.{vol_held}
 use Rattle.afs_node.proofs.Taken.{made_out, IsLetOut}
+use Rattle.afs_volstore.specs.VolumeFold.{volume_fold}
+use Rattle.afs_sharing.specs.Stores.{IsDone, OnDisk, LeavesPrepared}
+use Rattle.afs_saving.specs.Saving.{IsQuiet}
 
 -- the node and its store with room for a step
 pub record HasReadied {D : Type 0} (m n : ServerNode) (s t : Store D) : Type 0 where
@@ -43,7 +44,7 @@ module _ {D : Type 0} (m n : ServerNode) (s t : Store D) (ready : HasReadied m n
   ready_stored u same = record { is = same.is ∙ ap (λ (x : Store D). record x { disk = u.disk; prepared = u.prepared; holds = u.holds }) ready.store; holds = same.holds ∙ ready.holds }
 
   ready_closes : (u : Store D) → ClosesStored t u → ClosesStored s u
-  ready_closes u closes = closes ∙ ap (λ (x : Store D). record x { disk = u.disk; prepared = None; closed = true; holds = u.holds }) ready.store
+  ready_closes u closes = record { is = closes.is ∙ ap (λ (x : Store D). record x { disk = u.disk; prepared = None; closed = true; holds = u.holds }) ready.store; holds = closes.holds ∙ ready.holds }
 
   -- ---- what came of the step
 
@@ -77,6 +78,20 @@ module _ {D : Type 0} (m n : ServerNode) (s t : Store D) (ready : HasReadied m n
           (subst (λ (x : ServerNode). o.file.lists.last_owed + length o.file.lists.promises ≤ x.file.lists.last_owed + length x.file.lists.promises + 50) ready.node leaves.draws.owed);
     };
   }
+
+  -- ---- what it leaves prepared, whatever else its result tells
+
+  prepared_same : t.prepared ≡ s.prepared
+  prepared_same = ap (λ (x : Store D). x.prepared) ready.store
+
+  prepared_from : (decided : Option StoreRecord) (u : Store D) (outs : Outs) (behind : List Parcel) → LeavesPrepared {T = Outs} decided t u (Ok outs) → LeavesPrepared {T = Outs × List Parcel} decided s u (Ok (outs, behind))
+  prepared_from None u outs behind left = left ∙ prepared_same
+  prepared_from (Some r) u outs behind left = left
+
+  prepared_then : (decided : Option StoreRecord) (u : Store D) (fault : NodeFault) → LeavesPrepared {T = Outs} decided t u (Err fault) → LeavesPrepared {T = Outs × List Parcel} decided s u (Err fault)
+  prepared_then None u fault left = left ∙ prepared_same
+  prepared_then (Some r) u faults.OutOfMemory left = ⊎_elim (λ same. inl (same ∙ prepared_same)) (λ own. inr own) left
+  prepared_then (Some r) u faults.Down left = left
 
   -- ---- what it did to the disk, whatever else its result tells
 
@@ -147,17 +162,27 @@ module _ {D : Type 0} (m n : ServerNode) (s t : Store D) (ready : HasReadied m n
         down = λ e. absurd cc;
         interrupted = λ e. absurd cc;
         effects = λ r written ls. effects_from r ls (steps.effects r written ls);
+        prepared = prepared_from decided u outs behind steps.prepared;
         called = subst (λ (x : Store D). w.calls u.disk ≡ w.calls x.disk + calls) ready.store steps.called;
         disk = disk_from outs behind steps.disk;
       }
 
       pub err_steps : (fault : NodeFault) → StepsBy {T = Outs} w decided next calls n o t u (Err fault) → StepsBy {T = Outs × List Parcel} w decided next calls m o s u (Err fault)
-      err_steps faults.OutOfMemory steps = record { leaves = tt; down = λ e. absurd cc; interrupted = λ e. absurd cc; effects = λ r written. absurd written; called = tt; disk = disk_wants steps.disk }
+      err_steps faults.OutOfMemory steps = record {
+        leaves = tt;
+        down = λ e. absurd cc;
+        interrupted = λ e. absurd cc;
+        effects = λ r written. absurd written;
+        prepared = prepared_then decided u faults.OutOfMemory steps.prepared;
+        called = tt;
+        disk = disk_wants steps.disk;
+      }
       err_steps faults.Down steps = record {
         leaves = tt;
         down = λ e. steps.down refl;
         interrupted = λ e r is x takes. steps.interrupted refl r is x (ap (λ (y : Store D). folded r y.durable) ready.store ∙ takes);
         effects = λ r written ls. effects_from r ls (steps.effects r written ls);
+        prepared = prepared_then decided u faults.Down steps.prepared;
         called = tt;
         disk = disk_down steps.disk;
       }
@@ -169,6 +194,7 @@ module _ {D : Type 0} (m n : ServerNode) (s t : Store D) (ready : HasReadied m n
     down = λ e. absurd cc;
     interrupted = λ e. absurd cc;
     effects = λ r written. absurd written;
+    prepared = prepared_still {T = Outs × List Parcel} decided s.prepared t.prepared (Err faults.OutOfMemory) tt prepared_same;
     called = tt;
-    disk = is_same w decided s.durable s.disk t.disk (Err faults.OutOfMemory) tt (ap (λ (u : Store D). u.disk) ready.store);
+    disk = is_same volume_fold w decided s.durable s.disk t.disk (Err faults.OutOfMemory) tt (ap (λ (u : Store D). u.disk) ready.store);
   }

@@ -20,7 +20,7 @@ use Rattle.afs_callbacks.specs.States.{backs_at, CallbackState}
 use Rattle.afs_volstore.specs.Stores.{Store}
 use Rattle.afs_server_parts.specs.declared.faults.NodeFault.{NodeFault}
 use Rattle.afs_server_parts.specs.declared.faults.NodeFault.TheVariants as faults
-use Rattle.afs_server.specs.Handling.{holds_seen, server_seen, Handles, IsClosed, IsDone, SameStore}
+use Rattle.afs_server.specs.Handling.{holds_seen, server_seen, Handles}
 use Rattle.afs_server.specs.Seen.{callbacks_of, Memory}
 use Rattle.afs_volserv.specs.Handling.{DrawsFew as VolumeDraws, HandlesVolumes, MakesVolumes, StaysInOrder}
 use Rattle.afs_volserv.specs.Seen.{vol_seen, VolMemory}
@@ -28,6 +28,7 @@ use Rattle.afs_node.specs.Handling.{vol_resting, LeavesNode, StepsBy, TookNode}
 use Rattle.afs_node.specs.Seen.{node_seen, ClosesStored, SameStored, ServesNode}
 use Rattle.afs_node.specs.declared.node.ServerNode.{ServerNode}
 use Rattle.afs_node.proofs.Serving.{volume_serves, with_callbacks}
+use Rattle.afs_sharing.specs.Stores.{IsClosed, IsDone, SameStore}
 
 -- ---- a store of which nothing was done
 
@@ -37,7 +38,9 @@ same_stored {D} s t same =
     record { is = same ∙ ap (λ h. record s { disk = t.disk; prepared = t.prepared; holds = h }) (sym holds); holds = ap (λ h. h.table) holds }
 
 pub closes_stored : {D : Type 0} (s t : Store D) → IsClosed s t → ClosesStored s t
-closes_stored {D} s t closed = closed ∙ ap (λ h. record s { disk = t.disk; prepared = None; closed = true; holds = h }) (sym (ap (λ (u : Store D). u.holds) closed))
+closes_stored {D} s t closed =
+    let holds = ap (λ (u : Store D). u.holds) closed in
+    record { is = closed ∙ ap (λ h. record s { disk = t.disk; prepared = None; closed = true; holds = h }) (sym holds); holds = ap (λ h. h.table) holds }
 
 -- ---- the file server's step
 

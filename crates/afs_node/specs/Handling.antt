@@ -27,12 +27,14 @@ use Rattle.afs_volrows.specs.VolSteps.{from_of, is_of_client, is_waiting, node_b
 use Rattle.afs_volstore.specs.Stores.{Store}
 use Rattle.afs_server_parts.specs.declared.faults.NodeFault.{NodeFault}
 use Rattle.afs_server_parts.specs.declared.faults.NodeFault.TheVariants as faults
-use Rattle.afs_server.specs.Handling.{record_decided, IsDone, IsWritten}
-use Rattle.afs_server.specs.Putting.{OnDisk}
-use Rattle.afs_server.specs.Seen.{begun_step, lasting_of}
+use Rattle.afs_server.specs.Handling.{record_decided}
+use Rattle.afs_server.specs.Seen.{begun_step}
 use Rattle.afs_volserv.specs.Handling.{turn_behind, vol_record}
 use Rattle.afs_node.specs.Seen.{node_found, node_seen, ClosesStored, SameNode, SameStored, ServesNode}
 use Rattle.afs_node.specs.declared.node.ServerNode.{ServerNode}
+use Rattle.afs_sharing.specs.Stores.{IsDone, OnDisk, LeavesPrepared}
+use Rattle.afs_saving.specs.Saving.{IsWritten}
+use Rattle.afs_sharing.specs.Lasting.{lasting_of}
 
 -- ---- its record
 
@@ -117,13 +119,15 @@ pub record LeavesNode {D : Type 0} (decided : Option StoreRecord) (old new : Ser
   pub done : IsDone decided s t
   pub draws : DrawsFew 50 old new s t
 
--- A step with this record, or none, and so many device calls, behind which a restart begins so where the record is whole on the disk. Whatever came
--- of it: what it leaves; what a restart finds behind it, where its disk ended it, and tells of it; and its device calls.
+-- A step with this record, or none, and so many device calls, behind which a restart begins so where the record is whole on the disk. Where it was
+-- made: what it leaves. And whatever came of it: what a restart finds behind it, where its disk ended it, and tells of it; which record is left
+-- prepared; and its device calls.
 pub record StepsBy {D T : Type 0} (w : Ghosts D) (decided : Option StoreRecord) (next : Begun ServerState) (calls : ℕ) (old new : ServerNode) (s t : Store D) (result : Result T NodeFault) : Type 0 where
   pub leaves : OnOk result (LeavesNode decided old new s t)
   pub down : IsErrOf result faults.Down → decided ≡ None → ⊥
   pub interrupted : IsErrOf result faults.Down → (r : StoreRecord) → decided ≡ Some r → (e : Durable) → folded r s.durable ≡ Some e → lasting_of e ≡ next.state.lasting
   pub effects : (r : StoreRecord) → IsWritten r decided result → (ls : List Line) → next.before ls ≡ map in_words (effect_of s.node r s.durable) ++ ls
+  pub prepared : LeavesPrepared decided s t result
   pub called : OnOk result (w.calls t.disk ≡ w.calls s.disk + calls)
   pub disk : OnDisk w decided s.durable s.disk t.disk result
 

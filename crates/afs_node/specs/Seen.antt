@@ -34,9 +34,10 @@ pub record SameStored {D : Type 0} (s t : Store D) : Type 0 where
   pub is : t ≡ record s { disk = t.disk; prepared = t.prepared; holds = t.holds }
   pub holds : t.holds.table ≡ s.holds.table
 
--- its device call failed, and it is closed until its disk is attached anew
-abbrev pub ClosesStored : {D : Type 0} → Store D → Store D → Type 0
-ClosesStored {D} s t = t ≡ record s { disk = t.disk; prepared = None; closed = true; holds = t.holds }
+-- its device call failed, and it is closed until its disk is attached anew; the volumes that it holds are the same
+pub record ClosesStored {D : Type 0} (s t : Store D) : Type 0 where
+  pub is : t ≡ record s { disk = t.disk; prepared = None; closed = true; holds = t.holds }
+  pub holds : t.holds.table ≡ s.holds.table
 
 -- ---- whose message it is: a client's is the file server's, as its header tells; so are bytes that have none
 
@@ -55,7 +56,7 @@ found_by false bytes = received_by vol_calls_served bytes
 abbrev pub node_found : List ℕ → Received
 node_found bytes = found_by (sent_by_client bytes) bytes
 
--- ---- the node's own calls: its file server's are to clients, its volume server's to servers
+-- ---- the node's own calls: those of its file server, which by its row are to clients, and those of its volume server, which are to servers
 
 abbrev pub file_waits : ServerNode → Node → Bool
 file_waits m callee = is_some (call_to m.file.callees callee)

@@ -106,9 +106,10 @@ impl ServerNode {
     }
 
     /// What the node does with one message, at this time in ticks. It isn't told the message's place in the run, and leaves out the line of
-    /// that. A step makes at most one record. Behind what it gives out go the messages beside that: replies of the volume server that waited
-    /// for breaks. Where memory is wanting the node is as before. One that goes down is to be thrown away: its disk keeps what it kept before
-    /// the step, or what it keeps after it.
+    /// that. A step makes at most one record. The messages beside what it gives out go behind that: replies of the volume server that waited
+    /// for breaks. Together they are those of the row. Where memory is wanting the node is as before, but that more room was made, and that
+    /// the step's record may be left prepared. One that goes down is to be thrown away: its disk keeps what it kept before the step, or what
+    /// it keeps after it.
     pub fn handle<D: Disk>(
         &mut self,
         store: &mut VolStore<D>,

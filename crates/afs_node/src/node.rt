@@ -3,10 +3,11 @@
 ghost use Rattle.std.specs.Prelude.{◌≡◌, ◌≤◌, ◌+◌, [], length, IfOk, OnErr};
 ghost use Rattle.afs_num.specs.Nodes.{IsNode};
 ghost use Rattle.afs_volrows.specs.VolStates.{fresh_vol};
-ghost use Rattle.afs_server.specs.Seen.{first_memory, lasting_of};
+ghost use Rattle.afs_server.specs.Seen.{first_memory};
 ghost use Rattle.afs_volserv.specs.Seen.{vol_seen, ServesVolumes};
 ghost use Rattle.afs_node.specs.Handling.{node_begun_step, MakesNode};
 ghost use Rattle.afs_node.specs.Seen.{ServesNode};
+ghost use Rattle.afs_sharing.specs.Lasting.{lasting_of};
 
 use afs_disk::Disk;
 use afs_history::lines::Outs;

@@ -9,3 +9,4 @@ pub mod Fitting
 pub mod Worked
 pub mod LocSpelled
 pub mod LocGrows
+pub mod Callers

@@ -139,7 +139,7 @@ added me l v b head x calls known =
     next_at me l.boot (Server x.server) _ (dumps_of (calls (Server x.server)) ++ sending_of head x ∷ []) (call_or_none (calls (Server x.server))) (put_here (Server x.server) (dumps_of (calls (Server x.server)) ++ sending_of head x ∷ []) (sendings_in calls)) refl
     ∙ added_by me l (in_progress head v) b (Server x.server) (sending_of head x) calls known (calls (Server x.server)) refl
 
--- ---- calls are to nodes of the cell
+-- ---- calls are to servers of the cell
 
 to_at : (b : Bool) (n m : Node) (o p : Option Piece) → (b ≡ true → n ≡ m) → IsToOrNone n o → IsToOrNone m p → IsToOrNone m (cond b o p)
 to_at true n m o p q here there = subst (λ (k : Node). IsToOrNone k o) (q refl) here

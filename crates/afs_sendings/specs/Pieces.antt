@@ -1,8 +1,9 @@
 -- What a step of a volume server does with its own calls to other servers, which carry pieces of dumps.
-use Rattle.std.specs.Prelude.{ℕ, ℤ, ◌+◌, List, [], ◌∷◌, ◌++◌, Bool, not, ◌||◌, Option, Some, None}
+use Rattle.std.specs.Prelude.{◌≡◌, ℕ, ℤ, ◌+◌, List, [], ◌∷◌, ◌++◌, Bool, true, false, not, ◌||◌, Option, Some, None}
 use Rattle.afs_num.specs.Nodes.{IsNode}
 use Rattle.afs_num.specs.declared.messages.Message.{Message}
 use Rattle.afs_num.specs.declared.types.Node.{Node}
+use Rattle.afs_num.specs.declared.types.Node.TheVariants.{Server}
 use Rattle.afs_ideal.specs.Operations.{is_number}
 use Rattle.afs_rows.specs.Callbacks.{put_at}
 use Rattle.afs_rows.specs.States.{Unanswered}
@@ -89,11 +90,19 @@ retries me boot n c x w = record w {
 abbrev pub ends_with : ℤ → Sending → Bool
 ends_with code x = not (is_number code 0) || sent_whole x
 
--- ---- calls are to nodes of the cell
+-- ---- calls are to servers of the cell
+
+abbrev pub is_server : Node → Bool
+is_server (Server i) = true
+is_server n = false
+
+pub record IsServerNode (n : Node) : Type 0 where
+  pub node : IsNode n
+  pub server : is_server n ≡ true
 
 abbrev pub IsToOrNone : Node → Option Piece → Type 0
 IsToOrNone n None = Unit {0}
-IsToOrNone n (Some c) = IsNode n
+IsToOrNone n (Some c) = IsServerNode n
 
 abbrev pub AreTo : (Node → Option Piece) → Type 0
 AreTo calls = (n : Node) → IsToOrNone n (calls n)

@@ -6,7 +6,7 @@ ghost use Rattle.afs_num.specs.Nodes.{IsNode};
 ghost use Rattle.afs_rows.specs.Callbacks.{put_at};
 ghost use Rattle.afs_server_parts.specs.Called.{call_to, known_to};
 ghost use Rattle.afs_volrows.specs.VolSteps.{moved_on, sent_whole};
-ghost use Rattle.afs_sendings.specs.Pieces.{adds, ends, renews, retries, sends, starts, way_of, AreTo, Piece};
+ghost use Rattle.afs_sendings.specs.Pieces.{adds, ends, renews, retries, sends, starts, way_of, AreTo, IsServerNode, Piece};
 ghost use Rattle.afs_sendings.specs.Sendings.{first_of, rest_of};
 
 use crate::sendings::{PieceCall, PieceCallee, Queue, Sending};
@@ -66,7 +66,7 @@ impl Pieces {
         queue: Queue,
     ) -> Mem<()>
         requires stands { IsNode stand.node }
-        requires callee { IsNode node }
+        requires callee { IsServerNode node }
         requires first { first_of queue ≡ Some first.now }
         ensures way { OnOk result (way_of self.new ≡ starts stand.node stand.boot node queue (way_of self.old)) }
         ensures to { OnOk result (AreTo (call_to self.old.callees.items) → AreTo (call_to self.new.callees.items)) }
@@ -89,7 +89,7 @@ impl Pieces {
     /// These dumps go to the server, or there is nothing to send.
     fn start(&mut self, alloc: Global, stand: Stand, node: Node, queue: Queue) -> Mem<()>
         requires stands { IsNode stand.node }
-        requires callee { IsNode node }
+        requires callee { IsServerNode node }
         ensures way { OnOk result (way_of self.new ≡ starts stand.node stand.boot node queue (way_of self.old)) }
         ensures to { OnOk result (AreTo (call_to self.old.callees.items) → AreTo (call_to self.new.callees.items)) }
         ensures drawn { OnOk result (self.old.last ≤ self.new.last) }
@@ -104,7 +104,7 @@ impl Pieces {
     /// One more dump goes to the server.
     pub fn add(&mut self, alloc: Global, stand: Stand, node: Node, sending: Sending) -> Mem<()>
         requires stands { IsNode stand.node }
-        requires callee { IsNode node }
+        requires callee { IsServerNode node }
         ensures way { OnOk result (way_of self.new ≡ adds stand.node stand.boot node sending (way_of self.old)) }
         ensures to { OnOk result (AreTo (call_to self.old.callees.items) → AreTo (call_to self.new.callees.items)) }
         ensures drawn { OnOk result (self.old.last ≤ self.new.last) }
@@ -146,7 +146,7 @@ impl Pieces {
         reply: SpelledMessage,
     ) -> Mem<()>
         requires stands { IsNode stand.node }
-        requires callee { IsNode node }
+        requires callee { IsServerNode node }
         ensures way { OnOk result (way_of self.new ≡ ends stand.node stand.boot node rest reply (way_of self.old)) }
         ensures to { OnOk result (AreTo (call_to self.old.callees.items) → AreTo (call_to self.new.callees.items)) }
         ensures drawn { OnOk result (self.old.last ≤ self.new.last) }
@@ -166,7 +166,7 @@ impl Pieces {
         first: &Sending,
     ) -> Mem<()>
         requires stands { IsNode stand.node }
-        requires callee { IsNode node }
+        requires callee { IsServerNode node }
         requires whole { sent_whole first.now ≡ false }
         requires first { first_of call.now.content ≡ Some first.now }
         ensures way { OnOk result (way_of self.new ≡ starts stand.node stand.boot node (moved_on first.now ∷ rest_of call.now.content) (way_of self.old)) }
@@ -189,7 +189,7 @@ impl Pieces {
         first: &Sending,
     ) -> Mem<()>
         requires stands { IsNode stand.node }
-        requires callee { IsNode node }
+        requires callee { IsServerNode node }
         ensures way { OnOk result (way_of self.new ≡ renews stand.node stand.boot node known call.now first.now (way_of self.old)) }
         ensures to { OnOk result (AreTo (call_to self.old.callees.items) → AreTo (call_to self.new.callees.items)) }
         ensures drawn { OnOk result (self.old.last ≤ self.new.last) }
@@ -211,7 +211,7 @@ impl Pieces {
         first: &Sending,
     ) -> Mem<()>
         requires stands { IsNode stand.node }
-        requires callee { IsNode node }
+        requires callee { IsServerNode node }
         requires tries { tries ≡ call.now.tries + 1 }
         ensures way { OnOk result (way_of self.new ≡ retries stand.node stand.boot node call.now first.now (way_of self.old)) }
         ensures to { OnOk result (AreTo (call_to self.old.callees.items) → AreTo (call_to self.new.callees.items)) }

@@ -15,9 +15,9 @@ use Rattle.afs_model.proofs.Spellings.{read_spelled}
 use Rattle.afs_records.specs.Durable.{Durable, Kept}
 use Rattle.afs_rows.specs.States.{kept_by_number, kept_of, reply_bytes, Seat}
 use Rattle.afs_server.specs.Again.{AreReplied, KeptAgain, KeptAreSpelled}
-use Rattle.afs_server.specs.Seen.{or_loc, seat_kept, AreToNodes, IsToNode}
-use Rattle.afs_server.proofs.Kept.{caller_number}
 use Rattle.afs_message.specs.Spelled.{message_in, reply_in}
+use Rattle.afs_saving.specs.Kept.{or_loc, seat_kept, AreToNodes, IsToNode}
+use Rattle.afs_saving.proofs.Kept.{caller_number}
 
 whole_in : (r : Received) (m : Message) → message_in r ≡ Some m → r ≡ Whole m
 whole_in (Whole n) m e = let same : n ≡ m = cc in ap Whole same

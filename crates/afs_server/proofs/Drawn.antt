@@ -1,6 +1,6 @@
 -- What a step draws, as the node and its store show it.
 use Rattle.std.proofs.Common.{◌≡◌, ◌≤◌, ◌+◌, ℕ, zero, suc, Bool, true, false, cond, List, [], ◌∷◌, length, refl, sym, ap, subst, ◌∙◌, arith}
-use Rattle.std.specs.Prelude.{filter, nat_lt}
+use Rattle.std.specs.Prelude.{nat_lt}
 use Rattle.std.specs.List.{All}
 use Rattle.afs_num.specs.declared.types.Node.{Node}
 use Rattle.afs_num.specs.declared.types.Node.TheVariants.{Client}
@@ -8,7 +8,6 @@ use Rattle.afs_history.specs.declared.lines.Line.{Line}
 use Rattle.afs_history.specs.declared.lines.Outs.{Outs}
 use Rattle.afs_breaks.specs.Promises.{expired, no_lists, owes_all, Lists}
 use Rattle.afs_breaks.specs.declared.types.OwedBreak.{OwedBreak}
-use Rattle.afs_breaks.specs.declared.types.Promise.{Promise}
 use Rattle.afs_rows.specs.Callbacks as row
 use Rattle.afs_rows.specs.Callbacks.{ends_all, owed_to_clients, timed}
 use Rattle.afs_rows.specs.ServerSteps.{stepped}
@@ -21,6 +20,7 @@ use Rattle.afs_server.specs.Seen.{Memory}
 use Rattle.afs_callbacks.proofs.Drawing.{pumped_draws, pumped_lists}
 use Rattle.afs_callbacks.proofs.Lasting.{ended_promises, lasting_to_nodes, timed_to_nodes}
 use Rattle.afs_callbacks.proofs.Timed.{timed_last, timed_lists}
+use Rattle.afs_sharing.proofs.Drawn.{breaks_drawn, expired_draws}
 
 -- the lists after a step
 pub lists_after : {D : Type 0} (me : Node) (state : ServerState) (ls before : List Line) (t : row.Turn) (m : Memory) (s : Store D) (outs : Outs) → Makes (stepped me state ls t) before m s outs → m.lists ≡ t.backs.lists
@@ -36,22 +36,7 @@ drawn_after {D} me state ls before t m s outs made to =
 
 -- ---- the numbers of breaks, with the promises that may become breaks
 
-abbrev pub breaks_drawn : Lists → ℕ
-breaks_drawn l = l.last_owed + length l.promises
-
-kept_by : {A : Type 0} (b : Bool) (x : A) (xs ys : List A) → length ys ≤ length xs → length (cond b (x ∷ ys) ys) ≤ length (x ∷ xs)
-kept_by {A} true x xs ys le = omega (arith, le)
-kept_by {A} false x xs ys le = omega (arith, le)
-
-pub filter_shorter : {A : Type 0} (p : A → Bool) (xs : List A) → length (filter p xs) ≤ length xs
-filter_shorter {A} p [] = omega arith
-filter_shorter {A} p (x ∷ xs) = kept_by (p x) x xs (filter p xs) (filter_shorter p xs)
-
--- promises that lapse draw none
-pub expired_draws : (now : ℕ) (l : Lists) → breaks_drawn (expired now l) ≤ breaks_drawn l
-expired_draws now l = let less = filter_shorter (λ (p : Promise). nat_lt now p.expiry) l.promises in omega (arith, less)
-
--- nor do breaks that end
+-- breaks that end draw none
 ended_last : (bs : List OwedBreak) (l : Lists) → (ends_all bs l).last_owed ≡ l.last_owed
 ended_last [] l = refl
 ended_last (b ∷ bs) l = ended_last bs _

@@ -1,27 +1,24 @@
 -- What a disk keeps with the record of a change is what the row leaves on it.
-use Rattle.std.proofs.Common.{◌+◌, ◌≡◌, ℕ, Bool, true, false, List, [], ◌∷◌, map, Option, Some, refl, sym, ap, subst, ◌∙◌}
-use Rattle.std.specs.Prelude.{nat_eq, nat_lt}
-use Rattle.afs_num.specs.Nodes.{node_number, node_of, same_node, IsNode}
+use Rattle.std.proofs.Common.{◌+◌, ◌≡◌, ℕ, List, Option, Some, refl, sym, ap, subst, ◌∙◌}
+use Rattle.afs_num.specs.Nodes.{node_number, IsNode}
 use Rattle.afs_num.specs.declared.calls.FsReply.{FsReply}
 use Rattle.afs_num.specs.declared.messages.Message.{Message}
 use Rattle.afs_num.specs.declared.records.RecordBody.TheVariants as bodies
 use Rattle.afs_num.specs.declared.types.Head.{Head}
-use Rattle.afs_num.specs.declared.types.Node.{Node}
 use Rattle.afs_num.specs.declared.volumes.Change as made
-use Rattle.afs_ideal.specs.Tables.{get, set, Table}
+use Rattle.afs_ideal.specs.Tables.{get, set}
 use Rattle.afs_records.specs.Changes.{keeping}
 use Rattle.afs_records.specs.Durable as disk
 use Rattle.afs_records.specs.Durable.{changed_stored, place_length, placing, with_journal, Durable, Stored}
 use Rattle.afs_fold.specs.Fold.{folded}
-use Rattle.afs_rows.specs.ServerRow.{carried_by, change_reply_to, key_of, lasting_after, promise_ticks, record_of, replied, seat_for, seat_placed, stored_by, Change}
-use Rattle.afs_rows.specs.States.{Seat}
+use Rattle.afs_rows.specs.ServerRow.{carried_by, change_reply_to, key_of, lasting_after, promise_ticks, record_of, replied, seat_for, stored_by, Change}
 use Rattle.afs_message.specs.Spelled.{message_in, Spells}
 use Rattle.afs_decisions.specs.Deciding.{IsMade}
 use Rattle.afs_callbacks.specs.Answering.{reply_told}
 use Rattle.afs_callbacks.specs.Saving.{change_kept}
-use Rattle.afs_server.specs.Seen.{lasting_of, or_loc, seat_kept, AreToNodes, IsToNode}
-use Rattle.afs_server.proofs.Kept.{caller_number}
-use Rattle.afs_server.proofs.Repeating.{number_by}
+use Rattle.afs_sharing.specs.Lasting.{lasting_of}
+use Rattle.afs_saving.specs.Kept.{or_loc, seat_kept, AreToNodes}
+use Rattle.afs_saving.proofs.Seats.{seats_set}
 
 abbrev some : {A : Type 0} → A → Option A
 some x = Some x
@@ -55,30 +52,8 @@ folds head id x bytes before st d there made = rw there (rw made refl)
 
 -- ---- kept replies
 
-placed_by : (a b : Bool) (n : Node) (k : disk.Kept) (seat : Seat) (p : ℕ × disk.Kept) (t : Table disk.Kept) → nat_eq p.0 (node_number n) ≡ a → same_node (or_loc (node_of p.0)) seat.caller ≡ a → nat_lt (node_number n) p.0 ≡ b → nat_lt (node_number seat.caller) (node_number (or_loc (node_of p.0))) ≡ b
-    → seat_kept (node_number n, k) ≡ seat → map seat_kept (set (node_number n) k t) ≡ seat_placed seat (map seat_kept t) → map seat_kept (set (node_number n) k (p ∷ t)) ≡ seat_placed seat (map seat_kept (p ∷ t))
-placed_by true b n k seat p t e f g h is more = rw (e, f) (ap (λ (s : Seat). s ∷ map seat_kept t) is)
-placed_by false true n k seat p t e f g h is more = rw (e, f, g, h) (ap (λ (s : Seat). s ∷ seat_kept p ∷ map seat_kept t) is)
-placed_by false false n k seat p t e f g h is more = rw (e, f, g, h) (ap (λ (ss : List Seat). seat_kept p ∷ ss) more)
-
-pub seats_set : (n : Node) (k : disk.Kept) (seat : Seat) (t : Table disk.Kept) → IsNode n → seat.caller ≡ n → seat_kept (node_number n, k) ≡ seat → AreToNodes t → map seat_kept (set (node_number n) k t) ≡ seat_placed seat (map seat_kept t)
-seats_set n k seat [] node own is are = ap (λ (s : Seat). s ∷ []) is
-seats_set n k seat (p ∷ t) node own is are =
-    placed_by (same_node (or_loc (node_of p.0)) n) (nat_lt (node_number n) p.0) n k seat p t (number_by (same_node (or_loc (node_of p.0)) n) p n are.0 node refl) (ap (same_node (or_loc (node_of p.0))) own) refl
-    (ap (λ (m : Node). nat_lt (node_number m) (node_number (or_loc (node_of p.0)))) own ∙ ap (nat_lt (node_number n)) (caller_number p are.0)) is (seats_set n k seat t node own is are.1)
-
 seat_is : (head : Head) (m : Message) (bytes : List ℕ) → IsNode head.from → Spells m bytes → seat_kept (node_number head.from, kept_reply head bytes) ≡ seat_for head m
 seat_is head m bytes node spells = λ i. record { caller = ap or_loc node i; epoch = head.epoch; number = head.number; reply = ap message_in spells.read i }
-
-to_nodes_by : (a b : Bool) (n : Node) (k : disk.Kept) (p : ℕ × disk.Kept) (t : Table disk.Kept) → nat_eq p.0 (node_number n) ≡ a → nat_lt (node_number n) p.0 ≡ b → IsToNode (node_number n, k) → IsToNode p → AreToNodes t → AreToNodes (set (node_number n) k t) → AreToNodes (set (node_number n) k (p ∷ t))
-to_nodes_by true b n k p t e f is first are more = rw e (is, are)
-to_nodes_by false true n k p t e f is first are more = rw (e, f) (is, (first, are))
-to_nodes_by false false n k p t e f is first are more = rw (e, f) (first, more)
-
-pub set_to_nodes : (n : Node) (k : disk.Kept) (t : Table disk.Kept) → IsNode n → AreToNodes t → AreToNodes (set (node_number n) k t)
-set_to_nodes n k [] node are = (record { caller = n; numbered = node }, tt)
-set_to_nodes n k (p ∷ t) node are =
-    to_nodes_by (nat_eq p.0 (node_number n)) (nat_lt (node_number n) p.0) n k p t refl refl (record { caller = n; numbered = node }) are.0 are.1 (set_to_nodes n k t node are.1)
 
 -- ---- what the row leaves
 

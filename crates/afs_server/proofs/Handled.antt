@@ -22,8 +22,9 @@ use Rattle.afs_rows.specs.Callbacks as row
 use Rattle.afs_rows.specs.Callbacks.{fids_found, gives_up_all, grants_found, held_under, is_back_awaited, is_seat_of, key_answered, no_turn, renews_by, settles_by, turn_for, turned_by, turned_in, withdraws_all}
 use Rattle.afs_rows.specs.ServerRow.{drops, granted_in, granted_new, made, promise_ticks, refuses, repeats, result, saves, shows, tells_boot, Decision}
 use Rattle.afs_rows.specs.States.{BackCall, Backs, ServerState}
-use Rattle.afs_server.proofs.Drawn.{breaks_drawn, ended_draws, filter_shorter}
+use Rattle.afs_server.proofs.Drawn.{ended_draws}
 use Rattle.afs_callbacks.proofs.Turned.{repeated_backs}
+use Rattle.afs_sharing.proofs.Drawn.{breaks_drawn, filter_shorter}
 
 -- ---- the lists of promises, with the breaks that they may become
 

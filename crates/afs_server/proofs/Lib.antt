@@ -4,14 +4,11 @@ pub mod Effects
 pub mod Folded
 pub mod Handled
 pub mod Heard
-pub mod Kept
 pub mod Making
 pub mod Placed
-pub mod Repeating
 pub mod Saved
 pub mod Roomed
 pub mod Saves
-pub mod Still
 pub mod Taken
 pub mod Wholly
 pub mod HeldCodes

@@ -17,9 +17,11 @@ use Rattle.afs_server_parts.specs.Turning.{IsBreakToNode}
 use Rattle.afs_server_parts.specs.declared.ending.Ended.{Ended}
 use Rattle.afs_server_parts.specs.declared.turns.Stand.{Stand}
 use Rattle.afs_volstore.specs.Stores.{Store}
-use Rattle.afs_server.specs.Handling.{server_seen, stand_of, Makes}
-use Rattle.afs_server.specs.Seen.{backs_seen, callbacks_of, lasting_of, KeepsForNodes, Memory, Serves}
+use Rattle.afs_server.specs.Handling.{server_seen, Makes}
+use Rattle.afs_server.specs.Seen.{backs_seen, callbacks_of, Memory, Serves}
 use Rattle.afs_callbacks.specs.States.{CallbackState, IsPromiseToNode, IsToNodes}
+use Rattle.afs_sharing.specs.Stores.{stand_of}
+use Rattle.afs_sharing.specs.Lasting.{lasting_of, KeepsForNodes}
 
 -- what is in memory after a step
 pub record Leaves {D : Type 0} (old : ServerState) (e : Ended) (m : Memory) (s : Store D) : Type 0 where

@@ -12,28 +12,32 @@ use Rattle.afs_rows.specs.Callbacks as row
 use Rattle.afs_rows.specs.ServerRow.{refusal, roomed, Change}
 use Rattle.afs_volstore.specs.Stores.{Store}
 use Rattle.afs_decisions.specs.Deciding.{IsMade}
-use Rattle.afs_server.specs.Handling.{stand_of, record_decided, server_seen, Answers}
-use Rattle.afs_server.specs.Putting.{IsStill, Prepares}
+use Rattle.afs_server.specs.Handling.{record_decided, server_seen, Answers}
 use Rattle.afs_callbacks.specs.Saving.{IsPlanned}
 use Rattle.afs_server.specs.Seen.{callbacks_of, Memory}
 use Rattle.afs_server_parts.specs.declared.faults.NodeFault.{NodeFault}
 use Rattle.afs_server_parts.specs.declared.faults.NodeFault.TheVariants as nodes
 use Rattle.afs_callbacks.specs.declared.saving.Planned.{Planned}
 use Rattle.afs_server.proofs.Saves.{refused_record, saved_record}
-use Rattle.afs_server.proofs.Still.{behind, is_still, Counts, OfDisk, Same}
+use Rattle.afs_saving.proofs.Still.{behind, is_still}
 use Rattle.afs_server_parts.specs.Turning.{answer_turn}
+use Rattle.afs_volstore.specs.VolumeFold.{volume_fold}
+use Rattle.afs_disk.specs.Words.{SameDiskBy}
+use Rattle.afs_journal.specs.Words.{SameCountsBy}
+use Rattle.afs_sharing.specs.Stores.{stand_of, OnDisk, Prepares}
+use Rattle.afs_saving.specs.Saving.{IsStill}
 
 module _ {D : Type 0} (w : Ghosts D) where
   abbrev Of : Option StoreRecord → Durable → D → D → Result Outs NodeFault → Type 0
-  Of decided d old new result = OfDisk w decided d old new result
+  Of decided d old new result = OnDisk w decided d old new result
 
   abbrev SameD : D → D → Type 0
-  SameD old new = Same w old new
+  SameD old new = SameDiskBy w old new
 
   abbrev CountsD : D → D → Type 0
-  CountsD old new = Counts w old new
+  CountsD old new = SameCountsBy w old new
 
-  none_written : (result : Result Outs NodeFault) → (IsErrOf result nodes.Down → ⊥) → IsStill None result
+  none_written : (result : Result Outs NodeFault) → (IsErrOf result nodes.Down → ⊥) → IsStill {R = StoreRecord} None result
   none_written (Ok outs) up = refl
   none_written (Err nodes.OutOfMemory) up = tt
   none_written (Err nodes.Down) up = absurd (up refl)
@@ -41,7 +45,7 @@ module _ {D : Type 0} (w : Ghosts D) where
   still_as : (d : Durable) (old mid new : D) (result : Result Outs NodeFault) → SameD old mid → CountsD old mid → new ≡ mid → (IsErrOf result nodes.Down → ⊥) → Of None d old new result
   still_as d old mid new result same counts is up =
       subst (λ (u : D). Of None d old u result) (sym is)
-      (is_still w None d old mid result (none_written result up) same counts)
+      (is_still volume_fold w None d old mid result (none_written result up) same counts)
 
   module _ (clock id : ℕ) (head : Head) (c : Change) (x : made_of.Change) (old new : Memory) (s mid t : Store D) (p : Planned) where
     abbrev Refused : Result Outs NodeFault → Type 0
@@ -56,7 +60,7 @@ module _ {D : Type 0} (w : Ghosts D) where
         Of (record_decided s.durable.boot clock (roomed (server_seen old s) clock head c)) s.durable s.disk t.disk result
     disk_all result true room prepares same counts is plan written answers up =
         subst (λ (o : Option StoreRecord). Of o s.durable s.disk t.disk result) (sym (saved_record clock id head c x old new s mid t p true is plan room refl))
-        (behind w (Some p.rec) s.durable s.disk mid.disk t.disk result same counts
+        (behind volume_fold w (Some p.rec) s.durable s.disk mid.disk t.disk result same counts
         (subst (λ (d : Durable). Of (Some p.rec) d mid.disk t.disk result) (ap (λ (u : Store D). u.durable) prepares) (written refl)))
     disk_all result false room prepares same counts is plan written answers up =
         subst (λ (o : Option StoreRecord). Of o s.durable s.disk t.disk result) (sym (refused_record clock id head c x old new s mid t p false is plan room refl))

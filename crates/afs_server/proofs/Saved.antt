@@ -33,19 +33,23 @@ use Rattle.afs_server_parts.specs.declared.telling.Grant.{Grant}
 use Rattle.afs_volstore.specs.Stores.{Store}
 use Rattle.afs_callbacks.specs.Answering.{reply_told, with_lists}
 use Rattle.afs_decisions.specs.Deciding.{IsMade}
-use Rattle.afs_server.specs.Handling.{server_seen, stand_of, Makes}
+use Rattle.afs_server.specs.Handling.{server_seen, Makes}
 use Rattle.afs_server.specs.Putting.{IsMadeOf, TellsAgain}
 use Rattle.afs_callbacks.specs.Saving.{breaks_new, change_kept, change_lines, fids_changed, new_grants, withdraws_each, IsPlanned}
 use Rattle.afs_server.specs.Saving.{IsPut, IsTaken}
-use Rattle.afs_server.specs.Seen.{backs_seen, callbacks_of, lasting_of, AreToNodes, Memory, Serves}
+use Rattle.afs_server.specs.Seen.{backs_seen, callbacks_of, Memory, Serves}
 use Rattle.afs_callbacks.specs.States.{IsPromiseToNode}
 use Rattle.afs_callbacks.specs.declared.saving.Planned.{Planned}
 use Rattle.afs_server.proofs.Effects.{told_again}
-use Rattle.afs_server.proofs.Folded.{durable_saved, folds, lasting_left, record_is, reply_is, set_to_nodes}
+use Rattle.afs_server.proofs.Folded.{durable_saved, folds, lasting_left, record_is, reply_is}
 use Rattle.afs_callbacks.proofs.Granting.{granted_to_nodes, lines_granted}
 use Rattle.afs_callbacks.proofs.Lasting.{lasting_promised}
 use Rattle.afs_server.proofs.Making.{makes_stepped, Leaves}
 use Rattle.afs_callbacks.proofs.Withdrawn.{change_grants, granted_fids, granted_first, left_to_nodes, new_owes_are, withdrawn_owed, withdraws_are}
+use Rattle.afs_sharing.specs.Stores.{stand_of}
+use Rattle.afs_sharing.specs.Lasting.{lasting_of}
+use Rattle.afs_saving.specs.Kept.{AreToNodes}
+use Rattle.afs_saving.proofs.Seats.{set_to_nodes}
 
 some_is : {A : Type 0} (x y : A) → ◌≡◌ {A = Option A} (Some x) (Some y) → x ≡ y
 some_is x y e = cc
@@ -171,6 +175,7 @@ module _ {D : Type 0} (clock id : ℕ) (head : Head) (c : Change) (x : made_of.C
             let count = sym (ap (λ (u : Store D). u.count) put.store) in
             let drawn = sym (ap (λ (u : Store D). u.drawn) put.store) in
             put.store ∙ (λ i. record s { durable = t.durable; disk = t.disk; prepared = prepared i; count = count i; drawn = drawn i });
+        prepared = ap (λ (u : Store D). u.prepared) put.store;
         effects = effects_as there is plan;
         done = (ap (λ (r : StoreRecord). folded r s.durable) (record_is s.durable.boot clock id head c x p.kept is (spells_reply is plan)) ∙ folds_as plan put, ap (λ (u : Store D). u.count) put.store);
         few = tt;

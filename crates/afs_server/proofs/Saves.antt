@@ -1,5 +1,5 @@
 -- A change whose record is prepared, or for which there is no room, is done as the row does it.
-use Rattle.std.proofs.Common.{◌≡◌, ◌≤◌, ◌+◌, ℕ, Bool, true, false, List, [], Option, Some, None, refl, sym, ap, subst, ◌∙◌}
+use Rattle.std.proofs.Common.{◌≡◌, ◌≤◌, ◌+◌, ℕ, Bool, true, false, List, [], Option, Some, None, inr, refl, sym, ap, subst, ◌∙◌}
 use Rattle.std.specs.Prelude.{Result, Ok, Err, pos, IsErrOf, IsSome}
 use Rattle.afs_num.specs.Nodes.{IsNode}
 use Rattle.afs_num.specs.declared.messages.Message.{Message}
@@ -18,19 +18,22 @@ use Rattle.afs_callbacks.specs.States.{CallbackState}
 use Rattle.afs_message.specs.Spelled.{Spells}
 use Rattle.afs_volstore.specs.Stores.{Store}
 use Rattle.afs_decisions.specs.Deciding.{IsMade}
-use Rattle.afs_server.specs.Handling.{stand_of, record_decided, server_seen, Answers, IsClosed, SameStore}
-use Rattle.afs_server.specs.Putting.{DoesAll, IsMadeOf, Prepares}
+use Rattle.afs_server.specs.Handling.{record_decided, server_seen, Answers}
+use Rattle.afs_server.specs.Putting.{DoesAll, IsMadeOf}
 use Rattle.afs_server_parts.specs.declared.turns.Stand.{Stand}
 use Rattle.afs_server_parts.specs.Turning.{answer_turn}
 use Rattle.afs_callbacks.specs.Saving.{change_kept, IsPlanned}
 use Rattle.afs_server.specs.Saving.{IsPut, Puts}
-use Rattle.afs_server.specs.Seen.{callbacks_of, lasting_of, Memory, Serves}
+use Rattle.afs_server.specs.Seen.{callbacks_of, Memory, Serves}
 use Rattle.afs_server_parts.specs.declared.faults.NodeFault.{NodeFault}
 use Rattle.afs_server_parts.specs.declared.faults.NodeFault.TheVariants as faults
 use Rattle.afs_callbacks.specs.declared.saving.Planned.{Planned}
 use Rattle.afs_server.proofs.Making.{as_planned}
 use Rattle.afs_server.proofs.Folded.{folds, lasting_left, record_is, reply_is}
 use Rattle.afs_server.proofs.Saved.{effects_as, saved_made}
+use Rattle.afs_sharing.specs.Stores.{stand_of, IsClosed, SameStore, Prepares}
+use Rattle.afs_sharing.specs.Lasting.{lasting_of}
+use Rattle.afs_saving.proofs.Still.{prepared_still}
 
 -- ---- what was planned, by what the store told
 
@@ -58,8 +61,10 @@ pub same_store : {D : Type 0} (s t : Store D) → t ≡ record s { disk = t.disk
 same_store {D} s t is = is ∙ (λ i. record s { disk = t.disk; prepared = sym (ap (λ (u : Store D). u.prepared) is) i })
 
 -- memory was wanting
-pub wanting : {D : Type 0} (clock : ℕ) (d : Decision) (turn : row.Turn) (old : Memory) (s t : Store D) (result : Result Outs NodeFault) → result ≡ Err faults.OutOfMemory → SameStore s t → DoesAll clock d turn old old s t result
-wanting {D} clock d turn old s t result is same = subst (λ (r : Result Outs NodeFault). DoesAll clock d turn old old s t r) (sym is) (refl, same)
+pub wanting : {D : Type 0} (clock : ℕ) (d : Decision) (turn : row.Turn) (old : Memory) (s t : Store D) (result : Result Outs NodeFault) → result ≡ Err faults.OutOfMemory → t ≡ record s { disk = t.disk } → DoesAll clock d turn old old s t result
+wanting {D} clock d turn old s t result is same =
+    let prepared = prepared_still {T = Outs} (record_decided s.durable.boot clock d) s.prepared t.prepared (Err faults.OutOfMemory) tt (ap (λ (u : Store D). u.prepared) same) in
+    subst (λ (r : Result Outs NodeFault). DoesAll clock d turn old old s t r) (sym is) (refl, (same_store s t same, prepared))
 
 module _ {D : Type 0} (clock id : ℕ) (head : Head) (c : Change) (x : made_of.Change) (old : Memory) (s : Store D) (p : Planned) where
   the_record : IsMade clock id c x → IsPlanned (stand_of s) clock head id x (callbacks_of old) p → record_of s.durable.boot head clock c ≡ p.rec
@@ -113,6 +118,10 @@ module _ {D : Type 0} (clock id : ℕ) (head : Head) (c : Change) (x : made_of.C
       subst (λ (u : Store D). u ≡ record s { disk = u.disk; prepared = u.prepared }) (sym is)
       (prepared ∙ (λ i. record s { disk = mid.disk; prepared = sym (ap (λ (u : Store D). u.prepared) prepared) i }))
 
+  own_left : mid ≡ record s { prepared = Some p.rec; disk = mid.disk } → IsMade clock id c x → IsPlanned (stand_of s) clock head id x (callbacks_of old) p → t ≡ mid → t.prepared ≡ Some (record_of s.durable.boot head clock c)
+  own_left prepared is plan same =
+      ap (λ (u : Store D). u.prepared) same ∙ (ap (λ (u : Store D). u.prepared) prepared ∙ ap (λ (r : StoreRecord). Some r) (sym (the_record clock id head c x old s p is plan)))
+
   left_as : get id s.durable.volumes ≡ Some c.before → IsMade clock id c x → IsNode head.from → Serves s.node old s.durable → IsPlanned (stand_of s) clock head id x (callbacks_of old) p →
       (r : StoreRecord) → ◌≡◌ {A = Option StoreRecord} (Some (record_of s.durable.boot head clock c)) (Some r) → (e : Durable) → folded r s.durable ≡ Some e →
       lasting_of e ≡ (begun_after s.node (server_seen old s) clock (saves head c)).state.lasting
@@ -124,7 +133,7 @@ module _ {D : Type 0} (clock id : ℕ) (head : Head) (c : Change) (x : made_of.C
   saved_by : (result : Result Outs NodeFault) → mid ≡ record s { prepared = Some p.rec; disk = mid.disk } → get id s.durable.volumes ≡ Some c.before → clock ≤ 1000000000 → IsMade clock id c x → IsNode head.from → Serves s.node old s.durable →
       IsPlanned (stand_of s) clock head id x (callbacks_of old) p → Puts head clock p old new mid t result → DoesAll clock (saves head c) (turn_for s.node (server_seen old s) clock (row.expired clock (server_seen old s).backs) (saves head c)) old new s t result
   saved_by (Ok outs) prepared there small is node serves plan puts = saved_made clock id head c x old new s t p outs there small is node serves plan puts.0 (put_from prepared puts.1.0) puts.1.1
-  saved_by (Err faults.OutOfMemory) prepared there small is node serves plan puts = (puts.0, same_from prepared puts.1)
+  saved_by (Err faults.OutOfMemory) prepared there small is node serves plan puts = (puts.0, (same_from prepared puts.1, inr (own_left prepared is plan puts.1)))
   saved_by (Err faults.Down) prepared there small is node serves plan puts = record {
     closed = closed_from prepared puts;
     some = λ none. absurd cc;
@@ -158,6 +167,7 @@ module _ {D : Type 0} (clock id : ℕ) (head : Head) (c : Change) (x : made_of.C
         serves = is.1.0;
         store = same ∙ (λ i. record s { durable = sym durable i; disk = sym disk i; prepared = sym prepared i; count = sym count i; drawn = t.drawn });
         done = (durable, count);
+        prepared = prepared;
         effects = λ r recorded. absurd cc;
         few = tt;
       }
@@ -181,7 +191,10 @@ module _ {D : Type 0} (clock id : ℕ) (head : Head) (c : Change) (x : made_of.C
       (IsErrOf result faults.Down → ⊥) →
       DoesAll clock (roomed (server_seen old s) clock head c) (turn_for s.node (server_seen old s) clock (row.expired clock (server_seen old s).backs) (roomed (server_seen old s) clock head c)) old new s t result
   refused_any (Ok outs) b room lacks full is plan answers up = refused_all outs b room lacks full is plan answers
-  refused_any (Err faults.OutOfMemory) b room lacks full is plan answers up = (answers.0, same_full full answers.1)
+  refused_any (Err faults.OutOfMemory) b room lacks full is plan answers up =
+      let decided = record_decided s.durable.boot clock (roomed (server_seen old s) clock head c) in
+      let same : t.prepared ≡ s.prepared = ap (λ (u : Store D). u.prepared) answers.1 ∙ ap (λ (u : Store D). u.prepared) full in
+      (answers.0, (same_full full answers.1, prepared_still {T = Outs} decided s.prepared t.prepared (Err faults.OutOfMemory) tt same))
   refused_any (Err faults.Down) b room lacks full is plan answers up = absurd (up refl)
 
   -- ---- either way

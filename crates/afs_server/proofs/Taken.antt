@@ -6,12 +6,12 @@ use Rattle.afs_num.specs.declared.records.StoreRecord.{StoreRecord}
 use Rattle.afs_ideal.specs.Tables.{Table}
 use Rattle.afs_records.specs.Durable.{Durable}
 use Rattle.afs_volstore.specs.Stores.{Store}
-use Rattle.afs_server.specs.Handling.{SameStore, record_decided, Does}
-use Rattle.afs_server.specs.Putting.{DoesAll, OnDisk, IsFew, Took}
+use Rattle.afs_server.specs.Handling.{record_decided, Does}
+use Rattle.afs_server.specs.Putting.{DoesAll, IsFew, Took}
 use Rattle.afs_server.specs.Seen.{Memory}
 use Rattle.afs_server_parts.specs.declared.faults.NodeFault.{NodeFault}
 use Rattle.afs_server_parts.specs.declared.faults.NodeFault.TheVariants as faults
-use Rattle.afs_server.proofs.Still.{is_same}
+use Rattle.afs_saving.proofs.Still.{is_same, prepared_still}
 use Rattle.afs_server.proofs.Wholly.{made_none}
 use Rattle.afs_num.specs.declared.messages.Call.{Call}
 use Rattle.afs_num.specs.declared.messages.Call.TheVariants as ask
@@ -28,6 +28,8 @@ use Rattle.afs_rows.specs.ServerRow.{whole, Decision}
 use Rattle.afs_volrows.specs.FileRow.{file_called, file_decides, file_hears}
 use Rattle.afs_rows.specs.States.{Backs, ServerState}
 use Rattle.afs_disk.specs.declared.disk.Disk.{Ghosts}
+use Rattle.afs_volstore.specs.VolumeFold.{volume_fold}
+use Rattle.afs_sharing.specs.Stores.{SameStore, OnDisk}
 
 module _ (P : Decision → row.Turn → Type 0) (me : Node) (holds : Table ℕ) (s : ServerState) (clock : ℕ) (b : Backs) where
   pub in_received : (r x : Received) → r ≡ x → P (file_decides me holds s clock x) (turned_in me s clock b (file_decides me holds s clock x) x) → P (file_decides me holds s clock r) (turned_in me s clock b (file_decides me holds s clock r) r)
@@ -57,10 +59,12 @@ same_store : {D : Type 0} (s t : Store D) → t ≡ s → SameStore s t
 same_store {D} s t e = subst (λ (u : Store D). SameStore s u) (sym e) refl
 
 wants_all : {D : Type 0} (clock : ℕ) (d : Decision) (turn : row.Turn) (old new : Memory) (s t : Store D) (result : Result Outs NodeFault) → result ≡ Err faults.OutOfMemory → (new ≡ old) × (t ≡ s) → DoesAll clock d turn old new s t result
-wants_all {D} clock d turn old new s t result e same = subst (λ (r : Result Outs NodeFault). DoesAll clock d turn old new s t r) (sym e) (same.0, same_store s t same.1)
+wants_all {D} clock d turn old new s t result e same =
+    let prepared = prepared_still {T = Outs} (record_decided s.durable.boot clock d) s.prepared t.prepared (Err faults.OutOfMemory) tt (ap (λ (u : Store D). u.prepared) same.1) in
+    subst (λ (r : Result Outs NodeFault). DoesAll clock d turn old new s t r) (sym e) (same.0, (same_store s t same.1, prepared))
 
 wants_disk : {D : Type 0} (w : Ghosts D) (decided : Option StoreRecord) (d : Durable) (old new : D) (result : Result Outs NodeFault) → result ≡ Err faults.OutOfMemory → new ≡ old → OnDisk w decided d old new result
-wants_disk {D} w decided d old new result e same = subst (λ (r : Result Outs NodeFault). OnDisk w decided d old new r) (sym e) (is_same w decided d old new (Err faults.OutOfMemory) tt same)
+wants_disk {D} w decided d old new result e same = subst (λ (r : Result Outs NodeFault). OnDisk w decided d old new r) (sym e) (is_same volume_fold w decided d old new (Err faults.OutOfMemory) tt same)
 
 pub wants_took : {D : Type 0} (w : Ghosts D) (clock : ℕ) (d : Decision) (turn : row.Turn) (old new : Memory) (s t : Store D) (result : Result Outs NodeFault) → result ≡ Err faults.OutOfMemory → (new ≡ old) × (t ≡ s) → Took w clock d turn old new s t result
 wants_took {D} w clock d turn old new s t result e same = record {
@@ -74,5 +78,5 @@ pub made_took : {D : Type 0} (w : Ghosts D) (clock : ℕ) (d : Decision) (turn :
     Took w clock d turn old new s t (Ok outs)
 made_took {D} w clock d turn old new s t outs none few does = record {
   does = made_none clock d turn old new s t outs none few does;
-  disk = is_same w (record_decided s.durable.boot clock d) s.durable s.disk t.disk (Ok outs) none (ap (λ (u : Store D). u.disk) does.1.1);
+  disk = is_same volume_fold w (record_decided s.durable.boot clock d) s.durable s.disk t.disk (Ok outs) none (ap (λ (u : Store D). u.disk) does.1.1);
 }

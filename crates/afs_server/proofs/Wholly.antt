@@ -25,16 +25,21 @@ use Rattle.afs_server_parts.specs.Telling.{grants_seen}
 use Rattle.afs_server_parts.specs.declared.telling.Grant.{Grant}
 use Rattle.afs_volstore.specs.Stores.{Store}
 use Rattle.afs_decisions.specs.Deciding.{leaves_disk, Decides, FitsDecided, IsReading, LeavesDisk}
-use Rattle.afs_server.specs.Handling.{holds_seen, lines_behind, record_decided, server_seen, Does, Handles, IsDone, IsWritten, Makes}
-use Rattle.afs_server.specs.Putting.{calls_for, DoesAll, IsFew, IsInterrupted, IsMadeOf, IsStill, IsToldAgain}
-use Rattle.afs_server.specs.Seen.{backs_seen, lasting_of, Memory, Serves}
+use Rattle.afs_server.specs.Handling.{holds_seen, lines_behind, record_decided, server_seen, Does, Handles, Makes}
+use Rattle.afs_server.specs.Putting.{DoesAll, IsFew, IsInterrupted, IsMadeOf, IsToldAgain}
+use Rattle.afs_server.specs.Seen.{backs_seen, Memory, Serves}
 use Rattle.afs_decisions.specs.declared.decided.Decided.{Decided}
 use Rattle.afs_decisions.specs.declared.decided.Decided.TheVariants as decided
 use Rattle.afs_server_parts.specs.declared.faults.NodeFault.{NodeFault}
 use Rattle.afs_server_parts.specs.declared.faults.NodeFault.TheVariants as faults
-use Rattle.afs_server.proofs.Drawn.{breaks_drawn, drawn_after, expired_draws, lists_after}
+use Rattle.afs_server.proofs.Drawn.{drawn_after, lists_after}
 use Rattle.afs_server.proofs.Handled.{in_draws, GrantsFew}
 use Rattle.afs_server.proofs.Placed.{given_at}
+use Rattle.afs_sharing.specs.Stores.{IsDone, LeavesPrepared}
+use Rattle.afs_saving.specs.Saving.{IsWritten, calls_for, IsStill}
+use Rattle.afs_sharing.specs.Lasting.{lasting_of}
+use Rattle.afs_sharing.proofs.Drawn.{breaks_drawn, expired_draws}
+use Rattle.afs_saving.proofs.Still.{none_prepared, prepared_still}
 
 -- ---- decisions without a record
 
@@ -87,6 +92,7 @@ module _ {D : Type 0} (clock : ℕ) (d : Decision) (turn : row.Turn) (old new : 
         serves = does.1.0;
         store = is ∙ (λ i. record s { durable = sym durable i; disk = sym disk i; prepared = sym prepared i; count = sym count i; drawn = t.drawn });
         done = subst (λ (r : Option StoreRecord). IsDone r s t) (sym none) (durable, count);
+        prepared = prepared_still {T = Outs} (record_decided s.durable.boot clock d) s.prepared t.prepared (Ok outs) none prepared;
         effects = λ r recorded. absurd (let z : ◌≡◌ {A = Option StoreRecord} None (Some r) = sym none ∙ recorded in cc);
         few = few;
       }
@@ -96,7 +102,7 @@ module _ {D : Type 0} (clock : ℕ) (d : Decision) (turn : row.Turn) (old new : 
 pub handles_at : {D : Type 0} (clock place : ℕ) (d : Decision) (turn : row.Turn) (old new : Memory) (s t : Store D) (result : Result Outs NodeFault) → DoesAll clock d turn old new s t result →
     Handles (done s.node (server_seen old s) clock place d turn) (lines.Given place ∷ []) old new s t result
 handles_at {D} clock place d turn old new s t (Ok outs) is = given_at s.node (server_seen old s) clock place d turn new t outs is.makes
-handles_at {D} clock place d turn old new s t (Err faults.OutOfMemory) is = is
+handles_at {D} clock place d turn old new s t (Err faults.OutOfMemory) is = (is.0, is.1.0)
 handles_at {D} clock place d turn old new s t (Err faults.Down) is = is.closed
 
 pub step_at : {D : Type 0} (clock place : ℕ) (m : Received) (old new : Memory) (s t : Store D) (result : Result Outs NodeFault) →
@@ -119,6 +125,11 @@ pub done_after : {D : Type 0} (clock : ℕ) (d : Decision) (turn : row.Turn) (ol
 done_after {D} clock d turn old new s t (Ok outs) is = is.done
 done_after {D} clock d turn old new s t (Err fault) is = tt
 
+pub prepared_after : {D : Type 0} (clock : ℕ) (d : Decision) (turn : row.Turn) (old new : Memory) (s t : Store D) (result : Result Outs NodeFault) → DoesAll clock d turn old new s t result → LeavesPrepared (record_decided s.durable.boot clock d) s t result
+prepared_after {D} clock d turn old new s t (Ok outs) is = is.prepared
+prepared_after {D} clock d turn old new s t (Err faults.OutOfMemory) is = is.1.1
+prepared_after {D} clock d turn old new s t (Err faults.Down) is = none_prepared {T = Outs} (record_decided s.durable.boot clock d) s.prepared t.prepared (Err faults.Down) refl is.some (ap (λ (u : Store D). u.prepared) is.closed)
+
 pub some_down : {D : Type 0} (clock : ℕ) (d : Decision) (turn : row.Turn) (old new : Memory) (s t : Store D) (result : Result Outs NodeFault) → DoesAll clock d turn old new s t result → IsErrOf result faults.Down → record_decided s.durable.boot clock d ≡ None → ⊥
 some_down {D} clock d turn old new s t (Ok outs) is down none = absurd cc
 some_down {D} clock d turn old new s t (Err faults.OutOfMemory) is down none = absurd cc
@@ -136,7 +147,7 @@ told_after {D} clock d turn old new s t (Ok outs) is r written = is.effects r wr
 told_after {D} clock d turn old new s t (Err faults.OutOfMemory) is r written = absurd written
 told_after {D} clock d turn old new s t (Err faults.Down) is r written = is.effects r written
 
-pub calls_decided : (s : ServerState) (p : Durable) (clock : ℕ) (d : Decision) → calls_for p (record_decided s.lasting.boot clock d) ≡ device_calls s clock d
+pub calls_decided : (s : ServerState) (p : Durable) (clock : ℕ) (d : Decision) → calls_for (record_decided s.lasting.boot clock d) ≡ device_calls s clock d
 calls_decided s p clock drops = refl
 calls_decided s p clock (tells_boot head) = refl
 calls_decided s p clock (repeats reply) = refl
@@ -180,6 +191,6 @@ draws_after {D} clock d m old new s t (Err fault) is = tt
 
 -- ---- the disk's calls
 
-pub called_after : {T : Type 0} (s : ServerState) (p : Durable) (clock : ℕ) (d : Decision) (result : Result T NodeFault) (before now : ℕ) → OnOk result (now ≡ before + calls_for p (record_decided s.lasting.boot clock d)) → OnOk result (now ≡ before + device_calls s clock d)
+pub called_after : {T : Type 0} (s : ServerState) (p : Durable) (clock : ℕ) (d : Decision) (result : Result T NodeFault) (before now : ℕ) → OnOk result (now ≡ before + calls_for (record_decided s.lasting.boot clock d)) → OnOk result (now ≡ before + device_calls s clock d)
 called_after {T} s p clock d (Ok x) before now is = is ∙ ap (λ (k : ℕ). before + k) (calls_decided s p clock d)
 called_after {T} s p clock d (Err fault) before now is = tt

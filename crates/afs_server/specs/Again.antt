@@ -9,8 +9,8 @@ use Rattle.afs_model.specs.Messages.{spelled}
 use Rattle.afs_model.specs.SpellingLaws.{IsBytes}
 use Rattle.afs_records.specs.Durable.{Durable, Kept}
 use Rattle.afs_rows.specs.States.{durable_of, Seat}
-use Rattle.afs_server.specs.Seen.{lasting_of, KeepsForNodes}
 use Rattle.afs_message.specs.Spelled.{reply_in}
+use Rattle.afs_sharing.specs.Lasting.{lasting_of, KeepsForNodes}
 
 -- Bytes that are read as a kept reply are its spelling. (Numbers that are no bytes can be read too, and are none's.)
 abbrev pub KeptAreSpelled : Type 0

@@ -1,29 +1,18 @@
 -- What a server keeps of its replies, and sends again.
-use Rattle.std.specs.Prelude.{◌≡◌, ℕ, List, Bool, false, ◌&&◌, Option, Some, None, nat_eq}
-use Rattle.std.specs.Borrow.{Bor}
+use Rattle.std.specs.Prelude.{◌≡◌, ℕ, List}
 use Rattle.afs_num.specs.declared.messages.Message.{Message}
 use Rattle.afs_num.specs.declared.types.Head.{Head}
-use Rattle.afs_num.specs.declared.types.Key.{Key}
 use Rattle.afs_rows.specs.Callbacks as row
 use Rattle.afs_rows.specs.Callbacks.{held_under, is_seat_of, key_answered, repeats_by}
 use Rattle.afs_rows.specs.ServerRow.{seat_for}
 use Rattle.afs_rows.specs.States.{Backs, Lasting, Seat}
-use Rattle.afs_model.specs.Calls.{call_seat, call_seated, paired, runs}
+use Rattle.afs_model.specs.Calls.{call_seat, call_seated}
 use Rattle.afs_message.specs.Spelled.{Spells}
 
 -- a kept reply is asked again
 abbrev pub repeated_turn : Message → Lasting → Backs → row.Turn
 repeated_turn reply l b = repeats_by b reply (held_under (key_answered reply) b.held) (is_seat_of reply (call_seat reply.head.to l.kept))
 
--- the pair of the call of this header is to run
-abbrev pub IsToRun : Head → List Seat → Type 0
-IsToRun head seats = paired head.epoch head.number (call_seat head.from seats) ≡ runs
-
 -- these bytes are kept as the reply to the call of this header
 abbrev pub KeepsReply : Head → List ℕ → List Seat → List Seat → Type 0
 KeepsReply head bytes old new = (m : Message) → Spells m bytes → new ≡ call_seated (seat_for head m) old
-
--- what a store keeps for a caller is the reply to the same call as that of this header
-abbrev pub is_answer_to : Head → Option (Key × Bor (List ℕ)) → Bool
-is_answer_to head None = false
-is_answer_to head (Some k) = nat_eq head.epoch k.0.epoch && nat_eq head.number k.0.number

@@ -1,15 +1,12 @@
 -- What a call of a server's node gives.
-use Rattle.std.specs.Prelude.{ℤ, false, ◌≡◌, ◌≤◌, ◌+◌, ◌⊎◌, ℕ, List, [], ◌∷◌, ◌++◌, true, Option, Some, None, Result, Ok, Err, IsErrOf, OnOk}
+use Rattle.std.specs.Prelude.{ℤ, false, ◌≡◌, ◌≤◌, ◌+◌, ℕ, List, [], ◌∷◌, ◌++◌, Option, Some, None, Result, Ok, Err}
 use Rattle.afs_history.specs.declared.lines.Line.{Line}
 use Rattle.afs_history.specs.declared.lines.Outs.{Outs}
 use Rattle.afs_server_parts.specs.declared.faults.NodeFault.{NodeFault}
 use Rattle.afs_server_parts.specs.declared.faults.NodeFault.TheVariants as faults
 use Rattle.afs_num.specs.declared.records.StoreRecord.{StoreRecord}
 use Rattle.afs_model.specs.Messages.{parcels_read, messages_spelled, received_by}
-use Rattle.afs_disk.specs.Disk.{PassesAll, Rose, Setting, Trips}
-use Rattle.afs_disk.specs.declared.disk.Disk.{Ghosts}
 use Rattle.afs_ideal.specs.Tables.{Table}
-use Rattle.afs_fold.specs.Fold.{folded}
 use Rattle.afs_volstore.specs.Stores.{Store}
 use Rattle.afs_rows.specs.Callbacks as row
 use Rattle.afs_rows.specs.Callbacks.{turn_for, turned_in}
@@ -23,9 +20,9 @@ use Rattle.afs_rows.specs.ServerSteps.{stepped}
 use Rattle.afs_rows.specs.States.{Backs, ServerState}
 use Rattle.afs_rows.specs.Steps.{Step}
 use Rattle.afs_volrows.specs.FileRow.{file_decides}
-use Rattle.afs_server_parts.specs.declared.turns.Stand.{Stand}
 use Rattle.afs_server_parts.specs.Turning.{answer_turn}
 use Rattle.afs_server.specs.Seen.{backs_seen, Memory, state_seen, Serves, CanDraw}
+use Rattle.afs_sharing.specs.Stores.{IsClosed, SameStore}
 
 -- the calls that it serves
 abbrev pub calls_served : List ℕ
@@ -37,10 +34,6 @@ server_seen {D} m s = state_seen m s.durable s.drawn
 -- which volumes the transactions of its volume server hold
 abbrev pub holds_seen : {D : Type 0} → Store D → Table ℕ
 holds_seen {D} s = s.holds.table
-
--- who makes a step over this store
-abbrev pub stand_of : {D : Type 0} → Store D → Stand
-stand_of {D} s = record { node = s.node; boot = s.durable.boot; last = s.drawn }
 
 -- the server over this store
 abbrev pub ServesOver : {D : Type 0} → Memory → Store D → Type 0
@@ -70,14 +63,6 @@ pub record Makes {D : Type 0} (step : Step ServerState) (before : List Line) (m 
   pub state : server_seen m s ≡ step.state
   pub lines : before ++ outs.lines ≡ step.lines
   pub sent : parcels_read outs.parcels ≡ messages_spelled step.sent
-
--- what a store has besides what it keeps and has drawn is the same, but for the disk and for a record that was prepared
-abbrev pub SameStore : {D : Type 0} → Store D → Store D → Type 0
-SameStore {D} s t = t ≡ record s { disk = t.disk; prepared = t.prepared }
-
--- the store's device call failed; it is closed until its disk is attached anew
-abbrev pub IsClosed : {D : Type 0} → Store D → Store D → Type 0
-IsClosed {D} s t = t ≡ record s { disk = t.disk; prepared = None; closed = true }
 
 -- The step was made; or memory was wanting, and the server and what its store keeps are as before; or the disk failed while
 -- the step's record was written, and what the server had in memory is gone.
@@ -132,31 +117,3 @@ decided_then {D} m s clock bytes = file_decides s.node (holds_seen s) (server_se
 
 abbrev pub record_then : {D : Type 0} → Memory → Store D → ℕ → List ℕ → Option StoreRecord
 record_then {D} m s clock bytes = record_decided s.durable.boot clock (decided_then m s clock bytes)
-
--- what the store keeps after a step that makes this record, or none
-abbrev pub IsDone : {D : Type 0} → Option StoreRecord → Store D → Store D → Type 0
-IsDone {D} None s t = (t.durable ≡ s.durable) × (t.count ≡ s.count)
-IsDone {D} (Some r) s t = (folded r s.durable ≡ Some t.durable) × (t.count ≡ s.count + 1)
-
--- no device call was made: the step makes no record, or memory was wanting
-abbrev pub IsQuiet : {T : Type 0} → Option StoreRecord → Result T NodeFault → Type 0
-IsQuiet {T} None result = Unit {0}
-IsQuiet {T} (Some r) (Err faults.OutOfMemory) = Unit {0}
-IsQuiet {T} (Some r) result = ⊥
-
--- the record was written, or begun
-abbrev pub IsWritten : {T : Type 0} → StoreRecord → Option StoreRecord → Result T NodeFault → Type 0
-IsWritten {T} r decided (Err faults.OutOfMemory) = ⊥
-IsWritten {T} r decided result = decided ≡ Some r
-
--- The device calls of a step, the first behind this number and the last of that one. No count of faults falls; the node goes
--- down only where one of them failed, as it was set to or by the disk itself.
-pub record Ran {T : Type 0} (setting : Setting) (first last before now own_before own_now : ℕ) (result : Result T NodeFault) : Type 0 where
-  pub never_falls : before ≤ now
-  pub own_never_falls : own_before ≤ own_now
-  pub down : IsErrOf result faults.Down → Rose before now × (Trips setting last ⊎ Rose own_before own_now)
-  pub passed : OnOk result (PassesAll setting first last)
-
--- those that come from one state of a disk to a later one
-abbrev pub RanOn : {D T : Type 0} → Ghosts D → D → D → Result T NodeFault → Type 0
-RanOn w old new result = Ran (w.setting old) (w.calls old) (w.calls new) (w.faults old) (w.faults new) (w.own_faults old) (w.own_faults new) result

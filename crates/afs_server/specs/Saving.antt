@@ -7,13 +7,14 @@ use Rattle.afs_fold.specs.Fold.{folded}
 use Rattle.afs_records.specs.Records.{FitsRecord}
 use Rattle.afs_callbacks.specs.Saving.{withdraws_each, hits_each}
 use Rattle.afs_volstore.specs.Stores.{Store}
-use Rattle.afs_server.specs.Answering.{KeepsReply, IsToRun}
-use Rattle.afs_server.specs.Handling.{IsClosed}
+use Rattle.afs_server.specs.Answering.{KeepsReply}
 use Rattle.afs_server.specs.Seen.{Memory}
 use Rattle.afs_server_parts.specs.declared.faults.NodeFault.{NodeFault}
 use Rattle.afs_server_parts.specs.declared.faults.NodeFault.TheVariants as faults
 use Rattle.afs_callbacks.specs.declared.saving.Planned.{Planned}
 use Rattle.afs_message.specs.Spelled.{IsSpelling}
+use Rattle.afs_sharing.specs.Callers.{IsToRun}
+use Rattle.afs_sharing.specs.Stores.{IsClosed}
 
 -- ---- before
 

@@ -1,75 +1,22 @@
 -- A file server in memory, and the state of its row that it stands for beside what its store keeps.
-use Rattle.std.specs.Prelude.{◌≡◌, ◌<◌, ◌+◌, ℕ, List, [], ◌∷◌, ◌++◌, map, length, Option, Some, None, IsSome}
-use Rattle.std.specs.Borrow.{Bor}
+use Rattle.std.specs.Prelude.{◌≡◌, ◌<◌, ◌+◌, ℕ, List, [], length, Option}
 use Rattle.std.specs.List.{All}
 use Rattle.std.specs.Option.{option_map}
-use Rattle.afs_num.specs.Nodes.{node_number, node_of, IsNode}
+use Rattle.afs_num.specs.Nodes.{IsNode}
 use Rattle.afs_num.specs.declared.types.Key.{Key}
 use Rattle.afs_num.specs.declared.types.Node.{Node}
-use Rattle.afs_num.specs.declared.types.Node.TheVariants.{Loc}
-use Rattle.afs_ideal.specs.Tables.{Table}
-use Rattle.afs_records.specs.Durable as disk
 use Rattle.afs_records.specs.Durable.{Durable}
 use Rattle.afs_breaks.specs.Promises.{Lists, no_lists}
 use Rattle.afs_breaks.specs.declared.types.OwedBreak.{OwedBreak}
-use Rattle.afs_model.specs.Calls.{call_seat}
 use Rattle.afs_rows.specs.Callbacks.{first_backs, risen_turn}
 use Rattle.afs_rows.specs.ServerSteps.{stepped}
 use Rattle.afs_rows.specs.Steps.{Step}
-use Rattle.afs_rows.specs.States.{BackCall, Backs, Held, Lasting, Seat, ServerState}
+use Rattle.afs_rows.specs.States.{BackCall, Backs, Held, Seat, ServerState}
 use Rattle.afs_server_parts.specs.Called.{call_to, AreGoodCalls, Callee}
-use Rattle.afs_message.specs.Spelled.{reply_in}
 use Rattle.afs_server_parts.specs.Turning.{IsBreakToNode}
 use Rattle.afs_callbacks.specs.States.{backs_at, CallbackState, IsPromiseToNode}
-
--- ---- what the disk keeps
-
-abbrev pub or_loc : Option Node → Node
-or_loc None = Loc
-or_loc (Some n) = n
-
-abbrev pub seat_kept : ℕ × disk.Kept → Seat
-seat_kept p = record { caller = or_loc (node_of p.0); epoch = p.1.epoch; number = p.1.number; reply = reply_in (Some p.1.reply) }
-
--- a kept reply's bytes as the message that is read in them
-abbrev pub lasting_of : Durable → Lasting
-lasting_of d = record {
-  boot = d.boot;
-  volumes = d.volumes;
-  stamps = d.stamps;
-  forwardings = d.forwardings;
-  kept = map seat_kept d.kept;
-  journal = d.journal;
-  capacity = d.capacity;
-}
-
--- a kept reply is one to a node of the cell
-pub record IsToNode (p : ℕ × disk.Kept) : Type 0 where
-  pub caller : Node
-  pub numbered : node_of p.0 ≡ Some caller
-
-abbrev pub AreToNodes : Table disk.Kept → Type 0
-AreToNodes [] = Unit {0}
-AreToNodes (p ∷ ps) = IsToNode p × AreToNodes ps
-
-abbrev pub KeepsForNodes : Durable → Type 0
-KeepsForNodes d = AreToNodes d.kept
-
--- ---- a caller's kept reply, by its key and its bytes, as it is found
-
-abbrev pub kept_found : Key × Bor (List ℕ) → ℕ × disk.Kept
-kept_found k = (node_number k.0.node, record { epoch = k.0.epoch; number = k.0.number; reply = k.1.now })
-
--- its caller has no seat yet
-abbrev pub CanFollow : List Seat → Option (Key × Bor (List ℕ)) → Type 0
-CanFollow seats None = Unit {0}
-CanFollow seats (Some k) = IsSome (node_of (node_number k.0.node)) × (call_seat (or_loc (node_of (node_number k.0.node))) seats ≡ None)
-
-abbrev pub seats_after : List Seat → Option (Key × Bor (List ℕ)) → List Seat
-seats_after seats None = seats
-seats_after seats (Some k) = seats ++ seat_kept (kept_found k) ∷ []
-
--- ---- the server
+use Rattle.afs_sharing.specs.Lasting.{KeepsForNodes}
+pub use Rattle.afs_sharing.specs.Lasting.{lasting_of}
 
 pub record Memory : Type 0 where
   pub boot : ℕ

@@ -2,18 +2,18 @@
 
 ghost use Rattle.std.specs.Prelude.{◌≡◌, ◌≤◌, [], false, OnErr, OnOk};
 ghost use Rattle.afs_num.specs.Nodes.{IsNode};
-ghost use Rattle.afs_model.specs.Calls.{call_seat, runs};
+ghost use Rattle.afs_model.specs.Calls.{runs};
 ghost use Rattle.afs_model.specs.Heads.{is_zero, IsSoundHead};
 ghost use Rattle.afs_breaks.specs.Promises.{expired};
-ghost use Rattle.afs_rows.specs.Callbacks.{gives_up_all, is_seat_of};
+ghost use Rattle.afs_rows.specs.Callbacks.{gives_up_all};
 ghost use Rattle.afs_rows.specs.ServerRow.{boot_told, given_up_read, read_reply_to, replied};
 ghost use Rattle.afs_message.specs.Spelled.{IsSpelling};
-ghost use Rattle.afs_server.specs.Answering.{is_answer_to, repeated_turn, KeepsReply, IsToRun};
+ghost use Rattle.afs_server.specs.Answering.{repeated_turn, KeepsReply};
 ghost use Rattle.afs_server.specs.Handling.{backs_then, Turns, AnswersNow, RefusesNow, ServesOver};
-ghost use Rattle.afs_server.specs.Seen.{lasting_of, KeepsForNodes};
 ghost use Rattle.afs_server_parts.specs.Turning.{sent_turn};
+ghost use Rattle.afs_sharing.specs.Callers.{IsToRun};
+ghost use Rattle.afs_sharing.specs.Lasting.{lasting_of};
 
-use crate::ending::stand;
 use crate::server::FileServer;
 use afs_callbacks::answering::Replied;
 use afs_disk::Disk;
@@ -23,28 +23,9 @@ use afs_num::sequences::Octets;
 use afs_num::types::{Fid, Head, Key, Mem};
 use afs_server_parts::callers::Callers;
 use afs_server_parts::replies::{key, reply};
+use afs_sharing::answering::is_last_change;
+use afs_sharing::drawing::stand;
 use afs_volstore::VolStore;
-
-/// Whether this reply, which a store keeps, is to the same call as a reply of this header.
-fn is_answer_to(head: &Head, kept: Option<(Key, &[u8])>) -> bool
-    ensures { result ≡ is_answer_to head.now kept.entry }
-{
-    match kept {
-        Some((key, _)) => head.epoch == key.epoch && head.number == key.number,
-        None => false,
-    }
-}
-
-/// Whether the reply is that to its caller's last call that changed something.
-pub fn is_last_change<D: Disk>(store: &VolStore<D>, reply: &SpelledMessage) -> bool
-    requires kept { KeepsForNodes store.now.durable }
-    requires node { IsNode reply.now.head.to }
-    ensures { result ≡ is_seat_of reply.now (call_seat reply.now.head.to (lasting_of store.now.durable).kept) }
-{
-    let head = reply.head();
-    let kept = store.kept(head.to);
-    is_answer_to(head, kept)
-}
 
 /// The reply to the call of this header, which ran, is kept. It takes no memory.
 pub fn keep_reply(callers: &mut Callers, head: &Head, reply: Octets)

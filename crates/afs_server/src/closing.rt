@@ -8,7 +8,7 @@ ghost use Rattle.afs_shelves.specs.Shelving.{stored_as};
 ghost use Rattle.afs_volrows.specs.FileRow.{closed_code, missing_code};
 ghost use Rattle.afs_server.specs.Closing.{code_with};
 ghost use Rattle.afs_server.specs.Handling.{holds_seen};
-ghost use Rattle.afs_server.specs.Seen.{lasting_of};
+ghost use Rattle.afs_sharing.specs.Lasting.{lasting_of};
 
 use afs_decisions::deciding::NO_VOLUME;
 use afs_disk::Disk;

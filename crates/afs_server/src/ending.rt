@@ -2,36 +2,13 @@
 
 ghost use Rattle.std.specs.Prelude.{◌≡◌, ◌≤◌, ◌<◌};
 ghost use Rattle.afs_breaks.specs.Promises.{expired};
-ghost use Rattle.afs_server.specs.Handling.{stand_of};
 
 use crate::server::FileServer;
 use afs_disk::Disk;
 use afs_history::lines::Outs;
 use afs_server_parts::ending::Ended;
-use afs_server_parts::turns::Stand;
+use afs_sharing::drawing::draw;
 use afs_volstore::VolStore;
-
-/// Who makes a step over this store.
-pub(crate) fn stand<D: Disk>(store: &VolStore<D>) -> Stand
-    ensures { result ≡ stand_of store.now }
-{
-    Stand {
-        node: store.node(),
-        boot: store.boot_number(),
-        last: store.last_number(),
-    }
-}
-
-/// Draws numbers of the server's own calls, up to this one.
-fn draw<D: Disk>(store: &mut VolStore<D>, last: u32)
-    requires { store.old.drawn ≤ last }
-    ensures { store.new ≡ record store.old { drawn = last } }
-{
-    let more = last - store.last_number();
-    for _ in 0..more {
-        store.next_number();
-    }
-}
 
 impl FileServer {
     /// What is left of a step in memory. It takes no memory.

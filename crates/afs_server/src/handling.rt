@@ -21,11 +21,14 @@ ghost use Rattle.afs_volrows.specs.FileRow.{file_called, file_decides, file_row}
 ghost use Rattle.afs_volstore.specs.Stores.{LeftAround};
 ghost use Rattle.afs_memory.specs.Telling.{in_words};
 ghost use Rattle.afs_decisions.specs.Deciding.{leaves_disk, CanBeTold, Decides, FitsDecided, IsUnder, Runs, CanBeDone};
-ghost use Rattle.afs_server.specs.Handling.{decided_then, record_then, backs_then, turn_then, turned_then, calls_served, holds_seen, server_seen, Handles, IsDone, IsQuiet, IsWritten, CanStep, ServesOver, RanOn};
+ghost use Rattle.afs_server.specs.Handling.{decided_then, record_then, backs_then, turn_then, turned_then, calls_served, holds_seen, server_seen, Handles, CanStep, ServesOver};
 ghost use Rattle.afs_server.specs.Hearing.{answered_turn, noticed_turn};
 ghost use Rattle.afs_server.specs.Putting.{Took};
-ghost use Rattle.afs_server.specs.Seen.{lasting_of, CanDraw};
+ghost use Rattle.afs_server.specs.Seen.{CanDraw};
 ghost use Rattle.afs_server_parts.specs.declared.faults.NodeFault.TheVariants as faults;
+ghost use Rattle.afs_sharing.specs.Stores.{IsDone, LeavesPrepared};
+ghost use Rattle.afs_saving.specs.Saving.{IsQuiet, IsWritten, Ran};
+ghost use Rattle.afs_sharing.specs.Lasting.{lasting_of};
 
 use crate::server::FileServer;
 use afs_decisions::decided::Decided;
@@ -253,6 +256,9 @@ impl FileServer {
         ensures store { OnOk result (store.new ≡ record store.old { durable = store.new.durable; disk = store.new.disk; prepared = store.new.prepared; count = store.new.count; drawn = store.new.drawn }) }
         ensures kept { OnOk result (IsDone (record_then self.old store.old now bytes.now) store.old store.new) }
 
+        // It leaves no record prepared but what was there before: one that it writes is no more, and only want of memory may leave it.
+        ensures prepared { LeavesPrepared (record_then self.old store.old now bytes.now) store.old store.new result }
+
         // A step draws few numbers: one for a node, and one for a promise that it grants.
         ensures draws { OnOk result ((store.new.drawn ≤ store.old.drawn + 204) × (self.new.lists.last_owed + length self.new.lists.promises ≤ self.old.lists.last_owed + length self.old.lists.promises + 50)) }
 
@@ -284,7 +290,7 @@ impl FileServer {
         ensures most { CallsAtMost 4 D.Disk store.old.disk store.new.disk }
         ensures limit { D.limit store.new.disk ≡ D.limit store.old.disk }
         ensures calls { OnOk result (D.calls store.new.disk ≡ D.calls store.old.disk + device_calls (server_seen self.old store.old) now (decided_then self.old store.old now bytes.now)) }
-        ensures ran { RanOn D.Disk store.old.disk store.new.disk result }
+        ensures ran { Ran D.Disk store.old.disk store.new.disk result }
         ensures setting { D.setting store.new.disk ≡ D.setting store.old.disk }
     {
         self.take_bytes(store, bytes, now)

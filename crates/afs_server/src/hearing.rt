@@ -4,12 +4,12 @@ ghost use Rattle.afs_server_parts.specs.Called.{IsGoodCall, IsGoodOrNone};
 ghost use Rattle.afs_server.specs.Handling.{backs_then, Turns, ServesOver};
 ghost use Rattle.afs_server.specs.Hearing.{answered_turn, noticed_turn, renewed_turn, settled_turn};
 
-use crate::ending::stand;
 use crate::server::FileServer;
 use afs_disk::Disk;
 use afs_history::lines::Outs;
 use afs_num::types::{Head, Mem, Node};
 use afs_server_parts::calling::BreakCall;
+use afs_sharing::drawing::stand;
 use afs_volstore::VolStore;
 
 impl FileServer {

@@ -2,7 +2,7 @@
 //! row, over the store of its disk.
 #![tactic(auto)]
 
-pub mod answering;
+mod answering;
 mod closing;
 mod deciding;
 mod doing;
@@ -12,7 +12,6 @@ mod hearing;
 pub mod laws;
 mod node;
 mod putting;
-pub mod restoring;
 mod server;
 mod several;
 mod showing;

@@ -9,8 +9,6 @@ ghost use Rattle.afs_server_parts.specs.Called.{call_to};
 ghost use Rattle.afs_server.specs.Handling.{server_seen, Handles, Makes, ServesOver};
 ghost use Rattle.afs_server.specs.Seen.{begun_step, waits_by, CanDraw, Serves};
 
-use crate::ending::stand;
-use crate::restoring::callers_kept;
 use crate::server::FileServer;
 use afs_callbacks::Callbacks;
 use afs_callbacks::restoring::{owed_to_clients, rise};
@@ -19,6 +17,8 @@ use afs_history::lines::Outs;
 use afs_num::types::{Key, Mem, Node};
 use afs_server_parts::calling::BreakCall;
 use afs_server_parts::faults::NodeFault;
+use afs_sharing::drawing::stand;
+use afs_sharing::restoring::callers_kept;
 use afs_volstore::VolStore;
 use std::alloc::Global;
 

@@ -1,7 +1,6 @@
 //! The record of a change is put on the disk, and then the change is done.
 
-ghost use Rattle.std.specs.Prelude.{◌≡◌, ◌≤◌, ◌<◌, ◌+◌, Some, false, true, length, pos, IfOk, IsErrOf, IsSome};
-ghost use Rattle.afs_num.specs.declared.records.StoreRecord as records;
+ghost use Rattle.std.specs.Prelude.{◌≡◌, ◌<◌, ◌+◌, Some, false, true, pos, IfOk, IsErrOf, IsSome};
 ghost use Rattle.afs_disk.specs.Words.{SameDiskBy};
 ghost use Rattle.afs_journal.specs.Words.{SameCountsBy};
 ghost use Rattle.afs_ideal.specs.Tables.{get};
@@ -15,14 +14,14 @@ ghost use Rattle.afs_memory.specs.Named.{IsNamed};
 ghost use Rattle.afs_decisions.specs.Deciding.{CanBeTold, IsMade};
 ghost use Rattle.afs_callbacks.specs.Saving.{CanBeWritten};
 ghost use Rattle.afs_server.specs.Handling.{turn_then, server_seen, RefusesNow, CanStep, ServesOver};
-ghost use Rattle.afs_server.specs.Putting.{Commits, OnDisk, Prepares, Took};
+ghost use Rattle.afs_server.specs.Putting.{Took};
 ghost use Rattle.afs_server.specs.Saving.{Puts, CanPut};
 ghost use Rattle.afs_decisions.specs.declared.decided.Decided.TheVariants as decided;
 ghost use Rattle.afs_server_parts.specs.declared.faults.NodeFault.TheVariants as faults;
-ghost use Rattle.afs_server.specs.Answering.{IsToRun};
+ghost use Rattle.afs_sharing.specs.Stores.{OnDisk, Prepares};
+ghost use Rattle.afs_sharing.specs.Callers.{IsToRun};
 
 use crate::answering::keep_reply;
-use crate::ending::stand;
 use crate::server::FileServer;
 use afs_callbacks::saving::Planned;
 use afs_disk::Disk;
@@ -31,6 +30,8 @@ use afs_num::faults::StoreFault;
 use afs_num::records::StoreRecord;
 use afs_num::types::{Head, Mem};
 use afs_server_parts::faults::NodeFault;
+use afs_sharing::committing::commit;
+use afs_sharing::drawing::stand;
 use afs_volstore::VolStore;
 use afs_volume::{ReadyChange, ReadyNames};
 use std::alloc::AllocError;
@@ -57,20 +58,6 @@ fn prepare<D: Disk>(store: &mut VolStore<D>, rec: &StoreRecord, names: ReadyName
         Err(StoreFault::Full(..)) => Ok(false),
         Err(StoreFault::OutOfMemory) => Err(AllocError),
         Err(_) => unreachable!(),
-    }
-}
-
-/// Puts the prepared record on the disk.
-fn commit<D: Disk>(store: &mut VolStore<D>) -> Result<(), NodeFault>
-    requires prepared { IsSome store.old.prepared }
-    requires fits { (r : records.StoreRecord) → store.old.prepared ≡ Some r → FitsRecord r }
-    requires up { store.old.closed ≡ false }
-    ensures commits { (r : records.StoreRecord) → store.old.prepared ≡ Some r → Commits r store.old store.new result }
-    ensures disk { (r : records.StoreRecord) → store.old.prepared ≡ Some r → OnDisk D.Disk (Some r) store.old.durable store.old.disk store.new.disk result }
-{
-    match store.commit() {
-        Ok(()) => Ok(()),
-        Err(_) => Err(NodeFault::Down),
     }
 }
 

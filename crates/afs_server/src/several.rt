@@ -7,8 +7,8 @@ ghost use Rattle.afs_rows.specs.ServerRow.{several};
 ghost use Rattle.afs_volrows.specs.FileRow.{file_sight, file_sights};
 ghost use Rattle.afs_decisions.specs.Deciding.{IsDecision};
 ghost use Rattle.afs_server.specs.Handling.{holds_seen, server_seen};
-ghost use Rattle.afs_server.specs.Seen.{lasting_of};
 ghost use Rattle.afs_decisions.specs.Several.{Sees, SeesAll, TellsNext};
+ghost use Rattle.afs_sharing.specs.Lasting.{lasting_of};
 
 use crate::closing::{closed_code, missing_code};
 use crate::server::FileServer;

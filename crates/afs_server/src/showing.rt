@@ -7,13 +7,13 @@ ghost use Rattle.afs_rows.specs.ServerRow as row;
 ghost use Rattle.afs_rows.specs.ServerRow.{granted, read_reply_to, replied};
 ghost use Rattle.afs_message.specs.Spelled.{IsSpelling};
 ghost use Rattle.afs_server_parts.specs.declared.telling.Grant as told;
-ghost use Rattle.afs_server.specs.Answering.{KeepsReply, IsToRun};
+ghost use Rattle.afs_server.specs.Answering.{KeepsReply};
 ghost use Rattle.afs_decisions.specs.Deciding.{IsReading};
 ghost use Rattle.afs_server.specs.Handling.{AnswersNow, ServesOver};
 ghost use Rattle.afs_callbacks.specs.Answering.{CanTell};
+ghost use Rattle.afs_sharing.specs.Callers.{IsToRun};
 
 use crate::answering::keep_reply;
-use crate::ending::stand;
 use crate::server::FileServer;
 use afs_callbacks::Callbacks;
 use afs_callbacks::answering::Replied;
@@ -24,6 +24,7 @@ use afs_num::sequences::Octets;
 use afs_num::types::{Head, Mem};
 use afs_server_parts::callers::Callers;
 use afs_server_parts::telling::Grant;
+use afs_sharing::drawing::stand;
 use afs_volstore::VolStore;
 
 /// A promise lasts so many ticks.

@@ -3,12 +3,12 @@ ghost use Rattle.afs_rows.specs.Callbacks.{no_turn, timed};
 ghost use Rattle.afs_server_parts.specs.Called.{IsGoodCall};
 ghost use Rattle.afs_server.specs.Handling.{backs_then, Turns, ServesOver};
 
-use crate::ending::stand;
 use crate::server::FileServer;
 use afs_disk::Disk;
 use afs_history::lines::Outs;
 use afs_num::types::{Mem, Node};
 use afs_server_parts::calling::BreakCall;
+use afs_sharing::drawing::stand;
 use afs_volstore::VolStore;
 
 impl FileServer {

@@ -15,3 +15,4 @@ pub mod pumping;
 pub mod replies;
 pub mod telling;
 pub mod turns;
+pub mod words;

@@ -7,7 +7,6 @@ ghost use Rattle.std.specs.Option.{option_copied};
 ghost use Rattle.afs_num.specs.declared.messages.Call.TheVariants as ask;
 ghost use Rattle.afs_num.specs.declared.records.RecordBody.TheVariants as bodies;
 ghost use Rattle.afs_num.specs.declared.volume_calls.VolReply.TheVariants as replies;
-ghost use Rattle.afs_xdr.specs.Words.{AreWords};
 ghost use Rattle.afs_shape.specs.Rows.{IsWithin};
 ghost use Rattle.afs_shape.specs.Tables.{IsCount, IsListedVolume, IsServer};
 ghost use Rattle.afs_ideal.specs.Operations.{is_last_count};
@@ -33,6 +32,7 @@ use afs_num::volume_calls::{ListedVolume, ListedVolumes, VolCall, VolReply};
 use afs_restore::{DumpFault, Restorer, restore};
 use afs_sendings::pieces::next_number;
 use afs_sendings::sendings::{is_last_piece, piece_of};
+use afs_server_parts::words::are_words;
 use afs_volume::Volume;
 use std::alloc::{AllocError, Global};
 
@@ -200,13 +200,6 @@ pub struct NewVolume<'a> {
     pub kind: u32,
     pub flags: u32,
     pub quota: u32,
-}
-
-/// Each number is a word.
-fn are_words(numbers: &[u32])
-    ensures { AreWords numbers.now }
-{
-    let _ = numbers.len();
 }
 
 /// The record of a volume that is made.

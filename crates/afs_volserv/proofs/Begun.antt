@@ -7,8 +7,6 @@ use Rattle.afs_ideal.specs.Tables.{Table}
 use Rattle.afs_records.specs.Durable.{Stored}
 use Rattle.afs_history.specs.declared.lines.Outs.{Outs}
 use Rattle.afs_callbacks.specs.States.{CallbackState}
-use Rattle.afs_server.specs.Handling.{SameStore}
-use Rattle.afs_server.specs.Seen.{KeepsForNodes}
 use Rattle.afs_server_parts.specs.declared.faults.NodeFault.{NodeFault}
 use Rattle.afs_server_parts.specs.declared.faults.NodeFault.TheVariants as faults
 use Rattle.afs_volrows.specs.VolLaws.{AreApart}
@@ -16,6 +14,8 @@ use Rattle.afs_volrows.specs.VolSteps.{VolTurn}
 use Rattle.afs_volserv.specs.Handling.{HandlesVolumes}
 use Rattle.afs_volserv.specs.Seen.{ServesVolumes, VolMemory}
 use Rattle.afs_volstore.specs.Stores.{Store}
+use Rattle.afs_sharing.specs.Stores.{SameStore}
+use Rattle.afs_sharing.specs.Lasting.{KeepsForNodes}
 
 none_apart : (volumes : Table Stored) → AreApart volumes 0 []
 none_apart volumes = record { ascend = tt; there = λ n t e. absurd cc; numbered = λ n t e. absurd cc; alone = λ n m t u e f same. absurd cc }

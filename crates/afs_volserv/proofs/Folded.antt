@@ -17,9 +17,10 @@ use Rattle.afs_records.specs.Durable.{placing, with_journal, with_stamp, Durable
 use Rattle.afs_rows.specs.ServerRow.{seat_for, seat_placed}
 use Rattle.afs_rows.specs.States.{durable_of}
 use Rattle.afs_volrows.specs.VolSteps.{deed_done, deed_head, deed_record, Deed}
-use Rattle.afs_server.specs.Seen.{lasting_of, or_loc, seat_kept, AreToNodes, KeepsForNodes}
-use Rattle.afs_server.proofs.Folded.{seats_set, set_to_nodes}
 use Rattle.afs_volserv.proofs.Alike.{deed_like, like}
+use Rattle.afs_sharing.specs.Lasting.{lasting_of, KeepsForNodes}
+use Rattle.afs_saving.specs.Kept.{or_loc, seat_kept, AreToNodes}
+use Rattle.afs_saving.proofs.Seats.{seats_set, set_to_nodes}
 
 some_is : {A : Type 0} (x y : A) → ◌≡◌ {A = Option A} (Some x) (Some y) → x ≡ y
 some_is x y e = cc

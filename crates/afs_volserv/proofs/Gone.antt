@@ -9,7 +9,7 @@ use Rattle.afs_volrows.specs.VolSteps.{owes_of, withdraws_from}
 use Rattle.afs_promise.proofs.Lists.{volume_both}
 use Rattle.afs_callbacks.proofs.Lasting.{lasting_promised}
 use Rattle.afs_callbacks.specs.States.{IsPromiseToNode}
-use Rattle.afs_server.proofs.Drawn.{breaks_drawn, expired_draws}
+use Rattle.afs_sharing.proofs.Drawn.{breaks_drawn, expired_draws}
 
 pub gone_owed : (w : Option ℕ) (l : Lists) → (withdraws_from w l).owed ≡ l.owed ++ owes_of w l
 gone_owed None l = sym (append-nil l.owed)

@@ -2,7 +2,7 @@
 use Rattle.std.proofs.Common.{◌≡◌, ◌≤◌, ◌+◌, ℕ, Bool, true, false, cond, List, [], ◌∷◌, ◌++◌, Option, Some, None, refl, sym, ap, subst, ◌∙◌, arith}
 use Rattle.std.specs.Prelude.{ℤ, ◌&&◌}
 use Rattle.std.specs.List.{AllByRecursion}
-use Rattle.afs_num.specs.Nodes.{same_node, IsNode}
+use Rattle.afs_num.specs.Nodes.{same_node}
 use Rattle.afs_num.specs.declared.messages.Carried.TheVariants as carried
 use Rattle.afs_num.specs.declared.types.Head.{Head}
 use Rattle.afs_num.specs.declared.types.Node.{Node}
@@ -15,8 +15,7 @@ use Rattle.afs_server_parts.specs.Called.{call_to, known_to, Callee}
 use Rattle.afs_server_parts.specs.declared.ending.Ended.{Ended}
 use Rattle.afs_callbacks.specs.States.{CallbackState}
 use Rattle.afs_volstore.specs.Stores.{Store}
-use Rattle.afs_server.specs.Seen.{lasting_of}
-use Rattle.afs_sendings.specs.Pieces.{adds, adds_by, call_or_none, call_seen, dumps_of, ends_with, first_call, renews, retries, starts, way_of, AreTo, IsToOrNone, Piece, Way}
+use Rattle.afs_sendings.specs.Pieces.{adds, adds_by, call_or_none, call_seen, dumps_of, ends_with, first_call, renews, retries, starts, way_of, AreTo, IsServerNode, IsToOrNone, Piece, Way}
 use Rattle.afs_sendings.specs.Sendings.{first_of, rest_of}
 use Rattle.afs_sendings.specs.declared.pieces.Pieces.{Pieces}
 use Rattle.afs_sendings.proofs.Ways.{retried, turned_by}
@@ -26,6 +25,7 @@ use Rattle.afs_volserv.specs.Handling.{backs_then, vol_answered_then, vol_notice
 use Rattle.afs_volserv.specs.Seen.{vol_seen, AreAsked, CanRelease, IsAsked, ServesVolumes, StandsBeside, VolMemory}
 use Rattle.afs_volserv.specs.Sending.{answered_then, ended_then, heard_by, is_heard, renewed_then, rests_then, way_before, went_then, IsSent}
 use Rattle.afs_volserv.proofs.Stepping.{can_still, kept_after, serves_as, stepped, turn_of, with_holds}
+use Rattle.afs_sharing.specs.Lasting.{lasting_of}
 
 -- ---- the step
 
@@ -109,14 +109,14 @@ first_asked : (xs : List Sending) (x : Sending) → first_of xs ≡ Some x → A
 first_asked [] x e all = absurd cc
 first_asked (y ∷ ys) x e all = subst IsAsked (some_is y x e) all.0
 
--- what is known of the call to a node
+-- what is known of the call to a server
 pub record Knows (n : Node) (c : Piece) (x : Sending) : Type 0 where
-  pub node : IsNode n
+  pub node : IsServerNode n
   pub first : IsAsked x
   pub rest : AllByRecursion IsAsked (rest_of c.content)
   pub all : AllByRecursion IsAsked c.content
 
-pub called_node : {D : Type 0} (m : VolMemory) (s : Store D) (n : Node) (c : Piece) → ServesVolumes m s → call_to m.callees n ≡ Some c → IsNode n
+pub called_node : {D : Type 0} (m : VolMemory) (s : Store D) (n : Node) (c : Piece) → ServesVolumes m s → call_to m.callees n ≡ Some c → IsServerNode n
 called_node {D} m s n c serves is = subst (IsToOrNone n) is (serves.calls n)
 
 pub knows : {D : Type 0} (m : VolMemory) (s : Store D) (n : Node) (c : Piece) (x : Sending) → ServesVolumes m s → call_to m.callees n ≡ Some c → first_of c.content ≡ Some x → Knows n c x

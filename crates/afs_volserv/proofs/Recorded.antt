@@ -1,43 +1,32 @@
 -- What is written has a record.
-use Rattle.std.proofs.Common.{◌≡◌, ◌≤◌, ◌<◌, ◌^◌, ℕ, Bool, true, false, List, length, Option, Some, None, refl, ap, ◌∙◌, arith, ne_eqb, if◌then◌else◌}
+use Rattle.std.proofs.Common.{◌≡◌, ◌≤◌, ◌<◌, ◌^◌, ℕ, Bool, true, false, List, length, Some, refl, arith, ne_eqb}
 use Rattle.std.specs.Prelude.{nat_eq}
-use Rattle.afs_num.specs.Nodes.{node_number, node_of, IsNode}
+use Rattle.afs_num.specs.Nodes.{node_number, IsNode}
 use Rattle.afs_num.specs.declared.records.RecordBody.{RecordBody}
 use Rattle.afs_num.specs.declared.records.RecordBody.TheVariants as bodies
 use Rattle.afs_num.specs.declared.types.Head.{Head}
 use Rattle.afs_num.specs.declared.types.Node.{Node}
 use Rattle.afs_num.specs.declared.types.Node.TheVariants.{Admin, Client, Loc, Server}
-use Rattle.afs_shape.specs.Taking.{◌>>=◌}
 use Rattle.afs_fold.specs.Deeds.{can_take}
 use Rattle.afs_records.specs.Changes.{keeping}
 use Rattle.afs_records.specs.Durable.{Durable}
 use Rattle.afs_records.specs.Records.{caller_form, head_form, may_call, row, FitsRecord}
 use Rattle.afs_rows.specs.ServerRow.{key_of}
-use Rattle.afs_callbacks.proofs.Numbered.{numbered}
+use Rattle.afs_records.proofs.Callers.{caller_fits}
 use Rattle.afs_voldecisions.specs.Verdicts.{HasForm}
 use Rattle.afs_volrows.specs.VolSteps.{is_vol_caller}
 use Rattle.afs_volstore.specs.Stores.{IsNoChange}
-
-not_none : (b : Bool) (o : Option (Option Node)) → b ≡ false → (if b then Some None else o) ≡ o
-not_none true o e = absurd cc
-not_none false o e = refl
-
-other_fits : (n : Node) → IsNode n → nat_eq (node_number n) 0 ≡ false → caller_form.Fits (Some n)
-other_fits n node other =
-    let small = (numbered (node_number n) n node).small in
-    let known : ◌≡◌ {A = Option (Option Node)} (node_of (node_number n) >>= λ m. Some (Some m)) (Some (Some n)) = ap (λ (o : Option Node). o >>= λ m. Some (Some m)) node in
-    (omega (arith, small), not_none (nat_eq (node_number n) 0) (node_of (node_number n) >>= λ m. Some (Some m)) other ∙ known)
 
 -- the number of a server is its place, and servers are from 1 on
 not_first : (b : Bool) (n : ℕ) → nat_eq n 0 ≡ b → IsNode (Server n) → b ≡ false
 not_first false n e node = refl
 not_first true n e node = absurd cc
 
-caller_fits : (n : Node) → IsNode n → is_vol_caller n ≡ true → caller_form.Fits (Some n)
-caller_fits (Server k) node is = other_fits (Server k) node (not_first (nat_eq k 0) k refl node)
-caller_fits (Admin k) node is = other_fits (Admin k) node (ne_eqb (node_number (Admin k)) 0 (λ e. absurd (omega (arith, e))))
-caller_fits Loc node is = absurd cc
-caller_fits (Client k) node is = absurd cc
+vol_caller_fits : (n : Node) → IsNode n → is_vol_caller n ≡ true → caller_form.Fits (Some n)
+vol_caller_fits (Server k) node is = caller_fits (Server k) node (not_first (nat_eq k 0) k refl node)
+vol_caller_fits (Admin k) node is = caller_fits (Admin k) node (ne_eqb (node_number (Admin k)) 0 (λ e. absurd (omega (arith, e))))
+vol_caller_fits Loc node is = absurd cc
+vol_caller_fits (Client k) node is = absurd cc
 
 -- every record of the volume server may have a caller
 pub called_for : (body : RecordBody) (d : Durable) (n : Node) → can_take body d ≡ true → may_call (row body).number (Some n) ≡ true
@@ -69,7 +58,7 @@ pub record_fits : (head : Head) (reply : List ℕ) (family stamp : ℕ) (body : 
     may_call (row body).number (Some head.from) ≡ true → FitsRecord (record { head = record (keeping (key_of head) reply) { family = family; stamp = stamp }; body = body })
 unfolding head_form
 record_fits head reply family stamp body node served epoch number short family_fits stamp_fits form may = record {
-  head = ((family_fits, (stamp_fits, (caller_fits head.from node served, (epoch, (number, (short, omega (arith, short))))))), refl);
+  head = ((family_fits, (stamp_fits, (vol_caller_fits head.from node served, (epoch, (number, (short, omega (arith, short))))))), refl);
   body = form;
   caller = may;
 }

@@ -26,9 +26,6 @@ use Rattle.afs_server_parts.specs.Turning.{sent_turns, IsBreakToNode}
 use Rattle.afs_callbacks.proofs.Drawing.{pumped_draws}
 use Rattle.afs_callbacks.specs.Answering.{with_lists}
 use Rattle.afs_callbacks.specs.States.{backs_at, CallbackState, IsPromiseToNode}
-use Rattle.afs_server.proofs.Drawn.{breaks_drawn}
-use Rattle.afs_server.specs.Handling.{stand_of}
-use Rattle.afs_server.specs.Seen.{lasting_of}
 use Rattle.afs_sendings.specs.Pieces.{AreTo}
 use Rattle.afs_volrows.specs.VolLaws.{AreApart}
 use Rattle.afs_volrows.specs.VolRow.{holds_of}
@@ -45,6 +42,9 @@ use Rattle.afs_volstore.specs.Stores.{Store}
 use Rattle.afs_volserv.proofs.Alike.{stamp_volumes, told_like}
 use Rattle.afs_volserv.proofs.Folded.{kept_left, lasting_left, volumes_left}
 use Rattle.afs_volserv.proofs.Gone.{gone_draws, gone_owed, gone_to_nodes}
+use Rattle.afs_sharing.proofs.Drawn.{breaks_drawn}
+use Rattle.afs_sharing.specs.Stores.{stand_of}
+use Rattle.afs_sharing.specs.Lasting.{lasting_of}
 
 some_is : {A : Type 0} (x y : A) → ◌≡◌ {A = Option A} (Some x) (Some y) → x ≡ y
 some_is x y e = cc
@@ -209,5 +209,6 @@ module _ {D : Type 0} (now : ℕ) (head : Head) (x : Saving) (old : VolMemory) (
         draws = draws_now;
         store = store_now;
         done = (folds_so u.durable put.folds, ap (λ (t : Store D). t.count) put.store);
+        prepared = ap (λ (t : Store D). t.prepared) put.store;
         effects = told_again words;
       }

@@ -23,7 +23,6 @@ use Rattle.afs_callbacks.proofs.Drawing.{pumped_draws}
 use Rattle.afs_callbacks.proofs.Lasting.{lasting_promised}
 use Rattle.afs_callbacks.proofs.Withdrawn.{filter_few}
 use Rattle.afs_volstore.specs.Stores.{Store}
-use Rattle.afs_server.specs.Seen.{lasting_of}
 use Rattle.afs_volrows.specs.VolLaws.{AreApart}
 use Rattle.afs_volrows.specs.VolRow.{gave, holds_of, transactions_after, After}
 use Rattle.afs_volrows.specs.VolRow as row_after
@@ -32,6 +31,7 @@ use Rattle.afs_volrows.specs.VolSteps.{held_vol, replies_to, vol_repeats, vol_tu
 use Rattle.afs_volserv.specs.Handling.{backs_then, DrawsFew, IsStep}
 use Rattle.afs_volserv.specs.Seen.{vol_seen, AreAlone, AreAsked, AreFlagged, CanRelease, ServesVolumes, StandsBeside, VolMemory}
 use Rattle.afs_volserv.specs.Sending.{again_then, rests_then, sent_then, waits_again, waits_then, IsSent}
+use Rattle.afs_sharing.specs.Lasting.{lasting_of}
 
 -- what is left of promises and breaks
 abbrev pub kept_after : ℕ → CallbackState → Ended → CallbackState

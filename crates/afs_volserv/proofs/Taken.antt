@@ -21,10 +21,7 @@ use Rattle.afs_memory.specs.Telling.{in_words}
 use Rattle.afs_records.specs.Durable.{Durable}
 use Rattle.afs_rows.specs.States.{Backs, Lasting, ServerState}
 use Rattle.afs_callbacks.specs.States.{CallbackState}
-use Rattle.afs_server.proofs.Still.{is_same}
-use Rattle.afs_server.specs.Handling.{IsDone, IsWritten, SameStore}
-use Rattle.afs_server.specs.Putting.{calls_for, OnDisk}
-use Rattle.afs_server.specs.Seen.{lasting_of}
+use Rattle.afs_saving.proofs.Still.{is_same, none_prepared, prepared_still}
 use Rattle.afs_server_parts.specs.declared.faults.NodeFault.{NodeFault}
 use Rattle.afs_server_parts.specs.declared.faults.NodeFault.TheVariants as faults
 use Rattle.afs_volrows.specs.VolStates.{PieceCall, VolState}
@@ -35,6 +32,10 @@ use Rattle.afs_volserv.specs.Seen.{VolMemory}
 use Rattle.afs_volserv.specs.declared.decided.Decided.{Decided}
 use Rattle.afs_volserv.specs.declared.decided.Decided.TheVariants as decided
 use Rattle.afs_volstore.specs.Stores.{Store}
+use Rattle.afs_volstore.specs.VolumeFold.{volume_fold}
+use Rattle.afs_sharing.specs.Stores.{IsDone, SameStore, OnDisk, LeavesPrepared}
+use Rattle.afs_saving.specs.Saving.{IsWritten, calls_for}
+use Rattle.afs_sharing.specs.Lasting.{lasting_of}
 
 -- ---- a message by its parts
 
@@ -81,13 +82,15 @@ same_store : {D : Type 0} (s u : Store D) → u ≡ s → SameStore s u
 same_store {D} s u e = subst (λ (t : Store D). SameStore s t) (sym e) refl
 
 wants_disk : {D : Type 0} (w : Ghosts D) (decided : Option StoreRecord) (d : Durable) (old new : D) (result : Result Outs NodeFault) → result ≡ Err faults.OutOfMemory → new ≡ old → OnDisk w decided d old new result
-wants_disk {D} w decided d old new result e same = subst (λ (r : Result Outs NodeFault). OnDisk w decided d old new r) (sym e) (is_same w decided d old new (Err faults.OutOfMemory) tt same)
+wants_disk {D} w decided d old new result e same = subst (λ (r : Result Outs NodeFault). OnDisk w decided d old new r) (sym e) (is_same volume_fold w decided d old new (Err faults.OutOfMemory) tt same)
 
 pub wants_took : {D : Type 0} (w : Ghosts D) (d : VolDecision) (t : VolTurn) (old new : VolMemory) (k l : CallbackState) (s u : Store D) (result : Result Outs NodeFault) → result ≡ Err faults.OutOfMemory → (new ≡ old) × ((l ≡ k) × (u ≡ s)) → TookVolumes w d t old new k l s u result
-wants_took {D} w d t old new k l s u result e same = record {
-  does = subst (λ (r : Result Outs NodeFault). DoesVolumes d t old new k l s u r) (sym e) (same.0, (same.1.0, same_store s u same.1.1));
-  disk = wants_disk w (vol_record d) s.durable s.disk u.disk result e (ap (λ (x : Store D). x.disk) same.1.1);
-}
+wants_took {D} w d t old new k l s u result e same =
+    let prepared = prepared_still {T = Outs} (vol_record d) s.prepared u.prepared (Err faults.OutOfMemory) tt (ap (λ (x : Store D). x.prepared) same.1.1) in
+    record {
+      does = subst (λ (r : Result Outs NodeFault). DoesVolumes d t old new k l s u r) (sym e) (same.0, (same.1.0, (same_store s u same.1.1, prepared)));
+      disk = wants_disk w (vol_record d) s.durable s.disk u.disk result e (ap (λ (x : Store D). x.disk) same.1.1);
+    }
 
 -- ---- a step without a record
 
@@ -106,13 +109,14 @@ step_made {D} d t old new k l s u outs none is =
       draws = is.draws;
       store = is.store ∙ (λ i. record s { durable = sym durable i; disk = sym disk i; prepared = sym prepared i; count = sym count i; drawn = u.drawn; holds = u.holds });
       done = subst (λ (r : Option StoreRecord). IsDone r s u) (sym none) (durable, count);
+      prepared = prepared_still {T = Outs} (vol_record d) s.prepared u.prepared (Ok outs) none prepared;
       effects = told_none d s none;
     }
 
 pub steps_took : {D : Type 0} (w : Ghosts D) (d : VolDecision) (t : VolTurn) (old new : VolMemory) (k l : CallbackState) (s u : Store D) (outs : Outs) → vol_record d ≡ None → IsStep t old new k l s u outs → TookVolumes w d t old new k l s u (Ok outs)
 steps_took {D} w d t old new k l s u outs none is = record {
   does = step_made d t old new k l s u outs none is;
-  disk = is_same w (vol_record d) s.durable s.disk u.disk (Ok outs) none (ap (λ (x : Store D). x.disk) is.store);
+  disk = is_same volume_fold w (vol_record d) s.durable s.disk u.disk (Ok outs) none (ap (λ (x : Store D). x.disk) is.store);
 }
 
 -- ---- what that is to those who call
@@ -123,7 +127,7 @@ module _ {D : Type 0} (d : VolDecision) (t : VolTurn) (old new : VolMemory) (k l
 
   pub handles_so : (result : Result Outs NodeFault) → Does result → HandlesVolumes t old new k l s u result
   handles_so (Ok outs) is = is.makes
-  handles_so (Err faults.OutOfMemory) is = is
+  handles_so (Err faults.OutOfMemory) is = (is.0, (is.1.0, is.1.1.0))
   handles_so (Err faults.Down) is = is.closed
 
   pub order_so : (result : Result Outs NodeFault) → Does result → OnOk result (StaysInOrder old new l u)
@@ -141,6 +145,11 @@ module _ {D : Type 0} (d : VolDecision) (t : VolTurn) (old new : VolMemory) (k l
   pub done_so : (result : Result Outs NodeFault) → Does result → OnOk result (IsDone (vol_record d) s u)
   done_so (Ok outs) is = is.done
   done_so (Err fault) is = tt
+
+  pub prepared_so : (result : Result Outs NodeFault) → Does result → LeavesPrepared (vol_record d) s u result
+  prepared_so (Ok outs) is = is.prepared
+  prepared_so (Err faults.OutOfMemory) is = is.1.1.1
+  prepared_so (Err faults.Down) is = none_prepared {T = Outs} (vol_record d) s.prepared u.prepared (Err faults.Down) refl is.some (ap (λ (x : Store D). x.prepared) is.closed)
 
   pub some_down : (result : Result Outs NodeFault) → Does result → IsErrOf result faults.Down → vol_record d ≡ None → ⊥
   some_down (Ok outs) is down none = absurd cc
@@ -161,7 +170,7 @@ module _ {D : Type 0} (d : VolDecision) (t : VolTurn) (old new : VolMemory) (k l
 
 -- ---- the disk's calls
 
-calls_decided : (d e : Durable) (x : VolDecision) → calls_for d (vol_record x) ≡ vol_device_calls e x
+calls_decided : (d e : Durable) (x : VolDecision) → calls_for (vol_record x) ≡ vol_device_calls e x
 calls_decided d e drops = refl
 calls_decided d e (tells_boot head) = refl
 calls_decided d e (repeats reply) = refl
@@ -169,6 +178,6 @@ calls_decided d e (replies_to head reply ts last) = refl
 calls_decided d e (dispatches head x) = refl
 calls_decided d e (saves head x) = refl
 
-pub called_so : (d e : Durable) (x : VolDecision) (result : Result Outs NodeFault) (before now : ℕ) → OnOk result (now ≡ before + calls_for d (vol_record x)) → OnOk result (now ≡ before + vol_device_calls e x)
+pub called_so : (d e : Durable) (x : VolDecision) (result : Result Outs NodeFault) (before now : ℕ) → OnOk result (now ≡ before + calls_for (vol_record x)) → OnOk result (now ≡ before + vol_device_calls e x)
 called_so d e x (Ok outs) before now is = is ∙ ap (λ (n : ℕ). before + n) (calls_decided d e x)
 called_so d e x (Err fault) before now is = tt

@@ -1,5 +1,5 @@
 -- What is decided to be written is prepared and put on the disk, or answered for want of room: either way the row's step.
-use Rattle.std.proofs.Common.{◌≡◌, ◌≤◌, ◌<◌, ◌+◌, ℕ, Bool, true, false, List, ◌++◌, map, length, Option, Some, None, refl, sym, ap, subst, ◌∙◌}
+use Rattle.std.proofs.Common.{◌≡◌, ◌≤◌, ◌<◌, ◌+◌, ℕ, Bool, true, false, List, ◌++◌, map, length, Option, Some, None, inr, refl, sym, ap, subst, ◌∙◌}
 use Rattle.std.specs.Prelude.{Result, Ok, Err, IsErrOf, IsSome, if◌then◌else◌}
 use Rattle.afs_disk.specs.declared.disk.Disk.{Ghosts}
 use Rattle.afs_num.specs.Nodes.{IsNode}
@@ -16,17 +16,13 @@ use Rattle.afs_memory.specs.Telling.{in_words}
 use Rattle.afs_records.specs.Durable.{has_room, Durable}
 use Rattle.afs_rows.specs.Callbacks.{owe_line}
 use Rattle.afs_callbacks.specs.States.{CallbackState, IsToNodes}
-use Rattle.afs_server.specs.Answering.{IsToRun}
-use Rattle.afs_server.specs.Handling.{IsClosed, IsDone, SameStore}
-use Rattle.afs_server.specs.Putting.{IsStill, Prepares}
-use Rattle.afs_server.specs.Seen.{KeepsForNodes}
-use Rattle.afs_server.proofs.Still.{behind, is_still, Counts, OfDisk, Same}
+use Rattle.afs_saving.proofs.Still.{behind, is_still, prepared_still}
 use Rattle.afs_server_parts.specs.declared.faults.NodeFault.{NodeFault}
 use Rattle.afs_server_parts.specs.declared.faults.NodeFault.TheVariants as faults
 use Rattle.afs_volrows.specs.VolLaws.{AreApart}
 use Rattle.afs_volrows.specs.VolRow as row
 use Rattle.afs_volrows.specs.VolStates.{VolState}
-use Rattle.afs_volrows.specs.VolSteps.{deed_record, not_written, saves, written, VolDecision}
+use Rattle.afs_volrows.specs.VolSteps.{deed_record, not_written, saves, written, VolDecision, VolTurn}
 use Rattle.afs_voldecisions.specs.Numbering.{Numbered}
 use Rattle.afs_volserv.specs.Deciding.{deed_of, full_for, CanBeSaved}
 use Rattle.afs_volserv.specs.Handling.{vol_record, vol_turn_then, DoesVolumes, IsVolumeStep, StepsVolumes, TookVolumes}
@@ -37,6 +33,13 @@ use Rattle.afs_volserv.specs.declared.saving.Planned.{Planned}
 use Rattle.afs_volstore.specs.Stores.{Store}
 use Rattle.afs_volserv.proofs.Folded.{is_taken}
 use Rattle.afs_volserv.proofs.Saved.{left_again, step_saved, told_again}
+use Rattle.afs_volstore.specs.VolumeFold.{volume_fold}
+use Rattle.afs_disk.specs.Words.{SameDiskBy}
+use Rattle.afs_journal.specs.Words.{SameCountsBy}
+use Rattle.afs_sharing.specs.Callers.{IsToRun}
+use Rattle.afs_sharing.specs.Stores.{IsClosed, IsDone, SameStore, OnDisk, Prepares}
+use Rattle.afs_saving.specs.Saving.{IsStill}
+use Rattle.afs_sharing.specs.Lasting.{KeepsForNodes}
 
 some_is : {A : Type 0} (x y : A) → ◌≡◌ {A = Option A} (Some x) (Some y) → x ≡ y
 some_is {A} x y e = cc
@@ -53,6 +56,16 @@ same_room {D} s t is = is ∙ (λ i. record s { disk = t.disk; prepared = sym (a
 pub same_prepared : {D : Type 0} (r : StoreRecord) (s t : Store D) (b : Bool) → Prepares {E = NodeFault} r s t (Ok b) → SameStore s t
 same_prepared {D} r s t true is = is ∙ (λ i. record s { disk = t.disk; prepared = sym (ap (λ (u : Store D). u.prepared) is) i })
 same_prepared {D} r s t false is = same_room s t is
+
+-- memory was wanting, and nothing but the room of the disk is another
+pub wanting : {D : Type 0} (w : Ghosts D) (d : VolDecision) (t : VolTurn) (old : VolMemory) (k : CallbackState) (s u : Store D) (result : Result Outs NodeFault) → result ≡ Err faults.OutOfMemory → u ≡ record s { disk = u.disk } → SameDiskBy w s.disk u.disk → SameCountsBy w s.disk u.disk →
+    TookVolumes w d t old old k k s u result
+wanting {D} w d t old k s u result e same still counts =
+    let prepared = prepared_still {T = Outs} (vol_record d) s.prepared u.prepared (Err faults.OutOfMemory) tt (ap (λ (x : Store D). x.prepared) same) in
+    record {
+      does = subst (λ (r : Result Outs NodeFault). DoesVolumes d t old old k k s u r) (sym e) (refl, (refl, (same_room s u same, prepared)));
+      disk = subst (λ (r : Result Outs NodeFault). OnDisk w (vol_record d) s.durable s.disk u.disk r) (sym e) (is_still volume_fold w (vol_record d) s.durable s.disk u.disk (Err faults.OutOfMemory) tt still counts);
+    }
 
 -- ---- what was in order is so over it
 
@@ -81,7 +94,7 @@ module _ {D : Type 0} (m : VolMemory) (k : CallbackState) (s t : Store D) (same 
   pub room_still : HasRoom m s → HasRoom m t
   room_still room = (room.0, subst (λ (u : Store D). 0 < u.holds.room) (sym same) room.1)
 
-  pub can_put : (now : ℕ) (head : Head) (x : Saving) (p : Planned) → IsPlanned now head x k s p → ServesVolumes m s → CanDraw k s → HasRoom m s → s.closed ≡ false → IsToRun head m.seats → CanBeSaved s.durable (vol_seen m) head.opcode x → CanPut now head p m k t
+  pub can_put : (now : ℕ) (head : Head) (x : Saving) (p : Planned) → IsPlanned now head x k s p → ServesVolumes m s → CanDraw k → HasRoom m s → s.closed ≡ false → IsToRun head m.seats → CanBeSaved s.durable (vol_seen m) head.opcode x → CanPut now head p m k t
   can_put now head x p plan serves draws room up runs can = record {
     runs = runs;
     room = room_still room;
@@ -136,12 +149,13 @@ module _ {D : Type 0} (now : ℕ) (head : Head) (x : Saving) (old new : VolMemor
   abbrev pub AreWords : Result Outs NodeFault → Type 0
   AreWords result = (IsErrOf result faults.OutOfMemory → ⊥) → map in_words (effect_of s.node p.rec s.durable) ≡ effect_of s.node p.rec s.durable
 
-  saved_by : (result : Result Outs NodeFault) → SameStore s mid → ServesVolumes old s → StandsBeside k s → CanBeSaved s.durable (vol_seen old) head.opcode x → IsNode head.from → Puts now head p lines_told old new k l mid u result → AreWords result →
+  saved_by : (result : Result Outs NodeFault) → SameStore s mid → mid.prepared ≡ Some p.rec → ServesVolumes old s → StandsBeside k s → CanBeSaved s.durable (vol_seen old) head.opcode x → IsNode head.from → Puts now head p lines_told old new k l mid u result → AreWords result →
       DoesVolumes saved (vol_turn_then old k s now saved) old new k l s u result
-  saved_by (Ok outs) same serves beside can node puts words =
+  saved_by (Ok outs) same has serves beside can node puts words =
       step_saved now head x old k s p plan new l u outs serves can node puts.0 puts.1.0 (put_from same puts.1.1.0) beside puts.1.1.1 (words (λ e. absurd cc))
-  saved_by (Err faults.OutOfMemory) same serves beside can node puts words = (puts.0, (puts.1.0, same_from same puts.1.1))
-  saved_by (Err faults.Down) same serves beside can node puts words = record {
+  saved_by (Err faults.OutOfMemory) same has serves beside can node puts words =
+      (puts.0, (puts.1.0, (same_from same puts.1.1, inr (ap (λ (t : Store D). t.prepared) puts.1.1 ∙ (has ∙ ap (λ (r : StoreRecord). Some r) plan.rec)))))
+  saved_by (Err faults.Down) same has serves beside can node puts words = record {
     closed = closed_from same puts;
     some = λ none. absurd cc;
     effects = told_again now head x old k s p plan (words (λ e. absurd cc));
@@ -166,8 +180,8 @@ module _ {D : Type 0} (now : ℕ) (head : Head) (call : VolCall) (old new : VolM
   abbrev pub IsAnswered : Store D → Store D → Result Outs NodeFault → Type 0
   IsAnswered mid u result = StepsVolumes (vol_turn_then old k mid now (full_for (durable_seen mid) (vol_seen old) head call)) old new k l mid u result
 
-  answered_so : (mid u : Store D) (outs : Outs) → IsAnswered (moved s mid) u (Ok outs) → IsVolumeStep full (vol_turn_then old k s now full) old new k l s u outs
-  answered_so mid u outs is =
+  answered_so : (mid u : Store D) (outs : Outs) → mid.prepared ≡ s.prepared → IsAnswered (moved s mid) u (Ok outs) → IsVolumeStep full (vol_turn_then old k s now full) old new k l s u outs
+  answered_so mid u outs left is =
       let durable : u.durable ≡ s.durable = ap (λ (t : Store D). t.durable) is.store in
       let count : u.count ≡ s.count = ap (λ (t : Store D). t.count) is.store in
       let disk = sym (ap (λ (t : Store D). t.disk) is.store) in
@@ -178,13 +192,16 @@ module _ {D : Type 0} (now : ℕ) (head : Head) (call : VolCall) (old new : VolM
         draws = record { calls = is.draws.calls; breaks = is.draws.breaks };
         store = is.store ∙ (λ i. record s { durable = sym durable i; disk = disk i; prepared = prepared i; count = sym count i; drawn = u.drawn; holds = u.holds });
         done = subst (λ (o : Option StoreRecord). IsDone o s u) (sym no_record) (durable, count);
+        prepared = prepared_still {T = Outs} (vol_record full) s.prepared u.prepared (Ok outs) no_record (sym prepared ∙ left);
         effects = λ r recorded. let none : ◌≡◌ {A = Option StoreRecord} None (Some r) = sym no_record ∙ recorded in absurd cc;
       }
 
-  answered_by : (mid u : Store D) (result : Result Outs NodeFault) → IsAnswered (moved s mid) u result → (IsErrOf result faults.Down → ⊥) → DoesVolumes full (vol_turn_then old k s now full) old new k l s u result
-  answered_by mid u (Ok outs) is up = answered_so mid u outs is
-  answered_by mid u (Err faults.OutOfMemory) is up = (is.0, (is.1.0, subst (λ (t : Store D). SameStore s t) (sym is.1.1) refl))
-  answered_by mid u (Err faults.Down) is up = absurd (up refl)
+  answered_by : (mid u : Store D) (result : Result Outs NodeFault) → mid.prepared ≡ s.prepared → IsAnswered (moved s mid) u result → (IsErrOf result faults.Down → ⊥) → DoesVolumes full (vol_turn_then old k s now full) old new k l s u result
+  answered_by mid u (Ok outs) left is up = answered_so mid u outs left is
+  answered_by mid u (Err faults.OutOfMemory) left is up =
+      let prepared = prepared_still {T = Outs} (vol_record full) s.prepared u.prepared (Err faults.OutOfMemory) tt (ap (λ (t : Store D). t.prepared) is.1.1 ∙ left) in
+      (is.0, (is.1.0, (subst (λ (t : Store D). SameStore s t) (sym is.1.1) refl, prepared)))
+  answered_by mid u (Err faults.Down) left is up = absurd (up refl)
 
   disk_left : (mid u : Store D) (result : Result Outs NodeFault) → IsAnswered (moved s mid) u result → u.disk ≡ mid.disk
   disk_left mid u (Ok outs) is = ap (λ (t : Store D). t.disk) is.store
@@ -192,7 +209,7 @@ module _ {D : Type 0} (now : ℕ) (head : Head) (call : VolCall) (old new : VolM
 
 -- ---- either way
 
-none_written : (result : Result Outs NodeFault) → (IsErrOf result faults.Down → ⊥) → IsStill None result
+none_written : (result : Result Outs NodeFault) → (IsErrOf result faults.Down → ⊥) → IsStill {R = StoreRecord} None result
 none_written (Ok outs) up = refl
 none_written (Err faults.OutOfMemory) up = tt
 none_written (Err faults.Down) up = absurd (up refl)
@@ -213,32 +230,34 @@ module _ {D : Type 0} (w : Ghosts D) (now : ℕ) (head : Head) (call : VolCall) 
   abbrev Took : VolDecision → Result Outs NodeFault → Type 0
   Took d result = TookVolumes w d (vol_turn_then old k s now d) old new k l s u result
 
-  pub took : (result : Result Outs NodeFault) (b : Bool) → b ≡ has_room s.durable p.rec → SameStore s mid → Same w s.disk mid.disk → Counts w s.disk mid.disk → ServesVolumes old s → StandsBeside k s → CanBeSaved s.durable (vol_seen old) head.opcode x → IsNode head.from →
+  pub took : (result : Result Outs NodeFault) (b : Bool) → b ≡ has_room s.durable p.rec → Prepares {E = NodeFault} p.rec s mid (Ok b) → SameDiskBy w s.disk mid.disk → SameCountsBy w s.disk mid.disk → ServesVolumes old s → StandsBeside k s → CanBeSaved s.durable (vol_seen old) head.opcode x → IsNode head.from →
       (b ≡ true → Puts now head p (effect_of mid.node p.rec mid.durable ++ map (owe_line mid.node) p.breaks) old new k l mid u result) →
       (b ≡ true → (IsErrOf result faults.OutOfMemory → ⊥) → map in_words (effect_of mid.node p.rec mid.durable) ≡ effect_of mid.node p.rec mid.durable) →
-      (b ≡ true → OfDisk w (Some p.rec) mid.durable mid.disk u.disk result) →
+      (b ≡ true → OnDisk w (Some p.rec) mid.durable mid.disk u.disk result) →
       (b ≡ false → StepsVolumes (vol_turn_then old k mid now (full_for (durable_seen mid) (vol_seen old) head call)) old new k l mid u result) → (b ≡ false → IsErrOf result faults.Down → ⊥) → Took decided result
-  took result true room same still counts serves beside can node puts words disk answers up =
+  took result true room prepares still counts serves beside can node puts words disk answers up =
+      let same = same_prepared p.rec s mid true prepares in
       let durable = ap (λ (t : Store D). t.durable) same in
       let told : effect_of mid.node p.rec mid.durable ≡ effect_of s.node p.rec s.durable = λ i. effect_of (same i).node p.rec (same i).durable in
       let owed : map (owe_line mid.node) p.breaks ≡ map (owe_line s.node) p.breaks = λ i. map (owe_line (same i).node) p.breaks in
       let lines : effect_of mid.node p.rec mid.durable ++ map (owe_line mid.node) p.breaks ≡ effect_of s.node p.rec s.durable ++ map (owe_line s.node) p.breaks = λ i. told i ++ owed i in
       subst (λ (d : VolDecision). Took d result) (sym (decided_by true (room_is true room)))
       (record {
-        does = saved_by now head x old new k l s mid u p plan result same serves beside can node (subst (λ (ls : List Line). Puts now head p ls old new k l mid u result) lines (puts refl))
+        does = saved_by now head x old new k l s mid u p plan result same (ap (λ (t : Store D). t.prepared) prepares) serves beside can node (subst (λ (ls : List Line). Puts now head p ls old new k l mid u result) lines (puts refl))
             (λ short. subst (λ (ls : List Line). map in_words ls ≡ ls) told (words refl short));
         disk =
-            subst (λ (r : StoreRecord). OfDisk w (Some r) s.durable s.disk u.disk result) plan.rec
-            (behind w (Some p.rec) s.durable s.disk mid.disk u.disk result still counts
-            (subst (λ (d : Durable). OfDisk w (Some p.rec) d mid.disk u.disk result) durable (disk refl)));
+            subst (λ (r : StoreRecord). OnDisk w (Some r) s.durable s.disk u.disk result) plan.rec
+            (behind volume_fold w (Some p.rec) s.durable s.disk mid.disk u.disk result still counts
+            (subst (λ (d : Durable). OnDisk w (Some p.rec) d mid.disk u.disk result) durable (disk refl)));
       })
-  took result false room same still counts serves beside can node puts words disk answers up =
+  took result false room prepares still counts serves beside can node puts words disk answers up =
+      let same = same_prepared p.rec s mid false prepares in
       let is = subst (λ (t : Store D). StepsVolumes (vol_turn_then old k t now (full_for (durable_seen t) (vol_seen old) head call)) old new k l t u result) same (answers refl) in
       subst (λ (d : VolDecision). Took d result) (sym (decided_by false (room_is false room)))
       (record {
-        does = answered_by now head call old new k l s mid u result is (up refl);
+        does = answered_by now head call old new k l s mid u result (ap (λ (t : Store D). t.prepared) prepares) is (up refl);
         disk =
-            subst (λ (o : Option StoreRecord). OfDisk w o s.durable s.disk u.disk result) (sym (no_record now head call old new k l s))
-            (subst (λ (d : D). OfDisk w None s.durable s.disk d result) (sym (disk_left now head call old new k l s mid u result is))
-            (is_still w None s.durable s.disk mid.disk result (none_written result (up refl)) still counts));
+            subst (λ (o : Option StoreRecord). OnDisk w o s.durable s.disk u.disk result) (sym (no_record now head call old new k l s))
+            (subst (λ (d : D). OnDisk w None s.durable s.disk d result) (sym (disk_left now head call old new k l s mid u result is))
+            (is_still volume_fold w None s.durable s.disk mid.disk result (none_written result (up refl)) still counts));
       })

@@ -109,8 +109,8 @@ abbrev pub IsMadeInVerdict : Durable → Verdict → Type 0
 IsMadeInVerdict d (verdicts.Accepted p) = IsMadeIfWritten d p.body p.made
 IsMadeInVerdict d x = Unit {0}
 
--- Its body has a form in a record, and can be taken; its volume was made; then its transactions are apart, each with the flags of one, and at
--- most one of them is new.
+-- Its body has a form in a record, and can be taken; a volume that comes with it is what the body makes of the disk; then its transactions are
+-- apart, each with the flags of one, and there is at most one more of them.
 pub record CanBeSaved (d : Durable) (v : VolState) (opcode : ℕ) (x : Saving) : Type 0 where
   pub answer : CanAnswer opcode x.answer
   pub form : HasForm (Some x.body)

@@ -20,12 +20,11 @@ use Rattle.afs_volrows.specs.VolStates.{PieceCall, Sending}
 use Rattle.afs_volrows.specs.VolSteps.{deed_record, saves, vol_begun_after, vol_decides, vol_timed, vol_told, vol_turn, vol_turned, VolDecision, VolTurn}
 use Rattle.afs_callbacks.specs.States.{backs_at, CallbackState}
 use Rattle.afs_volstore.specs.Stores.{Store}
-use Rattle.afs_server.specs.Handling.{IsClosed, IsDone, SameStore}
-use Rattle.afs_server.specs.Putting.{OnDisk}
-use Rattle.afs_server.specs.Seen.{lasting_of}
 use Rattle.afs_server_parts.specs.declared.faults.NodeFault.{NodeFault}
 use Rattle.afs_server_parts.specs.declared.faults.NodeFault.TheVariants as faults
 use Rattle.afs_volserv.specs.Seen.{durable_seen, vol_seen, CanRelease, ServesVolumes, StandsBeside, VolMemory}
+use Rattle.afs_sharing.specs.Stores.{IsClosed, IsDone, SameStore, OnDisk, LeavesPrepared}
+use Rattle.afs_sharing.specs.Lasting.{lasting_of}
 
 -- the calls that it serves
 abbrev pub vol_calls_served : List ℕ
@@ -139,6 +138,7 @@ pub record IsVolumeStep {D : Type 0} (d : VolDecision) (t : VolTurn) (old new : 
   pub draws : DrawsFew k l s u
   pub store : u ≡ record s { durable = u.durable; disk = u.disk; prepared = u.prepared; count = u.count; drawn = u.drawn; holds = u.holds }
   pub done : IsDone (vol_record d) s u
+  pub prepared : LeavesPrepared (vol_record d) s u (Ok outs)
   pub effects : IsToldAgain d s
 
 -- and of one that its disk ended
@@ -151,7 +151,7 @@ pub record IsCutShort {D : Type 0} (d : VolDecision) (s u : Store D) : Type 0 wh
 -- the step was made; or memory was wanting, and all is as before; or the disk failed while the record was written
 abbrev pub DoesVolumes : {D : Type 0} → VolDecision → VolTurn → VolMemory → VolMemory → CallbackState → CallbackState → Store D → Store D → Result Outs NodeFault → Type 0
 DoesVolumes {D} d t old new k l s u (Ok outs) = IsVolumeStep d t old new k l s u outs
-DoesVolumes {D} d t old new k l s u (Err faults.OutOfMemory) = (new ≡ old) × ((l ≡ k) × SameStore s u)
+DoesVolumes {D} d t old new k l s u (Err faults.OutOfMemory) = (new ≡ old) × ((l ≡ k) × (SameStore s u × LeavesPrepared {T = Outs} (vol_record d) s u (Err faults.OutOfMemory)))
 DoesVolumes {D} d t old new k l s u (Err faults.Down) = IsCutShort d s u
 
 -- what a step did that is decided so, with this turn: to the servers and their store, and to the disk

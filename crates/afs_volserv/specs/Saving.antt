@@ -21,8 +21,6 @@ use Rattle.afs_server_parts.specs.Turning.{sent_turns}
 use Rattle.afs_callbacks.specs.Answering.{with_lists}
 use Rattle.afs_callbacks.specs.States.{backs_at, CallbackState}
 use Rattle.afs_volstore.specs.Stores.{Store}
-use Rattle.afs_server.specs.Answering.{IsToRun}
-use Rattle.afs_server.specs.Handling.{stand_of, IsClosed}
 use Rattle.afs_server_parts.specs.declared.faults.NodeFault.{NodeFault}
 use Rattle.afs_server_parts.specs.declared.faults.NodeFault.TheVariants as faults
 use Rattle.afs_voldecisions.specs.Replies.{answer_message}
@@ -30,6 +28,8 @@ use Rattle.afs_volserv.specs.Deciding.{deed_of}
 use Rattle.afs_volserv.specs.Seen.{AreAlone, AreFlagged, CanRelease, HasRoom, VolMemory}
 use Rattle.afs_volserv.specs.declared.decided.Saving.{Saving}
 use Rattle.afs_volserv.specs.declared.saving.Planned.{Planned}
+use Rattle.afs_sharing.specs.Callers.{IsToRun}
+use Rattle.afs_sharing.specs.Stores.{stand_of, IsClosed}
 
 -- ---- the reply goes out at once, or waits for breaks
 

@@ -15,8 +15,8 @@ use Rattle.afs_volrows.specs.VolRow.{holds_of}
 use Rattle.afs_volrows.specs.VolStates.{Sending, Transaction, VolState}
 use Rattle.afs_sendings.specs.Pieces.{calls_in, sendings_in, AreTo, Piece}
 use Rattle.afs_callbacks.specs.States.{CallbackState, IsPromiseToNode, IsToNodes}
-use Rattle.afs_server.specs.Seen.{lasting_of, KeepsForNodes}
 use Rattle.afs_volstore.specs.Stores.{Store}
+use Rattle.afs_sharing.specs.Lasting.{lasting_of, KeepsForNodes}
 
 -- its boot number and its callers; its transactions by their numbers, and the last number; the servers to which dumps go; the replies
 -- that wait; and for how many of these there is room, to wait, to go out and to wait on
@@ -73,7 +73,7 @@ pub record AreAlone (ts : Table Transaction) : Type 0 where
   pub ascend : AscendsFrom 1 ts
   pub alone : (n m : ℕ) (t u : Transaction) → get n ts ≡ Some t → get m ts ≡ Some u → t.volume ≡ u.volume → n ≡ m
 
--- What a volume server and its store keep together: the boot; that its calls go to nodes of the cell, with dumps that Forwards asked for;
+-- What a volume server and its store keep together: the boot; that its calls go to servers of the cell, with dumps that Forwards asked for;
 -- that each transaction is on a volume of the disk, no two on one, and that the store holds these volumes.
 pub record ServesVolumes {D : Type 0} (m : VolMemory) (s : Store D) : Type 0 where
   pub node : IsNode s.node
@@ -92,10 +92,8 @@ pub record StandsBeside {D : Type 0} (k : CallbackState) (s : Store D) : Type 0 
   pub nodes : IsToNodes s.node k
   pub promises : All IsPromiseToNode k.lists.promises
 
--- The numbers that are drawn in memory stand below four billion: those of the node's own calls, and those of owed breaks with the promises
--- that are held added to them.
-pub record CanDraw {D : Type 0} (k : CallbackState) (s : Store D) : Type 0 where
-  pub calls : s.drawn < 4000000000
+-- The numbers of owed breaks stand below four billion, with the promises that are held added to them.
+pub record CanDraw (k : CallbackState) : Type 0 where
   pub breaks : k.lists.last_owed + length k.lists.promises < 4000000000
 
 -- ---- room that is there before a step
@@ -113,6 +111,6 @@ HasRoom {D} m s = (length m.held < m.room) × (0 < s.holds.room)
 pub record CanStep {D : Type 0} (m : VolMemory) (k : CallbackState) (s : Store D) : Type 0 where
   pub serves : ServesVolumes m s
   pub beside : StandsBeside k s
-  pub draws : CanDraw k s
+  pub draws : CanDraw k
   pub room : HasRoom m s
   pub up : s.closed ≡ false

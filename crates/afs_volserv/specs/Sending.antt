@@ -8,8 +8,6 @@ use Rattle.afs_breaks.specs.declared.types.OwedBreak.{OwedBreak}
 use Rattle.afs_history.specs.declared.lines.Line.{Line}
 use Rattle.afs_rows.specs.Callbacks.{alls, is_ready}
 use Rattle.afs_rows.specs.States.{Held}
-use Rattle.afs_server.specs.Handling.{stand_of}
-use Rattle.afs_server.specs.Seen.{lasting_of}
 use Rattle.afs_server_parts.specs.Called.{call_to, known_to}
 use Rattle.afs_server_parts.specs.Ending.{IsPlan}
 use Rattle.afs_server_parts.specs.Turning.{sent_turns}
@@ -21,6 +19,8 @@ use Rattle.afs_volrows.specs.VolSteps.{answered_by, ends_sending, goes_on, held_
 use Rattle.afs_volstore.specs.Stores.{Store}
 use Rattle.afs_volserv.specs.Handling.{backs_then}
 use Rattle.afs_volserv.specs.Seen.{vol_seen, VolMemory}
+use Rattle.afs_sharing.specs.Stores.{stand_of}
+use Rattle.afs_sharing.specs.Lasting.{lasting_of}
 
 -- what comes of it that these messages go out, where the node's own calls are drawn up to this number
 abbrev pub IsSent : {D : Type 0} → ℕ → ℕ → List Message → CallbackState → Store D → Ended → Type 0

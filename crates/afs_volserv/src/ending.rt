@@ -2,7 +2,6 @@
 
 ghost use Rattle.std.specs.Prelude.{◌≡◌, ◌≤◌, IfOk};
 ghost use Rattle.afs_breaks.specs.Promises.{expired};
-ghost use Rattle.afs_server.specs.Handling.{stand_of};
 ghost use Rattle.afs_volserv.specs.Seen.{StandsBeside};
 ghost use Rattle.afs_volserv.specs.Sending.{IsSent};
 
@@ -12,26 +11,8 @@ use afs_history::lines::Outs;
 use afs_message::spelled::Sent;
 use afs_num::types::Mem;
 use afs_server_parts::ending::Ended;
-use afs_server_parts::turns::Stand;
+use afs_sharing::drawing::{draw, stand_at};
 use afs_volstore::VolStore;
-
-/// Who makes a step over this store, which has drawn its own calls up to this number.
-fn stand_at<D: Disk>(store: &VolStore<D>, last: u32) -> Stand
-    ensures { result ≡ record (stand_of store.now) { last = last } }
-{
-    Stand {
-        node: store.node(),
-        boot: store.boot_number(),
-        last,
-    }
-}
-
-/// Who makes a step over this store.
-pub(crate) fn stand<D: Disk>(store: &VolStore<D>) -> Stand
-    ensures { result ≡ stand_of store.now }
-{
-    stand_at(store, store.last_number())
-}
 
 /// What comes of it that these messages go out, where the node's own calls are drawn up to this number.
 pub(crate) fn plan_sent<D: Disk>(
@@ -47,17 +28,6 @@ pub(crate) fn plan_sent<D: Disk>(
     let stand = stand_at(store, last);
     let ended = callbacks.plan_beside(stand, sent, &[], now)?;
     Ok(ended)
-}
-
-/// Draws numbers of the node's own calls, up to this one.
-fn draw<D: Disk>(store: &mut VolStore<D>, last: u32)
-    requires { store.old.drawn ≤ last }
-    ensures { store.new ≡ record store.old { drawn = last } }
-{
-    let more = last - store.last_number();
-    for _ in 0..more {
-        store.next_number();
-    }
 }
 
 /// What is left of a step of promises and breaks. It takes no memory.

@@ -1,7 +1,6 @@
 //! Dumps go to other servers: a Forward begins, and its pieces are answered, or wait too long.
 
 ghost use Rattle.std.specs.Prelude.{◌≡◌, ◌≤◌, ◌+◌, ◌∷◌, [], Some, false, true, IfOk, OnErr, OnOk};
-ghost use Rattle.afs_num.specs.Nodes.{IsNode};
 ghost use Rattle.afs_num.specs.declared.types.Node.TheVariants as nodes;
 ghost use Rattle.afs_breaks.specs.Promises.{expired};
 ghost use Rattle.afs_model.specs.Calls.{call_seat, finished, is_sent_again, paired, runs, started};
@@ -9,17 +8,17 @@ ghost use Rattle.afs_model.specs.Heads.{IsSoundHead};
 ghost use Rattle.afs_rows.specs.Callbacks.{timeout_line};
 ghost use Rattle.afs_rows.specs.ServerRow.{key_of};
 ghost use Rattle.afs_shape.specs.Tables.{IsServer};
-ghost use Rattle.afs_server.specs.Answering.{IsToRun};
 ghost use Rattle.afs_server_parts.specs.Called.{call_to};
-ghost use Rattle.afs_sendings.specs.Pieces.{adds, call_seen, ends, ends_with, renews, retries, starts, way_of, AreTo};
+ghost use Rattle.afs_sendings.specs.Pieces.{adds, call_seen, ends, ends_with, renews, retries, starts, way_of, AreTo, IsServerNode};
 ghost use Rattle.afs_sendings.specs.Sendings.{first_of, rest_of};
 ghost use Rattle.afs_voldecisions.specs.Verdicts.{dispatch_of};
 ghost use Rattle.afs_volrows.specs.VolSteps.{dispatches, forward_reply, given_up, is_awaited, moved_on, sending_of, sent_whole};
 ghost use Rattle.afs_volserv.specs.Handling.{vol_answered_then, vol_noticed_then, vol_timed_then, vol_turn_then, StepsVolumes};
 ghost use Rattle.afs_volserv.specs.Seen.{ServesVolumes, StandsBeside};
 ghost use Rattle.afs_volserv.specs.Sending.{answered_then, ended_then, heard_by, is_heard, renewed_then, way_before, went_then, IsSent};
+ghost use Rattle.afs_sharing.specs.Callers.{IsToRun};
 
-use crate::ending::{keep_at, plan_sent, stand};
+use crate::ending::{keep_at, plan_sent};
 use crate::server::VolServer;
 use afs_call::{LAST_TIMEOUT, Timeout, timed_out};
 use afs_callbacks::Callbacks;
@@ -33,6 +32,7 @@ use afs_server_parts::callees::find_call;
 use afs_server_parts::ending::Ended;
 use afs_server_parts::replies::key;
 use afs_server_parts::telling::tell_timeout;
+use afs_sharing::drawing::stand;
 use afs_voldecisions::replies::{answered, forwarded};
 use afs_voldecisions::verdicts::Dispatch;
 use afs_volstore::VolStore;
@@ -67,7 +67,7 @@ fn has_ended(first: &Sending, code: i32) -> bool
 fn server_node(server: u32) -> Node
     requires { IsServer server }
     ensures value { result ≡ nodes.Server server }
-    ensures node { IsNode result }
+    ensures node { IsServerNode result }
 {
     Node::Server(server as u8)
 }
@@ -249,7 +249,7 @@ impl VolServer {
         reply: &SpelledMessage,
     ) -> Mem<Pieces>
         requires serves { ServesVolumes self.now store.now }
-        requires callee { IsNode node }
+        requires callee { IsServerNode node }
         ensures way { IfOk result (λ p. way_of p ≡ ends store.now.node store.now.durable.boot node (rest_of call.now.content) reply.now (way_before self.now store.now)) }
         ensures to { IfOk result (λ p. AreTo (call_to p.callees.items)) }
     {
@@ -296,7 +296,7 @@ impl VolServer {
         first: &Sending,
     ) -> Mem<Pieces>
         requires serves { ServesVolumes self.now store.now }
-        requires callee { IsNode node }
+        requires callee { IsServerNode node }
         requires first { first_of call.now.content ≡ Some first.now }
         requires whole { sent_whole first.now ≡ false }
         ensures way { IfOk result (λ p. way_of p ≡ starts store.now.node store.now.durable.boot node (moved_on first.now ∷ rest_of call.now.content) (way_before self.now store.now)) }
@@ -386,7 +386,7 @@ impl VolServer {
         first: &Sending,
     ) -> Mem<Pieces>
         requires serves { ServesVolumes self.now store.now }
-        requires callee { IsNode node }
+        requires callee { IsServerNode node }
         ensures way { IfOk result (λ p. way_of p ≡ renews store.now.node store.now.durable.boot node known call.now first.now (way_before self.now store.now)) }
         ensures to { IfOk result (λ p. AreTo (call_to p.callees.items)) }
     {
@@ -448,7 +448,7 @@ impl VolServer {
         tries: u32,
     ) -> Mem<Pieces>
         requires serves { ServesVolumes self.now store.now }
-        requires callee { IsNode node }
+        requires callee { IsServerNode node }
         requires tries { tries ≡ call.now.tries + 1 }
         ensures way { IfOk result (λ p. way_of p ≡ retries store.now.node store.now.durable.boot node call.now first.now (way_before self.now store.now)) }
         ensures to { IfOk result (λ p. AreTo (call_to p.callees.items)) }

@@ -20,12 +20,13 @@ ghost use Rattle.afs_records.specs.Records.{record_bytes, FitsRecord};
 ghost use Rattle.afs_rows.specs.States.{ServerState};
 ghost use Rattle.afs_volrows.specs.VolSteps.{drops, vol_begun_after, vol_called, vol_device_calls, VolDecision};
 ghost use Rattle.afs_volstore.specs.Stores.{LeftAround};
-ghost use Rattle.afs_server.specs.Handling.{IsDone, IsQuiet, IsWritten, RanOn};
-ghost use Rattle.afs_server.specs.Seen.{lasting_of};
 ghost use Rattle.afs_server_parts.specs.declared.faults.NodeFault.TheVariants as faults;
 ghost use Rattle.afs_volserv.specs.Deciding.{call_in, decision_of, full_then, leaves_disk, CanBeDone, IsAskedBy, IsOfCaller, Runs};
 ghost use Rattle.afs_volserv.specs.Handling.{vol_answered_then, vol_calls_served, vol_decided, vol_decided_then, vol_noticed_then, vol_record, vol_turn_then, vol_turned_by, vol_turned_then, DrawsFew, HandlesVolumes, StaysInOrder, StepsVolumes, TookVolumes};
 ghost use Rattle.afs_volserv.specs.Seen.{durable_seen, vol_seen, CanDraw, CanStep, HasRoom, ServesVolumes, StandsBeside};
+ghost use Rattle.afs_sharing.specs.Stores.{IsDone, LeavesPrepared};
+ghost use Rattle.afs_saving.specs.Saving.{IsQuiet, IsWritten, Ran};
+ghost use Rattle.afs_sharing.specs.Lasting.{lasting_of};
 
 use crate::decided::Decided;
 use crate::deciding::CALLS;
@@ -315,9 +316,9 @@ impl VolServer {
     }
 
     /// What the server does with one message, at this time in ticks. It isn't told the message's place in the run, and leaves out the line
-    /// of that. A step makes at most one record. Replies that waited for breaks go out behind it, by `release`. Where memory was wanting, a
-    /// record may be left prepared, which does nothing: who commits prepares first. A server that goes down is to be thrown away: its disk
-    /// keeps what it kept before the step, or what it keeps after it.
+    /// of that. A step makes at most one record. Replies that waited for breaks go out behind it, by `release`. Where memory was wanting, the
+    /// step's record may be left prepared, which does nothing: a step commits what it prepared itself. A server that goes down is to be thrown
+    /// away: its disk keeps what it kept before the step, or what it keeps after it.
     pub fn handle<D: Disk>(
         &mut self,
         store: &mut VolStore<D>,
@@ -327,7 +328,7 @@ impl VolServer {
     ) -> Result<Outs, NodeFault>
         requires serves { ServesVolumes self.old store.old }
         requires beside { StandsBeside callbacks.old store.old }
-        requires draws { CanDraw callbacks.old store.old }
+        requires draws { CanDraw callbacks.old }
         requires room { HasRoom self.old store.old }
         requires up { store.old.closed ≡ false }
         ensures step { HandlesVolumes (vol_turned_then self.old callbacks.old store.old now bytes.now) self.old self.new callbacks.old callbacks.new store.old store.new result }
@@ -342,6 +343,9 @@ impl VolServer {
 
         ensures store { OnOk result (store.new ≡ record store.old { durable = store.new.durable; disk = store.new.disk; prepared = store.new.prepared; count = store.new.count; drawn = store.new.drawn; holds = store.new.holds }) }
         ensures kept { OnOk result (IsDone (vol_record (vol_decided_then self.old store.old bytes.now)) store.old store.new) }
+
+        // It leaves no record prepared but what was there before: one that it writes is no more, and only want of memory may leave it.
+        ensures prepared { LeavesPrepared (vol_record (vol_decided_then self.old store.old bytes.now)) store.old store.new result }
 
         // Where the disk fails, what may be left with the record is what the row leaves behind it, whatever the file server's state besides.
         ensures down { IsErrOf result faults.Down → vol_record (vol_decided_then self.old store.old bytes.now) ≡ None → ⊥ }
@@ -371,7 +375,7 @@ impl VolServer {
         ensures most { CallsAtMost 4 D.Disk store.old.disk store.new.disk }
         ensures limit { D.limit store.new.disk ≡ D.limit store.old.disk }
         ensures calls { OnOk result (D.calls store.new.disk ≡ D.calls store.old.disk + vol_device_calls (durable_seen store.old) (vol_decided_then self.old store.old bytes.now)) }
-        ensures ran { RanOn D.Disk store.old.disk store.new.disk result }
+        ensures ran { Ran D.Disk store.old.disk store.new.disk result }
         ensures setting { D.setting store.new.disk ≡ D.setting store.old.disk }
     {
         self.take_bytes(store, callbacks, bytes, now)

@@ -50,8 +50,8 @@ fn hold_all<D: Disk>(store: &mut VolStore<D>, later: &[(u32, Transaction)])
     }
 }
 
-/// The volumes of the former transactions are held no more, and those of the later ones are. At most one of these is new, for which there
-/// is room. It takes no memory.
+/// The volumes of the former transactions are held no more, and those of the later ones are. There is at most one more of these, for which
+/// there is room. It takes no memory.
 pub(crate) fn hold_instead<D: Disk>(
     store: &mut VolStore<D>,
     former: &Transactions,

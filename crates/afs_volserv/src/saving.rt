@@ -18,10 +18,7 @@ ghost use Rattle.afs_records.specs.Durable.{has_room};
 ghost use Rattle.afs_records.specs.Records.{may_call, row, FitsRecord};
 ghost use Rattle.afs_rows.specs.Callbacks.{owe_line};
 ghost use Rattle.afs_rows.specs.ServerRow.{key_of};
-ghost use Rattle.afs_xdr.specs.Words.{AreWords};
 ghost use Rattle.afs_shape.specs.Rows.{IsWithin};
-ghost use Rattle.afs_server.specs.Answering.{IsToRun};
-ghost use Rattle.afs_server.specs.Putting.{Commits, OnDisk, Prepares};
 ghost use Rattle.afs_server_parts.specs.declared.faults.NodeFault.TheVariants as faults;
 ghost use Rattle.afs_volrows.specs.VolSteps.{is_vol_caller, written};
 ghost use Rattle.afs_volserv.specs.Deciding.{deed_of, full_for, CanBeSaved, IsMadeThere};
@@ -31,9 +28,11 @@ ghost use Rattle.afs_volserv.specs.Seen.{durable_seen, vol_seen, CanDraw, HasRoo
 ghost use Rattle.afs_voldecisions.specs.Replies.{CanAnswer};
 ghost use Rattle.afs_voldecisions.specs.Verdicts.{HasForm};
 ghost use Rattle.afs_volstore.specs.Stores.{IsNoChange};
+ghost use Rattle.afs_sharing.specs.Callers.{IsToRun};
+ghost use Rattle.afs_sharing.specs.Stores.{OnDisk, Prepares};
 
 use crate::decided::Saving;
-use crate::ending::{keep, stand};
+use crate::ending::keep;
 use crate::holding::hold_instead;
 use crate::server::VolServer;
 use afs_breaks::types::OwedBreak;
@@ -52,6 +51,9 @@ use afs_server_parts::faults::NodeFault;
 use afs_server_parts::held::HeldReply;
 use afs_server_parts::replies::key;
 use afs_server_parts::telling::tell_owed;
+use afs_server_parts::words::are_words;
+use afs_sharing::committing::commit;
+use afs_sharing::drawing::stand;
 use afs_voldecisions::replies::answered;
 use afs_voldecisions::transactions::Transactions;
 use afs_volstore::VolStore;
@@ -115,13 +117,6 @@ impl Planned {
         drop(rec);
         (reply, waits, ended, withdraws, transactions)
     }
-}
-
-/// Each number is a word.
-fn are_words(numbers: &[u32])
-    ensures { AreWords numbers.now }
-{
-    let _ = numbers.len();
 }
 
 /// A record can keep a reply of this length. Each reply is so short.
@@ -190,20 +185,6 @@ fn prepare<D: Disk>(store: &mut VolStore<D>, rec: &StoreRecord, made: Option<Vol
     }
 }
 
-/// Puts the prepared record on the disk.
-fn commit<D: Disk>(store: &mut VolStore<D>) -> Result<(), NodeFault>
-    requires prepared { IsSome store.old.prepared }
-    requires fits { (r : records.StoreRecord) → store.old.prepared ≡ Some r → FitsRecord r }
-    requires up { store.old.closed ≡ false }
-    ensures commits { (r : records.StoreRecord) → store.old.prepared ≡ Some r → Commits r store.old store.new result }
-    ensures disk { (r : records.StoreRecord) → store.old.prepared ≡ Some r → OnDisk D.Disk (Some r) store.old.durable store.old.disk store.new.disk result }
-{
-    match store.commit() {
-        Ok(()) => Ok(()),
-        Err(_) => Err(NodeFault::Down),
-    }
-}
-
 /// The lines of the step: what the prepared record tells, and the breaks that become owed.
 fn told<D: Disk>(store: &VolStore<D>, breaks: &[OwedBreak]) -> Mem<Lines>
     requires { IsSome store.now.prepared }
@@ -264,7 +245,7 @@ impl VolServer {
     ) -> Mem<(Planned, Option<Volume>)>
         requires serves { ServesVolumes self.now store.now }
         requires beside { StandsBeside callbacks.now store.now }
-        requires draws { CanDraw callbacks.now store.now }
+        requires draws { CanDraw callbacks.now }
         requires head { IsSoundHead head.now }
         requires caller { is_vol_caller head.now.from ≡ true }
         requires answer { CanAnswer head.now.opcode saving.answer }
@@ -406,7 +387,7 @@ impl VolServer {
     ) -> Result<Outs, NodeFault>
         requires serves { ServesVolumes self.old store.old }
         requires beside { StandsBeside callbacks.old store.old }
-        requires draws { CanDraw callbacks.old store.old }
+        requires draws { CanDraw callbacks.old }
         requires room { HasRoom self.old store.old }
         requires up { store.old.closed ≡ false }
         requires head { IsSoundHead head.now }

@@ -1,8 +1,9 @@
 use Rattle.std.proofs.Common.{◌≡◌, ◌<◌, rules, arith, List, map, ap, sym, subst, ◌∙◌}
 use Rattle.std.proofs.lemmas.List.{take_all}
 use Rattle.afs_rows.specs.States.{Seat}
-use Rattle.afs_locdb.specs.Seen.{seat_kept, seats_after, CanFollow}
-use Rattle.afs_locdb.proofs.Kept.{can_follow, few_kept, known_to_nodes, next_after}
+use Rattle.afs_locdb.proofs.Kept.{known_to_nodes}
+use Rattle.afs_saving.specs.Kept.{seat_kept, seats_after, CanFollow}
+use Rattle.afs_saving.proofs.Kept.{can_follow, few_kept, next_after}
 use Rattle.afs_locdb.proofs.restarting.callers_kept.Goals as goal
 
 pub keep_found-requires : goal.keep_found-requires

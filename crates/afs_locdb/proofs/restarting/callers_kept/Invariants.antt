@@ -1,6 +1,6 @@
 use Rattle.std.proofs.Common.{◌≡◌, ◌<◌, map, take}
-use Rattle.afs_locdb.specs.Seen.{seat_kept}
-use Rattle.afs_locdb.proofs.Kept.{AreSeated}
+use Rattle.afs_saving.specs.Kept.{seat_kept}
+use Rattle.afs_saving.proofs.Kept.{AreSeated}
 use Rattle.afs_locdb.proofs.restarting.callers_kept.Given as goal
 
 abbrev pub invariant-loop-place : goal.invariant-loop-place

@@ -7,9 +7,9 @@ use Rattle.afs_shelves.specs.Shelving.{is_new_in, stored_as}
 use Rattle.afs_volrows.specs.FileRow.{closed_code, file_sight}
 use Rattle.afs_ideal.specs.Operations.{the_user}
 use Rattle.afs_server.specs.Handling.{holds_seen}
-use Rattle.afs_server.specs.Seen.{lasting_of}
 use Rattle.afs_decisions.specs.Several.{IsRefused}
 use Rattle.afs_decisions.proofs.Sights.{closed_sees, missing_sees, open_sees}
+use Rattle.afs_sharing.specs.Lasting.{lasting_of}
 use Rattle.afs_server.proofs.several.see.Goals as goal
 
 pub returns-in-None : goal.returns-in-None

@@ -5,10 +5,10 @@ use Rattle.afs_ideal.specs.Tables.{get}
 use Rattle.afs_num.specs.declared.types.Fid.{Fid}
 use Rattle.afs_volrows.specs.FileRow.{file_sight, file_sights}
 use Rattle.afs_server.specs.Handling.{holds_seen}
-use Rattle.afs_server.specs.Seen.{lasting_of}
 use Rattle.afs_decisions.specs.Several.{AreFirst, IsFault, SeesAll, TellsOne}
 use Rattle.afs_volume.proofs.Walked.{from_place}
 use Rattle.afs_decisions.proofs.Sights.{all_first, fault_first, next_first, none_first}
+use Rattle.afs_sharing.specs.Lasting.{lasting_of}
 use Rattle.afs_server.proofs.several.see_all.Goals as goal
 
 pub loop-fid-init : goal.loop-fid-init

@@ -3,8 +3,8 @@ use Rattle.afs_ideal.specs.Operations.{the_user}
 use Rattle.afs_ideal.specs.Tables.{get}
 use Rattle.afs_volrows.specs.FileRow.{file_sight}
 use Rattle.afs_server.specs.Handling.{holds_seen}
-use Rattle.afs_server.specs.Seen.{lasting_of}
 use Rattle.afs_decisions.proofs.Sights.{tells_one}
+use Rattle.afs_sharing.specs.Lasting.{lasting_of}
 use Rattle.afs_server.proofs.several.see_next.Goals as goal
 
 pub returns : goal.returns

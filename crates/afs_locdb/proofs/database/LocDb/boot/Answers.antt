@@ -8,8 +8,9 @@ use Rattle.afs_store.specs.Stores.{LeftAround, Stands}
 use Rattle.afs_locstore.specs.LocFold.{loc_fold}
 use Rattle.afs_rows.specs.States.{Seat}
 use Rattle.afs_locdb.specs.Saving.{LocStoreOf}
-use Rattle.afs_locdb.specs.Seen.{seat_kept, Database}
+use Rattle.afs_locdb.specs.Seen.{Database}
 use Rattle.afs_locdb.proofs.Started.{boots, next_is, revived, store_started, was_below}
+use Rattle.afs_saving.specs.Kept.{seat_kept}
 use Rattle.afs_locdb.proofs.database.LocDb.boot.Goals as goal
 
 pub returns-clause-started : goal.returns-clause-started

@@ -2,7 +2,7 @@ use Rattle.std.proofs.Common.{refl}
 use Rattle.afs_model.specs.Messages.{received_by}
 use Rattle.afs_locdb.specs.Handling.{loc_calls_served, loc_decided_then}
 use Rattle.afs_locdb.specs.Seen.{loc_seen}
-use Rattle.afs_locdb.proofs.Wholly.{called_after, done_after, left_down, serves_after, some_down, step_at, store_after, told_after}
+use Rattle.afs_locdb.proofs.Wholly.{called_after, done_after, left_down, serves_after, some_down, step_at, store_after, told_after, prepared_after}
 use Rattle.afs_locdb.proofs.database.LocDb.handle.Goals as goal
 
 pub returns-clause-step : goal.returns-clause-step
@@ -20,6 +20,9 @@ returns-clause-store g c = store_after (loc_decided_then c.args.self.now c.args.
 
 pub returns-clause-kept : goal.returns-clause-kept
 returns-clause-kept g c = done_after (loc_decided_then c.args.self.now c.args.bytes.now) c.args.self.now c.take_bytes.new.self c.take_bytes.result c.take_bytes.ensures.does
+
+pub returns-clause-prepared : goal.returns-clause-prepared
+returns-clause-prepared g c = prepared_after (loc_decided_then c.args.self.now c.args.bytes.now) c.args.self.now c.take_bytes.new.self c.take_bytes.result c.take_bytes.ensures.does
 
 pub returns-clause-down : goal.returns-clause-down
 returns-clause-down g c = some_down (loc_decided_then c.args.self.now c.args.bytes.now) c.args.self.now c.take_bytes.new.self c.take_bytes.result c.take_bytes.ensures.does

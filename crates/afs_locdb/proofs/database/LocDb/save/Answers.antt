@@ -6,7 +6,7 @@ use Rattle.afs_records.specs.LocRecords.{LocRecord}
 use Rattle.afs_rows.specs.LocRow.{roomed}
 use Rattle.afs_rows.specs.ServerRow.{refusal}
 use Rattle.afs_locdb.specs.Handling.{loc_record_decided}
-use Rattle.afs_locdb.specs.Saving.{IsChangeOf, LocStoreOf, Puts}
+use Rattle.afs_locdb.specs.Saving.{IsChangeOf, LocStoreOf, OnDisk, Puts}
 use Rattle.afs_locdb.specs.Handling.{Answers}
 use Rattle.afs_locdb.specs.Seen.{loc_seen, lasting_of, Database, IsInBoot}
 use Rattle.afs_server_parts.specs.declared.faults.NodeFault.{NodeFault}
@@ -15,7 +15,8 @@ use Rattle.afs_locdb.proofs.Kept.{known_to_nodes}
 use Rattle.afs_locdb.proofs.OnDisks.{disk_all}
 use Rattle.afs_locdb.proofs.Saved.{can, folds}
 use Rattle.afs_locdb.proofs.Saves.{does_all, in_store, is_besides, placed_in, wanting, was_prepared}
-use Rattle.afs_locdb.proofs.Still.{is_still, out_of_memory, same_counts, same_disk, OfDisk}
+use Rattle.afs_saving.proofs.Still.{is_still, out_of_memory, same_counts, same_disk}
+use Rattle.afs_locstore.specs.LocFold.{loc_fold}
 use Rattle.afs_locdb.proofs.database.LocDb.save.Goals as goal
 
 pub prepare-requires-clause-taken : goal.prepare-requires-clause-taken
@@ -58,8 +59,8 @@ pub returns-in_err-planned-clause-disk : goal.returns-in_err-planned-clause-disk
 returns-in_err-planned-clause-disk g c =
     let s = c.args.self.now.store in
     let decided = loc_record_decided s.durable.boot (roomed (loc_seen c.args.self.now) c.args.head.now c.args.change) in
-    subst (λ (r : Result Outs NodeFault). OfDisk g.D.Disk decided s.durable s.disk s.disk r) (sym (out_of_memory c.from_residual.result c.from_residual.ensures.1))
-    (is_still g.D.Disk decided s.durable s.disk s.disk (Err nodes.OutOfMemory) tt (same_disk g.D.Disk s.disk) (same_counts g.D.Disk s.disk))
+    subst (λ (r : Result Outs NodeFault). OnDisk g.D.Disk decided s.durable s.disk s.disk r) (sym (out_of_memory c.from_residual.result c.from_residual.ensures.1))
+    (is_still loc_fold g.D.Disk decided s.durable s.disk s.disk (Err nodes.OutOfMemory) tt (same_disk g.D.Disk s.disk) (same_counts g.D.Disk s.disk))
 
 pub returns-in_err-room-clause-does : goal.returns-in_err-room-clause-does
 returns-in_err-room-clause-does g c =
@@ -73,8 +74,8 @@ returns-in_err-room-clause-disk g c =
     let s = c.args.self.now.store in
     let mid = c.prepare.new.self.store in
     let decided = loc_record_decided s.durable.boot (roomed (loc_seen c.args.self.now) c.args.head.now c.args.change) in
-    subst (λ (r : Result Outs NodeFault). OfDisk g.D.Disk decided s.durable s.disk mid.disk r) (sym (out_of_memory c.from_residual-in_err-room.result c.from_residual-in_err-room.ensures.1))
-    (is_still g.D.Disk decided s.durable s.disk mid.disk (Err nodes.OutOfMemory) tt c.in_err-room.ensures.disk c.in_err-room.ensures.counts)
+    subst (λ (r : Result Outs NodeFault). OnDisk g.D.Disk decided s.durable s.disk mid.disk r) (sym (out_of_memory c.from_residual-in_err-room.result c.from_residual-in_err-room.ensures.1))
+    (is_still loc_fold g.D.Disk decided s.durable s.disk mid.disk (Err nodes.OutOfMemory) tt c.in_err-room.ensures.disk c.in_err-room.ensures.counts)
 
 pub returns-clause-does : goal.returns-clause-does
 returns-clause-does g c =

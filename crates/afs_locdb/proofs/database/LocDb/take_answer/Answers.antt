@@ -4,7 +4,7 @@ use Rattle.afs_history.specs.declared.lines.Outs.{Outs}
 use Rattle.afs_locdb.specs.Deciding.{decision_of}
 use Rattle.afs_locdb.specs.Handling.{loc_record_decided}
 use Rattle.afs_locdb.specs.Seen.{loc_seen}
-use Rattle.afs_locdb.proofs.Still.{out_of_memory}
+use Rattle.afs_saving.proofs.Still.{out_of_memory}
 use Rattle.afs_locdb.proofs.Wholly.{answered_disk, made_none, none_made, none_recorded, wanting_disk}
 use Rattle.afs_locdb.proofs.database.LocDb.take_answer.Goals as goal
 

@@ -5,7 +5,7 @@ use Rattle.afs_rows.specs.LocRow.{loc_decides}
 use Rattle.afs_locdb.specs.Handling.{loc_decided_then, loc_record_decided, loc_record_then}
 use Rattle.afs_locdb.specs.Saving.{DoesAll, OnDisk}
 use Rattle.afs_locdb.specs.Seen.{loc_seen}
-use Rattle.afs_locdb.proofs.Still.{out_of_memory}
+use Rattle.afs_saving.proofs.Still.{out_of_memory}
 use Rattle.afs_locdb.proofs.Wholly.{none_made, wanting_disk}
 use Rattle.afs_locdb.proofs.database.LocDb.take_bytes.Goals as goal
 

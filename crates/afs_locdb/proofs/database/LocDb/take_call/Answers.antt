@@ -4,7 +4,7 @@ use Rattle.afs_rows.specs.LocRow.{called, LocDecision}
 use Rattle.afs_locdb.specs.Handling.{loc_record_decided}
 use Rattle.afs_locdb.specs.Saving.{DoesAll, OnDisk}
 use Rattle.afs_locdb.specs.Seen.{loc_seen}
-use Rattle.afs_locdb.proofs.Still.{out_of_memory}
+use Rattle.afs_saving.proofs.Still.{out_of_memory}
 use Rattle.afs_locdb.proofs.Wholly.{none_made, wanting_disk}
 use Rattle.afs_locdb.proofs.database.LocDb.take_call.Goals as goal
 

@@ -5,7 +5,7 @@ use Rattle.afs_history.specs.declared.lines.Outs.{Outs}
 use Rattle.afs_server_parts.specs.Called.{call_to}
 use Rattle.afs_server_parts.specs.declared.faults.NodeFault.{NodeFault}
 use Rattle.afs_server_parts.specs.declared.faults.NodeFault.TheVariants as faults
-use Rattle.afs_server.proofs.Still.{handed_up, out_of_memory}
+use Rattle.afs_saving.proofs.Still.{handed_up, out_of_memory}
 use Rattle.afs_callbacks.specs.States.{CallbackState}
 use Rattle.afs_sendings.specs.Pieces.{call_seen}
 use Rattle.afs_volserv.specs.Handling.{vol_timed_then, HandlesVolumes}

@@ -31,6 +31,7 @@ returns-clause-leaves g c =
       down = e.down;
       interrupted = e.interrupted;
       effects = e.effects;
+      prepared = e.prepared;
       called = e.calls;
       disk = record {
         told = e.told;

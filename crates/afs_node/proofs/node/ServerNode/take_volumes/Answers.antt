@@ -15,7 +15,7 @@ pub handle-requires-clause-beside : goal.handle-requires-clause-beside
 handle-requires-clause-beside g c = subst (λ (l : CallbackState). StandsBeside l c.args.store.now) (sym c.callbacks_mut.ensures.value) (stands_beside c.args.self.now c.args.store.now c.requires.serves)
 
 pub handle-requires-clause-draws : goal.handle-requires-clause-draws
-handle-requires-clause-draws g c = subst (λ (l : CallbackState). CanDraw l c.args.store.now) (sym c.callbacks_mut.ensures.value) (record { calls = c.requires.draws.calls; breaks = c.requires.draws.breaks })
+handle-requires-clause-draws g c = subst CanDraw (sym c.callbacks_mut.ensures.value) (record { breaks = c.requires.draws.breaks })
 
 pub returns-clause-step : goal.returns-clause-step
 returns-clause-step g c = λ place.
@@ -46,6 +46,7 @@ returns-clause-leaves g c =
       down = e.down;
       interrupted = λ down r is d takes. e.interrupted down r is d takes (server_seen m.file s) refl;
       effects = λ r written ls. e.effects r written (server_seen m.file s) refl ls;
+      prepared = e.prepared;
       called = e.calls;
       disk = record {
         told = e.told;

@@ -4,7 +4,7 @@ use Rattle.afs_num.specs.declared.types.Parcel.{Parcel}
 use Rattle.afs_history.specs.declared.lines.Outs.{Outs}
 use Rattle.afs_server_parts.specs.declared.faults.NodeFault.{NodeFault}
 use Rattle.afs_server_parts.specs.declared.faults.NodeFault.TheVariants as faults
-use Rattle.afs_server.proofs.Still.{handed_up, out_of_memory}
+use Rattle.afs_saving.proofs.Still.{handed_up, out_of_memory}
 use Rattle.afs_volrows.specs.VolSteps.{node_wake_row}
 use Rattle.afs_node.specs.Handling.{HandlesNode}
 use Rattle.afs_node.specs.Seen.{node_seen}

@@ -10,9 +10,10 @@ use Rattle.afs_callbacks.specs.States.{CallbackState}
 use Rattle.afs_callbacks.proofs.Granting.{given_up_owed, given_up_to_nodes}
 use Rattle.afs_callbacks.proofs.Lasting.{lasting_promised}
 use Rattle.afs_callbacks.proofs.Planned.{answer_drawn}
-use Rattle.afs_server.specs.Handling.{server_seen, stand_of}
+use Rattle.afs_server.specs.Handling.{server_seen}
 use Rattle.afs_server.specs.Seen.{backs_seen, callbacks_of, Memory}
 use Rattle.afs_server.proofs.Making.{as_planned, replied_in, steps, to_nodes}
+use Rattle.afs_sharing.specs.Stores.{stand_of}
 use Rattle.afs_server.proofs.server.FileServer.give_up.Goals as goal
 
 pub plan_given_up-requires-clause-nodes : goal.plan_given_up-requires-clause-nodes

@@ -6,7 +6,7 @@ use Rattle.afs_rows.specs.Callbacks.{turned_in}
 use Rattle.afs_rows.specs.ServerRow.{device_calls}
 use Rattle.afs_volrows.specs.FileRow.{file_decides}
 use Rattle.afs_server.specs.Handling.{calls_served, holds_seen, server_seen}
-use Rattle.afs_server.proofs.Wholly.{calls_decided, called_after, done_after, draws_after, left_down, serves_after, some_down, step_at, store_after, told_after}
+use Rattle.afs_server.proofs.Wholly.{calls_decided, called_after, done_after, draws_after, left_down, serves_after, some_down, step_at, store_after, told_after, prepared_after}
 use Rattle.afs_server.proofs.server.FileServer.handle.Goals as goal
 
 pub returns-clause-step : goal.returns-clause-step
@@ -33,6 +33,13 @@ returns-clause-kept g c =
     let d = file_decides s.node (holds_seen s) (server_seen c.args.self.now s) c.args.now (received_by calls_served c.args.bytes.now) in
     let turn = turned_in s.node (server_seen c.args.self.now s) c.args.now (row.expired c.args.now (server_seen c.args.self.now s).backs) d (received_by calls_served c.args.bytes.now) in
     done_after c.args.now d turn c.args.self.now c.take_bytes.new.self s c.take_bytes.new.store c.take_bytes.result c.take_bytes.ensures.took.does
+
+pub returns-clause-prepared : goal.returns-clause-prepared
+returns-clause-prepared g c =
+    let s = c.args.store.now in
+    let d = file_decides s.node (holds_seen s) (server_seen c.args.self.now s) c.args.now (received_by calls_served c.args.bytes.now) in
+    let turn = turned_in s.node (server_seen c.args.self.now s) c.args.now (row.expired c.args.now (server_seen c.args.self.now s).backs) d (received_by calls_served c.args.bytes.now) in
+    prepared_after c.args.now d turn c.args.self.now c.take_bytes.new.self s c.take_bytes.new.store c.take_bytes.result c.take_bytes.ensures.took.does
 
 pub returns-clause-draws : goal.returns-clause-draws
 returns-clause-draws g c =

@@ -5,9 +5,10 @@ use Rattle.afs_server_parts.specs.Ending.{IsPlanOf}
 use Rattle.afs_server_parts.specs.declared.turns.Stand.{Stand}
 use Rattle.afs_callbacks.specs.States.{backs_by, CallbackState}
 use Rattle.afs_callbacks.proofs.Lasting.{lasting_promised}
-use Rattle.afs_server.specs.Handling.{server_seen, stand_of}
+use Rattle.afs_server.specs.Handling.{server_seen}
 use Rattle.afs_server.specs.Seen.{backs_seen}
 use Rattle.afs_server.proofs.Making.{as_planned, steps, to_nodes}
+use Rattle.afs_sharing.specs.Stores.{stand_of}
 use Rattle.afs_server.proofs.server.FileServer.pass.Goals as goal
 
 pub plan_wake-requires : goal.plan_wake-requires

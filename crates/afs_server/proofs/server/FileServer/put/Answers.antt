@@ -20,7 +20,9 @@ use Rattle.afs_server_parts.specs.declared.faults.NodeFault.TheVariants as nodes
 use Rattle.afs_promise.specs.Found.{without_found}
 use Rattle.afs_callbacks.proofs.Found.{found_held, found_then, found_withdrawn}
 use Rattle.afs_callbacks.proofs.Holding.{all_few}
-use Rattle.afs_server.proofs.Still.{handed_up, is_still, out_of_memory, same_counts, same_disk, with_fault, with_value, OfDisk}
+use Rattle.afs_saving.proofs.Still.{handed_up, is_still, out_of_memory, same_counts, same_disk, with_fault, with_value}
+use Rattle.afs_volstore.specs.VolumeFold.{volume_fold}
+use Rattle.afs_sharing.specs.Stores.{OnDisk}
 use Rattle.afs_server.proofs.server.FileServer.put.Goals as goal
 
 some_is : {A : Type 0} (x y : A) → ◌≡◌ {A = Option A} (Some x) (Some y) → x ≡ y
@@ -113,26 +115,26 @@ returns-clause-disk g c =
     let store : c.keep-outs.new.store ≡ record c.commit.new.store { drawn = c.into_rest-ended.result.0.last } = c.keep-outs.ensures.store in
     let disk = ap (λ (u : Store g.row.D.Denot). u.disk) store in
     let told = c.in_ok-commit.ensures.disk p.rec c.requires.prepared in
-    subst (λ (x : g.row.D.Denot). OfDisk g.D.Disk (Some p.rec) s.durable s.disk x (Ok c.keep-outs.result)) (sym disk)
-    (with_value g.D.Disk (Some p.rec) s.durable s.disk c.commit.new.store.disk tt c.keep-outs.result told)
+    subst (λ (x : g.row.D.Denot). OnDisk g.D.Disk (Some p.rec) s.durable s.disk x (Ok c.keep-outs.result)) (sym disk)
+    (with_value volume_fold g.D.Disk (Some p.rec) s.durable s.disk c.commit.new.store.disk tt c.keep-outs.result told)
 
 pub returns-in_err-reserve-clause-disk : goal.returns-in_err-reserve-clause-disk
 returns-in_err-reserve-clause-disk g c =
     let s = c.args.store.now in
     let is = out_of_memory c.from_residual.result c.from_residual.ensures.1 in
-    subst (λ (r : Result Outs NodeFault). OfDisk g.D.Disk (Some c.args.planned.rec) s.durable s.disk s.disk r) (sym is)
-    (is_still g.D.Disk (Some c.args.planned.rec) s.durable s.disk s.disk (Err nodes.OutOfMemory) tt (same_disk g.D.Disk s.disk) (same_counts g.D.Disk s.disk))
+    subst (λ (r : Result Outs NodeFault). OnDisk g.D.Disk (Some c.args.planned.rec) s.durable s.disk s.disk r) (sym is)
+    (is_still volume_fold g.D.Disk (Some c.args.planned.rec) s.durable s.disk s.disk (Err nodes.OutOfMemory) tt (same_disk g.D.Disk s.disk) (same_counts g.D.Disk s.disk))
 
 pub returns-in_err-grant-clause-disk : goal.returns-in_err-grant-clause-disk
 returns-in_err-grant-clause-disk g c =
     let s = c.args.store.now in
     let is = out_of_memory c.from_residual-in_err-grant.result c.from_residual-in_err-grant.ensures.1 in
-    subst (λ (r : Result Outs NodeFault). OfDisk g.D.Disk (Some c.args.planned.rec) s.durable s.disk s.disk r) (sym is)
-    (is_still g.D.Disk (Some c.args.planned.rec) s.durable s.disk s.disk (Err nodes.OutOfMemory) tt (same_disk g.D.Disk s.disk) (same_counts g.D.Disk s.disk))
+    subst (λ (r : Result Outs NodeFault). OnDisk g.D.Disk (Some c.args.planned.rec) s.durable s.disk s.disk r) (sym is)
+    (is_still volume_fold g.D.Disk (Some c.args.planned.rec) s.durable s.disk s.disk (Err nodes.OutOfMemory) tt (same_disk g.D.Disk s.disk) (same_counts g.D.Disk s.disk))
 
 pub returns-in_err-commit-clause-disk : goal.returns-in_err-commit-clause-disk
 returns-in_err-commit-clause-disk g c =
     let s = c.args.store.now in
     let is = handed_up c.from_residual-in_err-commit.result c.in_err-commit.field-0.0 c.from_residual-in_err-commit.ensures.1 in
-    subst (λ (r : Result Outs NodeFault). OfDisk g.D.Disk (Some c.args.planned.rec) s.durable s.disk c.commit.new.store.disk r) (sym is)
-    (with_fault g.D.Disk (Some c.args.planned.rec) s.durable s.disk c.commit.new.store.disk c.in_err-commit.field-0.0 (c.in_err-commit.ensures.disk c.args.planned.rec c.requires.prepared))
+    subst (λ (r : Result Outs NodeFault). OnDisk g.D.Disk (Some c.args.planned.rec) s.durable s.disk c.commit.new.store.disk r) (sym is)
+    (with_fault volume_fold g.D.Disk (Some c.args.planned.rec) s.durable s.disk c.commit.new.store.disk c.in_err-commit.field-0.0 (c.in_err-commit.ensures.disk c.args.planned.rec c.requires.prepared))

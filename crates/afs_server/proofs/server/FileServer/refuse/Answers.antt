@@ -9,9 +9,10 @@ use Rattle.afs_callbacks.specs.Answering.{with_lists, IsRepliedNow}
 use Rattle.afs_callbacks.specs.States.{CallbackState}
 use Rattle.afs_callbacks.proofs.Lasting.{lasting_promised}
 use Rattle.afs_callbacks.proofs.Planned.{answer_drawn}
-use Rattle.afs_server.specs.Handling.{server_seen, stand_of}
+use Rattle.afs_server.specs.Handling.{server_seen}
 use Rattle.afs_server.specs.Seen.{backs_seen, callbacks_of, Memory}
 use Rattle.afs_server.proofs.Making.{as_planned, replied_in, steps, to_nodes}
+use Rattle.afs_sharing.specs.Stores.{stand_of}
 use Rattle.afs_server.proofs.server.FileServer.refuse.Goals as goal
 
 pub plan_refused-requires-clause-nodes : goal.plan_refused-requires-clause-nodes

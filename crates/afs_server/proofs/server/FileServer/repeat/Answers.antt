@@ -11,9 +11,11 @@ use Rattle.afs_callbacks.specs.States.{backs_by, CallbackState, IsPromiseToNode}
 use Rattle.afs_callbacks.proofs.Lasting.{lasting_promised}
 use Rattle.afs_callbacks.proofs.Turned.{repeated_backs}
 use Rattle.afs_server.specs.Answering.{repeated_turn}
-use Rattle.afs_server.specs.Handling.{server_seen, stand_of}
-use Rattle.afs_server.specs.Seen.{backs_seen, lasting_of}
+use Rattle.afs_server.specs.Handling.{server_seen}
+use Rattle.afs_server.specs.Seen.{backs_seen}
 use Rattle.afs_server.proofs.Making.{as_planned, remembered, steps, to_nodes}
+use Rattle.afs_sharing.specs.Stores.{stand_of}
+use Rattle.afs_sharing.specs.Lasting.{lasting_of}
 use Rattle.afs_server.proofs.server.FileServer.repeat.Goals as goal
 
 pub plan_repeated-requires : goal.plan_repeated-requires

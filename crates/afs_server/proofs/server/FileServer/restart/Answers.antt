@@ -14,10 +14,13 @@ use Rattle.afs_server_parts.specs.declared.turns.Stand.{Stand}
 use Rattle.afs_volstore.specs.Stores.{Store}
 use Rattle.afs_callbacks.specs.States.{risen_with, CallbackState, IsPromiseToNode}
 use Rattle.afs_callbacks.proofs.Drawing.{pumped_draws}
-use Rattle.afs_server.specs.Handling.{stand_of, Makes}
-use Rattle.afs_server.specs.Seen.{begun_state, begun_step, lasting_of, KeepsForNodes, Memory}
-use Rattle.afs_server.proofs.Drawn.{breaks_drawn, clients_draw}
+use Rattle.afs_server.specs.Handling.{Makes}
+use Rattle.afs_server.specs.Seen.{begun_state, begun_step, Memory}
+use Rattle.afs_server.proofs.Drawn.{clients_draw}
 use Rattle.afs_server.proofs.Making.{makes_stepped, Leaves}
+use Rattle.afs_sharing.specs.Stores.{stand_of}
+use Rattle.afs_sharing.specs.Lasting.{lasting_of, KeepsForNodes}
+use Rattle.afs_sharing.proofs.Drawn.{breaks_drawn}
 use Rattle.afs_server.proofs.server.FileServer.restart.Goals as goal
 
 pub rise-requires-clause-node : goal.rise-requires-clause-node

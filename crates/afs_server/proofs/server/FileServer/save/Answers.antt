@@ -24,12 +24,14 @@ use Rattle.afs_volume.specs.Listed.{listed_as}
 use Rattle.afs_volume.specs.Seen.{IsReadable}
 use Rattle.afs_server.proofs.Roomed.{disk_all}
 use Rattle.afs_server.proofs.Making.{to_nodes}
-use Rattle.afs_server.proofs.Saves.{does_all, is_besides, is_taken, planned_as, same_store, wanting, was_prepared}
-use Rattle.afs_server.proofs.Still.{is_still, out_of_memory, OfDisk}
+use Rattle.afs_server.proofs.Saves.{does_all, is_besides, is_taken, planned_as, wanting, was_prepared}
+use Rattle.afs_saving.proofs.Still.{is_still, out_of_memory}
 use Rattle.afs_callbacks.proofs.Planned.{answer_drawn}
 use Rattle.afs_callbacks.proofs.Withdrawn.{few_granted}
 use Rattle.afs_server.proofs.server.FileServer.save.Goals as goal
 use Rattle.afs_server.proofs.Taken.{wants_took}
+use Rattle.afs_volstore.specs.VolumeFold.{volume_fold}
+use Rattle.afs_sharing.specs.Stores.{OnDisk}
 
 pub plan_change-requires-clause-nodes : goal.plan_change-requires-clause-nodes
 plan_change-requires-clause-nodes g c = to_nodes c.args.store.now c.args.self.now c.stand.result c.callbacks.result.now c.stand.ensures c.callbacks.ensures c.requires.can.serves
@@ -106,10 +108,10 @@ returns-in_err-room g c k there made =
     let decided = record_decided s.durable.boot c.args.now d in
     let is = out_of_memory c.from_residual-in_err-room.result c.from_residual-in_err-room.ensures.1 in
     record {
-      does = wanting c.args.now d (turn_then m s c.args.now d) m s mid c.from_residual-in_err-room.result is (same_store s mid c.in_err-room.ensures.prepares);
+      does = wanting c.args.now d (turn_then m s c.args.now d) m s mid c.from_residual-in_err-room.result is c.in_err-room.ensures.prepares;
       disk =
-          subst (λ (r : Result Outs NodeFault). OfDisk g.D.Disk decided s.durable s.disk mid.disk r) (sym is)
-          (is_still g.D.Disk decided s.durable s.disk mid.disk (Err nodes.OutOfMemory) tt c.in_err-room.ensures.disk c.in_err-room.ensures.counts);
+          subst (λ (r : Result Outs NodeFault). OnDisk g.D.Disk decided s.durable s.disk mid.disk r) (sym is)
+          (is_still volume_fold g.D.Disk decided s.durable s.disk mid.disk (Err nodes.OutOfMemory) tt c.in_err-room.ensures.disk c.in_err-room.ensures.counts);
     }
 
 pub returns : goal.returns

@@ -8,9 +8,10 @@ use Rattle.afs_server_parts.specs.Ending.{IsPlanOf}
 use Rattle.afs_server_parts.specs.declared.turns.Stand.{Stand}
 use Rattle.afs_callbacks.specs.States.{backs_by, CallbackState}
 use Rattle.afs_callbacks.proofs.Lasting.{ended_promised, lasting_promised}
-use Rattle.afs_server.specs.Handling.{server_seen, stand_of}
+use Rattle.afs_server.specs.Handling.{server_seen}
 use Rattle.afs_server.specs.Seen.{backs_seen, Memory}
 use Rattle.afs_server.proofs.Making.{as_planned, remembered, steps, to_nodes}
+use Rattle.afs_sharing.specs.Stores.{stand_of}
 use Rattle.afs_server.proofs.server.FileServer.settle.Goals as goal
 
 pub plan_settled-requires : goal.plan_settled-requires

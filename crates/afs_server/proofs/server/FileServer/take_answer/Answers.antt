@@ -1,5 +1,5 @@
 use Rattle.afs_server.specs.Handling.{server_seen, turn_then}
-use Rattle.afs_server.proofs.Still.{out_of_memory}
+use Rattle.afs_saving.proofs.Still.{out_of_memory}
 use Rattle.afs_server.proofs.Taken.{made_took, wants_took}
 use Rattle.afs_server.proofs.Wholly.{few_decided, leaves_as, none_recorded}
 use Rattle.afs_server.proofs.server.FileServer.take_answer.Goals as goal

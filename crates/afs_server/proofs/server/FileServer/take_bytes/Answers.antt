@@ -4,7 +4,7 @@ use Rattle.afs_num.specs.declared.messages.Received.{Received}
 use Rattle.afs_volrows.specs.FileRow.{file_decides}
 use Rattle.afs_server.specs.Handling.{calls_served, decided_then, holds_seen, server_seen, turned_then}
 use Rattle.afs_server.specs.Putting.{Took}
-use Rattle.afs_server.proofs.Still.{out_of_memory}
+use Rattle.afs_saving.proofs.Still.{out_of_memory}
 use Rattle.afs_server.proofs.Taken.{wants_took}
 use Rattle.afs_server.proofs.server.FileServer.take_bytes.Goals as goal
 

@@ -9,9 +9,10 @@ use Rattle.afs_callbacks.specs.States.{backs_by, CallbackState, IsPromiseToNode}
 use Rattle.afs_callbacks.specs.Waiting.{lists_timed}
 use Rattle.afs_callbacks.proofs.Lasting.{lasting_promised, timed_promised}
 use Rattle.afs_callbacks.proofs.Timed.{timed_lists}
-use Rattle.afs_server.specs.Handling.{server_seen, stand_of}
+use Rattle.afs_server.specs.Handling.{server_seen}
 use Rattle.afs_server.specs.Seen.{backs_seen, Memory}
 use Rattle.afs_server.proofs.Making.{as_planned, remembered, steps, to_nodes}
+use Rattle.afs_sharing.specs.Stores.{stand_of}
 use Rattle.afs_server.proofs.server.FileServer.time_out.Goals as goal
 
 pub plan_timeout-requires-clause-nodes : goal.plan_timeout-requires-clause-nodes

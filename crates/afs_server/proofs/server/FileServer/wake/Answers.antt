@@ -4,8 +4,9 @@ use Rattle.afs_rows.specs.Callbacks as row
 use Rattle.afs_rows.specs.Callbacks.{no_turn}
 use Rattle.afs_server.specs.Handling.{server_seen}
 use Rattle.afs_server.specs.Seen.{backs_seen}
-use Rattle.afs_server.proofs.Drawn.{breaks_drawn, drawn_after, expired_draws, lists_after}
+use Rattle.afs_server.proofs.Drawn.{drawn_after, lists_after}
 use Rattle.afs_callbacks.proofs.Lasting.{lasting_to_nodes}
+use Rattle.afs_sharing.proofs.Drawn.{breaks_drawn, expired_draws}
 use Rattle.afs_server.proofs.server.FileServer.wake.Goals as goal
 
 pub returns-clause-draws : goal.returns-clause-draws

@@ -8,13 +8,13 @@ use Rattle.afs_server_parts.specs.Called.{call_to, known_to}
 use Rattle.afs_sendings.proofs.Ways as ways
 use Rattle.afs_sendings.proofs.Ways.{turned_by}
 use Rattle.afs_sendings.specs.Pieces.{adds}
-use Rattle.afs_server.specs.Seen.{lasting_of}
 use Rattle.afs_voldecisions.specs.Verdicts.{dispatch_of}
 use Rattle.afs_volrows.specs.VolSteps.{sending_of, VolTurn}
 use Rattle.afs_volserv.specs.Handling.{backs_then, IsStep}
 use Rattle.afs_volserv.specs.Seen.{vol_seen}
 use Rattle.afs_volserv.specs.Sending.{way_before}
 use Rattle.afs_volserv.proofs.Moving.{adds_asked, adds_most, adds_on, drawn_on, moved_step}
+use Rattle.afs_sharing.specs.Lasting.{lasting_of}
 use Rattle.afs_volserv.proofs.server.VolServer.dispatch.Goals as goal
 
 pub take_moves-outs-requires : goal.take_moves-outs-requires

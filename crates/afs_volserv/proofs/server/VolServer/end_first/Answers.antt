@@ -8,12 +8,12 @@ use Rattle.afs_sendings.proofs.Ways as ways
 use Rattle.afs_sendings.proofs.Ways.{turned_by}
 use Rattle.afs_sendings.specs.Pieces.{ends, sends}
 use Rattle.afs_sendings.specs.Sendings.{rest_of}
-use Rattle.afs_server.specs.Seen.{lasting_of}
 use Rattle.afs_volrows.specs.VolSteps.{forward_reply, VolTurn}
 use Rattle.afs_volserv.specs.Handling.{backs_then, IsStep}
 use Rattle.afs_volserv.specs.Seen.{vol_seen}
 use Rattle.afs_volserv.specs.Sending.{way_before}
 use Rattle.afs_volserv.proofs.Moving.{called_node, drawn_on, knows, moved_step, starts_asked, starts_least, starts_most}
+use Rattle.afs_sharing.specs.Lasting.{lasting_of}
 use Rattle.afs_volserv.proofs.server.VolServer.end_first.Goals as goal
 
 pub ended-requires-clause-callee : goal.ended-requires-clause-callee

@@ -5,12 +5,12 @@ use Rattle.afs_sendings.proofs.Ways as ways
 use Rattle.afs_sendings.proofs.Ways.{turned_by}
 use Rattle.afs_sendings.specs.Pieces.{starts}
 use Rattle.afs_sendings.specs.Sendings.{rest_of}
-use Rattle.afs_server.specs.Seen.{lasting_of}
 use Rattle.afs_volrows.specs.VolSteps.{moved_on, VolTurn}
 use Rattle.afs_volserv.specs.Handling.{backs_then, IsStep}
 use Rattle.afs_volserv.specs.Seen.{vol_seen}
 use Rattle.afs_volserv.specs.Sending.{way_before}
 use Rattle.afs_volserv.proofs.Moving.{called_node, drawn_on, knows, moved_asked, moved_step, starts_asked, starts_least, starts_most}
+use Rattle.afs_sharing.specs.Lasting.{lasting_of}
 use Rattle.afs_volserv.proofs.server.VolServer.go_on.Goals as goal
 
 pub moved-requires-clause-callee : goal.moved-requires-clause-callee

@@ -1,6 +1,6 @@
 use Rattle.afs_volserv.specs.Handling.{vol_decided_then, vol_turned_then}
 use Rattle.afs_volserv.specs.Seen.{durable_seen}
-use Rattle.afs_volserv.proofs.Taken.{called_so, done_so, draws_so, handles_so, left_down, order_so, some_down, store_so, told_so}
+use Rattle.afs_volserv.proofs.Taken.{called_so, done_so, draws_so, handles_so, left_down, order_so, some_down, store_so, told_so, prepared_so}
 use Rattle.afs_volserv.proofs.server.VolServer.handle.Goals as goal
 
 pub returns-clause-step : goal.returns-clause-step
@@ -37,6 +37,13 @@ returns-clause-kept g c =
     let k = c.args.callbacks.now in
     let old = c.args.self.now in
     done_so (vol_decided_then old s c.args.bytes.now) (vol_turned_then old k s c.args.now c.args.bytes.now) old c.take_bytes.new.self k c.take_bytes.new.callbacks s c.take_bytes.new.store c.take_bytes.result c.take_bytes.ensures.took.does
+
+pub returns-clause-prepared : goal.returns-clause-prepared
+returns-clause-prepared g c =
+    let s = c.args.store.now in
+    let k = c.args.callbacks.now in
+    let old = c.args.self.now in
+    prepared_so (vol_decided_then old s c.args.bytes.now) (vol_turned_then old k s c.args.now c.args.bytes.now) old c.take_bytes.new.self k c.take_bytes.new.callbacks s c.take_bytes.new.store c.take_bytes.result c.take_bytes.ensures.took.does
 
 pub returns-clause-down : goal.returns-clause-down
 returns-clause-down g c =

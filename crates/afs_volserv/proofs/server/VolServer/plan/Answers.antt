@@ -7,12 +7,12 @@ use Rattle.afs_records.specs.Changes.{keeping}
 use Rattle.afs_rows.specs.ServerRow.{key_of}
 use Rattle.afs_callbacks.specs.Answering.{with_lists}
 use Rattle.afs_callbacks.specs.States.{backs_at}
-use Rattle.afs_server.specs.Handling.{stand_of}
 use Rattle.afs_server_parts.specs.declared.turns.Stand.{Stand}
 use Rattle.afs_server_parts.specs.Ending.{IsPlan}
 use Rattle.afs_server_parts.specs.Turning.{sent_turns}
 use Rattle.afs_voldecisions.specs.Replies.{answer_message}
 use Rattle.afs_volserv.specs.Saving.{breaks_by, held_on, sent_now, waits_by}
+use Rattle.afs_sharing.specs.Stores.{stand_of}
 use Rattle.afs_volserv.proofs.server.VolServer.plan.Goals as goal
 
 pub returns-clause-planned : goal.returns-clause-planned

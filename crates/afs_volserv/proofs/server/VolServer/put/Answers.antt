@@ -8,19 +8,21 @@ use Rattle.afs_volrows.specs.VolRow.{holds_of}
 use Rattle.afs_volrows.specs.VolSteps.{withdraws_from}
 use Rattle.afs_callbacks.specs.States.{CallbackState}
 use Rattle.afs_server_parts.specs.declared.faults.NodeFault.{NodeFault}
-use Rattle.afs_server.proofs.Still.{handed_up, with_fault, with_value, OfDisk}
+use Rattle.afs_saving.proofs.Still.{handed_up, with_fault, with_value}
 use Rattle.afs_volstore.specs.Stores.{Store}
 use Rattle.afs_volserv.specs.Saving.{held_or_none}
 use Rattle.afs_volserv.specs.Seen.{VolMemory}
 use Rattle.afs_volserv.proofs.Room.{room_of, still_released}
+use Rattle.afs_volstore.specs.VolumeFold.{volume_fold}
+use Rattle.afs_sharing.specs.Stores.{OnDisk}
 use Rattle.afs_volserv.proofs.server.VolServer.put.Goals as goal
 
 pub returns-in_err-commit-clause-disk : goal.returns-in_err-commit-clause-disk
 returns-in_err-commit-clause-disk g c =
     let s = c.args.store.now in
     let is = handed_up c.from_residual-in_err-commit.result c.in_err-commit.field-0.0 c.from_residual-in_err-commit.ensures.1 in
-    subst (λ (r : Result Outs NodeFault). OfDisk g.D.Disk (Some c.args.planned.rec) s.durable s.disk c.commit.new.store.disk r) (sym is)
-    (with_fault g.D.Disk (Some c.args.planned.rec) s.durable s.disk c.commit.new.store.disk c.in_err-commit.field-0.0 (c.in_err-commit.ensures.disk c.args.planned.rec c.requires.prepared))
+    subst (λ (r : Result Outs NodeFault). OnDisk g.D.Disk (Some c.args.planned.rec) s.durable s.disk c.commit.new.store.disk r) (sym is)
+    (with_fault volume_fold g.D.Disk (Some c.args.planned.rec) s.durable s.disk c.commit.new.store.disk c.in_err-commit.field-0.0 (c.in_err-commit.ensures.disk c.args.planned.rec c.requires.prepared))
 
 pub returns-clause-disk : goal.returns-clause-disk
 returns-clause-disk g c =
@@ -29,8 +31,8 @@ returns-clause-disk g c =
     let disk = ap (λ (u : Store g.row.D.Denot). u.disk) c.keep-parcels.ensures.store ∙ ap (λ (u : Store g.row.D.Denot). u.disk) c.hold_instead.ensures.rest in
     let told = c.in_ok-commit.ensures.disk p.rec c.requires.prepared in
     let outs : Outs = record { parcels = c.keep-parcels.result.parcels; lines = c.args.lines } in
-    subst (λ (x : g.row.D.Denot). OfDisk g.D.Disk (Some p.rec) s.durable s.disk x (Ok outs)) (sym disk)
-    (with_value g.D.Disk (Some p.rec) s.durable s.disk c.commit.new.store.disk tt outs told)
+    subst (λ (x : g.row.D.Denot). OnDisk g.D.Disk (Some p.rec) s.durable s.disk x (Ok outs)) (sym disk)
+    (with_value volume_fold g.D.Disk (Some p.rec) s.durable s.disk c.commit.new.store.disk tt outs told)
 
 pub returns-clause-puts : goal.returns-clause-puts
 returns-clause-puts g c =

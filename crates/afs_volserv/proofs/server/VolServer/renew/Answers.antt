@@ -3,12 +3,12 @@ use Rattle.afs_history.specs.declared.lines.Line.{Line}
 use Rattle.afs_sendings.proofs.Ways.{turned_by}
 use Rattle.afs_sendings.specs.Pieces.{renews}
 use Rattle.afs_sendings.specs.Sendings.{first_of}
-use Rattle.afs_server.specs.Seen.{lasting_of}
 use Rattle.afs_volrows.specs.VolSteps.{VolTurn}
 use Rattle.afs_volserv.specs.Handling.{backs_then, IsStep}
 use Rattle.afs_volserv.specs.Seen.{vol_seen}
 use Rattle.afs_volserv.specs.Sending.{way_before}
 use Rattle.afs_volserv.proofs.Moving.{called_node, drawn_on, moved_step, renewed_first}
+use Rattle.afs_sharing.specs.Lasting.{lasting_of}
 use Rattle.afs_volserv.proofs.server.VolServer.renew.Goals as goal
 
 pub renewed-requires-clause-callee : goal.renewed-requires-clause-callee

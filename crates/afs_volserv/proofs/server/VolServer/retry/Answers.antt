@@ -4,12 +4,12 @@ use Rattle.afs_rows.specs.Callbacks.{timeout_line}
 use Rattle.afs_server_parts.specs.Called.{call_to}
 use Rattle.afs_sendings.proofs.Ways.{turned_by}
 use Rattle.afs_sendings.specs.Pieces.{retries, Piece}
-use Rattle.afs_server.specs.Seen.{lasting_of}
 use Rattle.afs_volrows.specs.VolSteps.{VolTurn}
 use Rattle.afs_volserv.specs.Handling.{backs_then, IsStep}
 use Rattle.afs_volserv.specs.Seen.{vol_seen}
 use Rattle.afs_volserv.specs.Sending.{way_before}
 use Rattle.afs_volserv.proofs.Moving.{asked_put, called_node, drawn_on, knows, moved_step, timed_again}
+use Rattle.afs_sharing.specs.Lasting.{lasting_of}
 use Rattle.afs_volserv.proofs.server.VolServer.retry.Goals as goal
 
 pub retried-requires-clause-callee : goal.retried-requires-clause-callee

@@ -1,8 +1,8 @@
-use Rattle.afs_server.specs.Seen.{lasting_of}
 use Rattle.afs_volrows.specs.VolSteps.{VolDecision, VolTurn}
 use Rattle.afs_volserv.specs.Handling.{backs_then, TookVolumes}
 use Rattle.afs_volserv.specs.Seen.{durable_seen, vol_seen}
 use Rattle.afs_volserv.proofs.Taken.{in_unreadable, in_unserved}
+use Rattle.afs_sharing.specs.Lasting.{lasting_of}
 use Rattle.afs_volserv.proofs.server.VolServer.take.Goals as goal
 
 pub returns-in-Unserved : goal.returns-in-Unserved

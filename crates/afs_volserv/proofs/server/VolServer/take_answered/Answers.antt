@@ -1,4 +1,4 @@
-use Rattle.afs_server.proofs.Still.{out_of_memory}
+use Rattle.afs_saving.proofs.Still.{out_of_memory}
 use Rattle.afs_volserv.specs.Deciding.{decision_of}
 use Rattle.afs_volserv.specs.Handling.{vol_turn_then}
 use Rattle.afs_volserv.specs.Seen.{durable_seen, vol_seen}

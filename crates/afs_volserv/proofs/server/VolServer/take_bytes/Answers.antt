@@ -1,6 +1,6 @@
 use Rattle.std.proofs.Common.{refl, subst}
 use Rattle.afs_num.specs.declared.messages.Received.{Received}
-use Rattle.afs_server.proofs.Still.{out_of_memory}
+use Rattle.afs_saving.proofs.Still.{out_of_memory}
 use Rattle.afs_volserv.specs.Handling.{vol_decided, vol_decided_then, vol_turned_by, vol_turned_then, TookVolumes}
 use Rattle.afs_volserv.proofs.Taken.{wants_took}
 use Rattle.afs_volserv.proofs.server.VolServer.take_bytes.Goals as goal

@@ -1,5 +1,5 @@
 use Rattle.std.proofs.Common.{refl, subst}
-use Rattle.afs_server.proofs.Still.{out_of_memory}
+use Rattle.afs_saving.proofs.Still.{out_of_memory}
 use Rattle.afs_volrows.specs.VolSteps.{vol_called, VolDecision}
 use Rattle.afs_volserv.specs.Handling.{vol_turn_then, TookVolumes}
 use Rattle.afs_volserv.specs.Seen.{durable_seen, vol_seen}

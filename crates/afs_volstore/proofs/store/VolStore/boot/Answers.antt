@@ -21,3 +21,9 @@ returns-clause-any_moment g c =
     subst
     (λ (s : Store g.row.D.Denot). (bytes : List ℕ) → g.D.Disk.seen s.disk ≡ Some bytes → LeavesOnly g.D.Disk.moment g.D.Disk.left_since s.disk c.boot.new.self.disk (LeftAround (whole_records bytes) (boot_record (s.durable.boot + 1)) s.durable))
     c.self.view_is c.boot.ensures.any_moment
+
+pub returns-in_err-boot-clause-any_moment : goal.returns-in_err-boot-clause-any_moment
+returns-in_err-boot-clause-any_moment g c =
+    subst
+    (λ (s : Store g.row.D.Denot). (bytes : List ℕ) → g.D.Disk.seen s.disk ≡ Some bytes → LeavesOnly g.D.Disk.moment g.D.Disk.left_since s.disk c.boot.new.self.disk (LeftAround (whole_records bytes) (boot_record (s.durable.boot + 1)) s.durable))
+    c.self.view_is c.boot.ensures.any_moment

@@ -1,0 +1,3 @@
+pub mod Kept
+pub mod Seats
+pub mod Still
