@@ -2,7 +2,6 @@
 
 ghost use Rattle.std.specs.Prelude.{◌≡◌, IfOk};
 ghost use Rattle.afs_ideal.specs.Operations.{volume_called, volume_changed};
-ghost use Rattle.afs_model.specs.FsRows.{call_number};
 ghost use Rattle.afs_rows.specs.ClientRow.{question, volume_asked};
 
 use crate::volumes::base_of;
@@ -12,34 +11,6 @@ use afs_num::location_calls::LocCall;
 use afs_num::sequences::Octets;
 use afs_num::types::Mem;
 use std::alloc::Global;
-
-/// The opcode of a call (AFS-3 Programmer's Reference, File Server/Cache Manager Interface).
-pub fn opcode(call: &FsCall) -> u32
-    ensures { result ≡ call_number call.now }
-{
-    match call {
-        FsCall::FetchData { .. } => 130,
-        FsCall::FetchAcl { .. } => 131,
-        FsCall::FetchStatus { .. } => 132,
-        FsCall::StoreData { .. } => 133,
-        FsCall::StoreAcl { .. } => 134,
-        FsCall::StoreStatus { .. } => 135,
-        FsCall::RemoveFile { .. } => 136,
-        FsCall::CreateFile { .. } => 137,
-        FsCall::Rename { .. } => 138,
-        FsCall::Symlink { .. } => 139,
-        FsCall::Link { .. } => 140,
-        FsCall::MakeDir { .. } => 141,
-        FsCall::RemoveDir { .. } => 142,
-        FsCall::GiveUpCallBacks { .. } => 147,
-        FsCall::GetVolumeStatus { .. } => 149,
-        FsCall::GetTime => 153,
-        FsCall::BulkStatus { .. } => 155,
-        FsCall::CallBack { .. } => 204,
-        FsCall::InitCallBackState => 205,
-        FsCall::Probe => 206,
-    }
-}
 
 /// The volume that a call is on; it has none, where this is none.
 fn volume_called(call: &FsCall) -> Option<u32>

@@ -16,7 +16,7 @@ mod walks;
 mod ways;
 
 pub use acts::next;
-pub use asking::{opcode, question, volume_asked, volume_changed};
+pub use asking::{question, volume_asked, volume_changed};
 pub use copies::{copy_act, copy_body, copy_read};
 pub use known::{Location, locations, with_location};
 pub use places::{homes_of, volume_at};

@@ -24,38 +24,11 @@ use Rattle.afs_rows.specs.Scopes.{is_in_scope}
 use Rattle.afs_rows.specs.Steps.{Step}
 use Rattle.afs_entries.specs.Cached.{drops_of, left}
 use Rattle.afs_entries.specs.declared.drops.Drops.{Drops}
-use Rattle.afs_cache.specs.Managing.{Answers, Goes, Makes, Takes}
+pub use Rattle.afs_calling.proofs.Stepping.{boot_told_is, goes_answered, goes_taken, takes_same}
+use Rattle.afs_cache.specs.Managing.{Takes}
 use Rattle.afs_cache.specs.Acting.{changed_in}
 use Rattle.afs_cache.specs.Serving.{admits_asking, runs_asking}
 use Rattle.afs_cache.specs.declared.serving.Asking.{Asking}
-
--- ---- steps that are the same
-
-pub takes_same : {E : Type 0} (step other : ℕ → Step ClientState) (old new : NodeState ClientState) (r : Result Outs E) → ((place : ℕ) → step place ≡ other place) → Takes step old new r → Takes other old new r
-takes_same step other old new (Ok outs) same h = (h.0, λ place. subst (λ (s : Step ClientState). Makes s new.state (λ ls. lines.Given place ∷ ls) outs) (same place) (h.1 place))
-takes_same step other old new (Err e) same h = h
-
--- what goes behind lines that were told, is taken behind the line that names the message
-pub goes_taken : {E : Type 0} (step : (List Line → List Line) → Step ClientState) (other : ℕ → Step ClientState) (told : List Line) (old new : NodeState ClientState) (r : Result Outs E)
-    → ((place : ℕ) → step (λ ls. lines.Given place ∷ (told ++ ls)) ≡ other place) → Goes step told old new r → Takes other old new r
-goes_taken step other told old new (Ok outs) same h = (h.0, λ place. subst (λ (s : Step ClientState). Makes s new.state (λ ls. lines.Given place ∷ ls) outs) (same place) (h.1 (lines.Given place ∷ [])))
-goes_taken step other told old new (Err e) same h = h
-
-pub goes_answered : {E : Type 0} (step : (List Line → List Line) → Step ClientState) (other : Step ClientState) (told : List Line) (old new : NodeState ClientState) (r : Result Outs E)
-    → step (λ ls. told ++ ls) ≡ other → Goes step told old new r → Answers other old new r
-goes_answered step other told old new (Ok outs) same h = (h.0, subst (λ (s : Step ClientState). Makes s new.state (λ ls. ls) outs) same (h.1 []))
-goes_answered step other told old new (Err e) same h = h
-
--- ---- the boot number that a callee tells
-
-same_refl : (n : Node) → same_node n n ≡ true
-same_refl nodes.Loc = refl
-same_refl (nodes.Server i) = eq-eqb i i refl
-same_refl (nodes.Client i) = eq-eqb i i refl
-same_refl (nodes.Admin i) = eq-eqb i i refl
-
-pub boot_told_is : (server : Node) (boot : ℕ) (boots : List KnownBoot) → boot_of server (with_boot server boot boots) ≡ boot
-boot_told_is server boot boots = rw (same_refl server) refl
 
 -- ---- entries of a volume
 

@@ -3,12 +3,9 @@ use Rattle.std.specs.Prelude.{◌≡◌, ◌≤◌, ℕ, Bool, true, false, List
 use Rattle.std.specs.List.{All}
 use Rattle.afs_num.specs.Nodes.{IsNode}
 use Rattle.afs_num.specs.declared.types.Code.{Code}
-use Rattle.afs_num.specs.declared.types.Head.{Head}
 use Rattle.afs_num.specs.declared.types.Node.{Node}
 use Rattle.afs_num.specs.declared.messages.Call.{Call}
 use Rattle.afs_num.specs.declared.messages.Call.TheVariants as ask
-use Rattle.afs_num.specs.declared.messages.Carried.TheVariants as carried
-use Rattle.afs_num.specs.declared.messages.Message.{Message}
 use Rattle.afs_model.specs.Heads.{user_limit}
 use Rattle.afs_rows.specs.Going.{Going, Need, answers, gives_back, locates, next}
 use Rattle.afs_rows.specs.States.{Gift}
@@ -17,9 +14,7 @@ use Rattle.afs_history.specs.declared.acts.Operand.{Operand}
 use Rattle.afs_acts.specs.Acts.{IsShortAct, IsShortOperand}
 use Rattle.afs_acts.specs.Walks.{need_of}
 use Rattle.afs_acts.specs.declared.types.Need as needs
-
-abbrev pub calling : Head → List ℕ → Call → Message
-calling head user call = record { head = head; carried = carried.Call user call }
+pub use Rattle.afs_calling.specs.Calls.{calling}
 
 abbrev pub IsGift : Gift → Type 0
 IsGift g = IsNode g.server

@@ -1,8 +1,5 @@
 -- What the calls of a cache manager promise.
-use Rattle.std.specs.Prelude.{◌≡◌, ℕ, Bool, false, List, [], ◌∷◌, ◌++◌, Option, Some, None, Result, Ok, Err, if◌then◌else◌}
-use Rattle.afs_history.specs.declared.lines.Line.{Line}
-use Rattle.afs_history.specs.declared.lines.Line.TheVariants as lines
-use Rattle.afs_history.specs.declared.lines.Outs.{Outs}
+use Rattle.std.specs.Prelude.{ℕ, Bool, false, [], Option, Some, None, if◌then◌else◌}
 use Rattle.afs_num.specs.declared.types.Node.{Node}
 use Rattle.afs_num.specs.declared.types.Key.{Key}
 use Rattle.afs_num.specs.declared.calls.FsCall.{FsCall}
@@ -10,32 +7,12 @@ use Rattle.afs_num.specs.declared.calls.FsReply.{FsReply}
 use Rattle.afs_num.specs.declared.types.Code.{Code}
 use Rattle.afs_num.specs.declared.types.Head.{Head}
 use Rattle.afs_num.specs.declared.messages.Carried.{Carried}
-use Rattle.afs_model.specs.Messages.{parcels_read, messages_spelled}
 use Rattle.afs_model.specs.Steps.{NodeState}
 use Rattle.afs_rows.specs.Going.{ClientState, Going, Seek}
 use Rattle.afs_rows.specs.ClientRow.{act_of, call_of, calls_again, gives_up, ignores, is_sought, is_spent, refuses, seek_timeout_row, takes, timeout_row}
 use Rattle.afs_rows.specs.Steps.{Step}
-
--- the new state and what is given out are those of this step
-pub record Makes (step : Step ClientState) (new : ClientState) (front : List Line → List Line) (outs : Outs) : Type 0 where
-  pub state : new ≡ step.state
-  pub lines : front outs.lines ≡ step.lines
-  pub sent : parcels_read outs.parcels ≡ messages_spelled step.sent
-
--- the client made this step; or memory was wanting, and it is as before
-abbrev pub Answers : {E : Type 0} → Step ClientState → NodeState ClientState → NodeState ClientState → Result Outs E → Type 0
-Answers step old new (Ok outs) = (new.node ≡ old.node) × Makes step new.state (λ ls. ls) outs
-Answers step old new (Err e) = new ≡ old
-
--- the same with a message, whose place the client isn't told: the first line, which names it, is the cell's, and the client gives those behind it
-abbrev pub Takes : {E : Type 0} → (ℕ → Step ClientState) → NodeState ClientState → NodeState ClientState → Result Outs E → Type 0
-Takes step old new (Ok outs) = (new.node ≡ old.node) × ((place : ℕ) → Makes (step place) new.state (λ ls. lines.Given place ∷ ls) outs)
-Takes step old new (Err e) = new ≡ old
-
--- the same behind lines that were told before, which the program has in hand; what comes before them (the act's begin, or that a message was given) the caller adds
-abbrev pub Goes : {E : Type 0} → ((List Line → List Line) → Step ClientState) → List Line → NodeState ClientState → NodeState ClientState → Result Outs E → Type 0
-Goes step told old new (Ok outs) = (new.node ≡ old.node) × ((first : List Line) → Makes (step (λ ls. first ++ (told ++ ls))) new.state (λ ls. first ++ ls) outs)
-Goes step told old new (Err e) = new ≡ old
+pub use Rattle.afs_calling.specs.Calls.{number_limit}
+pub use Rattle.afs_calling.specs.Stepping.{Answers, Goes, Makes, Takes}
 
 -- what the act that runs does with the message of this place; where none runs, the message does nothing
 abbrev pub by_act : ClientState → ℕ → (Going → Step ClientState) → Option Going → Step ClientState
@@ -88,7 +65,3 @@ sought_by_head me c head x (Some k) = is_sought me c k head x
 abbrev pub given_up : Node → ClientState → Option Going → Step ClientState
 given_up me c None = rests c
 given_up me c (Some act) = gives_up me c (call_of c act)
-
--- the numbers of calls stand below this one
-abbrev pub number_limit : ℕ
-number_limit = 4000000000

@@ -18,12 +18,13 @@ ghost use Rattle.afs_cache.specs.Acting.{called_by, CanFollow, followed, head_of
 ghost use Rattle.afs_cache.specs.Managing.{Answers, Goes, number_limit};
 
 use crate::asked::{Asked, code_in, into_operand, is_giving};
-use crate::boots::boot_of;
 use crate::looks::{Walked, walk};
-use crate::messages::{outs_calling, quiet};
 use crate::node::CacheManager;
 use crate::seeking::Seeking;
-use afs_acts::{Going, Need, copy_act, next, opcode};
+use afs_acts::{Going, Need, copy_act, next};
+use afs_calling::boots::boot_of;
+use afs_calling::messages::{outs_calling, quiet};
+use afs_calling::opcodes::file_opcode;
 use afs_entries::{Drops, Fresh, Gift, Sight, first_server_of, in_order};
 use afs_history::acts::{Act, SharedAct};
 use afs_history::lines::{Line, Lines, Outs};
@@ -109,7 +110,7 @@ impl CacheManager {
             number,
             boot,
             stamp: 0,
-            opcode: opcode(asked.file_call()),
+            opcode: file_opcode(asked.file_call()),
         }
     }
 

@@ -3,11 +3,9 @@
 
 mod acting;
 mod asked;
-mod boots;
 mod breaks;
 mod locating;
 mod looks;
-mod messages;
 mod node;
 mod refusing;
 mod replies;

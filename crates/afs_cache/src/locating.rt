@@ -15,13 +15,13 @@ ghost use Rattle.afs_cache.specs.Locating.{AsksAnew, Sought, calls_elsewhere, en
 ghost use Rattle.afs_cache.specs.Managing.{Answers, by_act, Goes, number_limit, seek_times_out, sought_by_head, Takes};
 
 use crate::acting::{Asks, Plan, Seeks};
-use crate::boots::{boot_of, note_boot};
-use crate::messages::{outs_calling, quiet};
 use crate::node::CacheManager;
 use crate::refusing::DEAD;
 use crate::seeking::{Left, Seeking};
 use afs_acts::{Going, Location, next, volume_asked, volume_at, with_location};
 use afs_call::{LAST_TIMEOUT, Timeout, timed_out};
+use afs_calling::boots::{boot_of, note_boot};
+use afs_calling::messages::{outs_calling, quiet};
 use afs_history::acts::Operand;
 use afs_history::lines::{Line, Lines, Outs};
 use afs_num::location_calls::{LocEntry, LocReply};

@@ -13,11 +13,10 @@ ghost use Rattle.afs_cache.specs.Managing.{Answers, Takes, number_limit, times_o
 ghost use Rattle.afs_cache.specs.Lasting.{lasting};
 
 use crate::asked::Asked;
-use crate::boots::KnownBoot;
-use crate::messages::CLIENT_CALLS;
 use crate::seeking::Seeking;
 use afs_acts::{Location, locations};
 use afs_call::{CallTable, Caller};
+use afs_calling::boots::KnownBoot;
 use afs_entries::Cache;
 use afs_history::acts::Act;
 use afs_history::lines::Outs;
@@ -28,6 +27,9 @@ use afs_num::sequences::Octets;
 use afs_num::types::{Key, Mem, Node};
 use std::alloc::Global;
 use std::marker::Model;
+
+/// The opcodes of the calls that a client serves: CallBack, InitCallBackState and Probe.
+pub(crate) const CLIENT_CALLS: [u32; 3] = [204, 205, 206];
 
 /// A client: one act at a time, and a cache of what servers promise to tell changes of.
 #[derive(Drop)]

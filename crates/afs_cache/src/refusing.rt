@@ -9,10 +9,10 @@ ghost use Rattle.afs_cache.specs.Acting.{changed_in, sent_to};
 ghost use Rattle.afs_cache.specs.Managing.{Answers, given_up, times_out};
 
 use crate::asked::Asked;
-use crate::boots::boot_of;
 use crate::node::CacheManager;
 use afs_acts::volume_changed;
 use afs_call::{LAST_TIMEOUT, Timeout, timed_out};
+use afs_calling::boots::boot_of;
 use afs_entries::Drops;
 use afs_history::lines::{Line, Lines, Outs};
 use afs_num::calls::FsCall;

@@ -16,9 +16,9 @@ ghost use Rattle.afs_cache.specs.Managing.{number_limit, Takes};
 ghost use Rattle.afs_cache.specs.Serving.{admits_asking, IsSoundAsking, runs_asking, takes_asking};
 
 use crate::breaks::{is_spoiled_by_all, names_call};
-use crate::messages::{CLIENT_CALLS, boot_told, outs_with, replied};
-use crate::node::CacheManager;
+use crate::node::{CLIENT_CALLS, CacheManager};
 use afs_call::Admit;
+use afs_calling::messages::{boot_told, outs_with, replied};
 use afs_entries::Drops;
 use afs_history::lines::{Line, Lines, Outs};
 use afs_message::spelled::SpelledMessage;

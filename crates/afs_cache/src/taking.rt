@@ -19,12 +19,13 @@ ghost use Rattle.afs_cache.specs.Managing.{Answers, by_act, by_call, Goes, hears
 
 use crate::acting::Dropping;
 use crate::asked::Asked;
-use crate::boots::note_boot;
-use crate::messages::quiet;
 use crate::node::CacheManager;
 use crate::replies::{body_told, entries_told, entry_told, is_any_spent, is_busy, status_told};
 use crate::wanted::{body_wanted, is_gift, rights_wanted, status_wanted, statuses_wanted};
-use afs_acts::{Going, copy_body, copy_read, opcode, volume_changed};
+use afs_acts::{Going, copy_body, copy_read, volume_changed};
+use afs_calling::boots::note_boot;
+use afs_calling::messages::quiet;
+use afs_calling::opcodes::file_opcode;
 use afs_entries::{Drops, Fresh};
 use afs_history::lines::{Line, Lines, Outs};
 use afs_num::calls::{
@@ -594,7 +595,7 @@ impl CacheManager {
                 head.from.is(&self.calls.callee)
                     && head.epoch == self.callers.boot()
                     && head.number == self.calls.last
-                    && head.opcode == opcode(asked.file_call())
+                    && head.opcode == file_opcode(asked.file_call())
             }
             None => false,
         }

@@ -1,0 +1,3 @@
+pub mod Moves
+pub mod Releases
+pub mod Acted

@@ -1,0 +1,4 @@
+pub mod Bits
+pub mod Spelled
+pub mod Kept
+pub mod Surveys

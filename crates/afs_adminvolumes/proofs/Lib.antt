@@ -1,0 +1,4 @@
+pub mod Creates
+pub mod Copies
+pub mod Removes
+pub mod Recovers

@@ -1,8 +1,0 @@
-use Rattle.std.proofs.Common.{ap, ◌∙◌}
-use Rattle.afs_model.specs.Messages.{received}
-use Rattle.afs_model.proofs.Spellings.{message_again}
-use Rattle.afs_cache.specs.Asking.{calling}
-use Rattle.afs_cache.proofs.messages.encode_call.Goals as goal
-
-pub returns-clause-read : goal.returns-clause-read
-returns-clause-read c = ap received c.in_ok-bytes.ensures.spelled ∙ message_again (calling c.args.head.now c.args.user.now c.args.call.now) c.in_ok-bytes.ensures.fits
