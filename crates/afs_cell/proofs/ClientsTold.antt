@@ -9,7 +9,7 @@ use Rattle.afs_history.specs.declared.lines.Line.TheVariants as lines
 use Rattle.afs_history.specs.declared.lines.Outs.{Outs}
 use Rattle.afs_history.specs.declared.scripts.Event.TheVariants as events
 use Rattle.afs_history.specs.declared.scripts.Script.{Script}
-use Rattle.afs_rows.specs.Runs.{Input}
+use Rattle.afs_runs.specs.NodeRuns.{CellInput}
 use Rattle.afs_schedule.specs.Schedules.{IsInput, Turn}
 use Rattle.afs_clients.specs.Happening.{entry_of, front_lines, void_entry, ClientGoes, ClientHappened, ClientHears, ClientsHappened, ClientTakes, IsAsked, IsVoidClient}
 use Rattle.afs_cell.specs.Happening.{Settles}
@@ -52,6 +52,7 @@ module _ {D : Type 0} (seen : D → Option (List ℕ)) (may_leave : D → List �
   safe_client was now front outs safe going place found goes = record {
     script = safe.script;
     cell_script = safe.cell_script;
+    admin_count = safe.admin_count;
     server_count = safe.server_count;
     client_count = length_put n now w.clients ∙ safe.client_count;
     database = λ still. loc_ready_longer w.history (entry_of (Client n) (front ++ outs.lines) (length outs.parcels)) w.database (safe.database going);
@@ -71,7 +72,7 @@ module _ {D : Type 0} (seen : D → Option (List ℕ)) (may_leave : D → List �
     ticks = safe.ticks;
   }
 
-  client_told : (is : Turn → Input → Type 0) (was now : ClientSeat) (front : List Line) (outs : Outs) → IsSafe limit s w → w.is_lost ≡ false → length w.history < most_entries → at_place w.clients n ≡ Some was → ClientGoes s n was now (happened.Step outs)
+  client_told : (is : Turn → CellInput → Type 0) (was now : ClientSeat) (front : List Line) (outs : Outs) → IsSafe limit s w → w.is_lost ≡ false → length w.history < most_entries → at_place w.clients n ≡ Some was → ClientGoes s n was now (happened.Step outs)
       → (AllTell seen w → (t : Turn) → IsAt seen may_leave limit w t.cell t.left → ClientLinked (is t) t n now front outs) → Stepped seen may_leave faults limit s is w (after_client w n now front outs) (Ok tt)
   client_told is was now front outs safe going place found goes link = record {
     steps = record {
@@ -84,12 +85,13 @@ module _ {D : Type 0} (seen : D → Option (List ℕ)) (may_leave : D → List �
     counts = λ k h. h;
   }
 
-  client_lost : (is : Turn → Input → Type 0) (now : ClientSeat) → IsSafe limit s w → Stepped seen may_leave faults limit s is w (lost_with w (put_place n now w.clients)) (Err faulty.OutOfMemory)
+  client_lost : (is : Turn → CellInput → Type 0) (now : ClientSeat) → IsSafe limit s w → Stepped seen may_leave faults limit s is w (lost_with w (put_place n now w.clients)) (Err faulty.OutOfMemory)
   client_lost is now safe = record {
     steps = (record { script = refl; history = refl; wire = refl; clock = refl }, inl refl);
     safe = record {
       script = safe.script;
       cell_script = safe.cell_script;
+      admin_count = safe.admin_count;
       server_count = safe.server_count;
       client_count = length_put n now w.clients ∙ safe.client_count;
       database = λ going. absurd (true_false going);
@@ -104,7 +106,7 @@ module _ {D : Type 0} (seen : D → Option (List ℕ)) (may_leave : D → List �
     counts = λ k h. h;
   }
 
-  module _ (is : Turn → Input → Type 0) (front : Option Line) (IsVoid : ClientSeat → Type 0) (Takes : ClientSeat → ClientSeat → Outs → Type 0) where
+  module _ (is : Turn → CellInput → Type 0) (front : Option Line) (IsVoid : ClientSeat → Type 0) (Takes : ClientSeat → ClientSeat → Outs → Type 0) where
     abbrev Result1 : WorldState D → Result (Unit {0}) WorldFault → Type 0
     Result1 new result = Stepped seen may_leave faults limit s is w new result
 

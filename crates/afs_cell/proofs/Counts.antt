@@ -1,12 +1,13 @@
 -- The faults that the disks count, as one node makes a step.
-use Rattle.std.proofs.Common.{arith, ap, subst, sym, ◌∙◌, ◌≡◌, ◌≤◌, ◌+◌, ◌⊎◌, inl, inr, ℕ, List, [], ◌∷◌, ◌++◌, Bool, true, false, not, nat_eq, if◌then◌else◌, Some}
+use Rattle.std.proofs.Common.{arith, ap, subst, sym, ◌∙◌, ◌≡◌, ◌≤◌, ◌+◌, ◌⊎◌, inl, inr, ℕ, List, [], ◌∷◌, ◌++◌, length, Bool, true, false, not, nat_eq, if◌then◌else◌, Some}
 use Rattle.std.proofs.lemmas.Bool.{ne_eqb}
 use Rattle.afs_num.specs.Places.{at_place}
 use Rattle.afs_num.specs.declared.histories.Actor.{Actor}
 use Rattle.afs_num.specs.declared.histories.Actor.TheVariants as actors
 use Rattle.afs_num.specs.declared.types.Node.TheVariants.{Loc, Server}
 use Rattle.afs_disk.specs.Disk.{Rose}
-use Rattle.afs_rows.specs.Runs.{moved, Cell, Entry, Input, Leads}
+use Rattle.afs_rows.specs.Runs.{Entry}
+use Rattle.afs_runs.specs.NodeRuns.{CellInput}
 use Rattle.afs_clients.specs.Places.{put_place}
 use Rattle.afs_cell.specs.Worlds.{falls, falls_at, is_other, own_falls, Counts, IsCounted, WorldState}
 use Rattle.afs_host.specs.LocSeated.{loc_seat_disk, DatabaseSeat}
@@ -19,26 +20,26 @@ at_most_by : (b : Bool) (n : ℕ) → (if b then 0 else n) ≤ n
 at_most_by true n = omega arith
 at_most_by false n = omega arith
 
-at_most : (i : ℕ) (x : Input) (e : Entry) → falls_at i x e ≤ falls x
+at_most : (i : ℕ) (x : CellInput) (e : Entry) → falls_at i x e ≤ falls x
 at_most i x e = at_most_by (is_other i e.actor) (falls x)
 
 -- an input with which no disk fails
-pub none_falls : (i : ℕ) (x : Input) (e : Entry) → falls x ≡ 0 → falls_at i x e ≡ 0
+pub none_falls : (i : ℕ) (x : CellInput) (e : Entry) → falls x ≡ 0 → falls_at i x e ≡ 0
 none_falls i x e none =
     let most = at_most i x e in
     omega (arith, most, none)
 
 -- the entry of another node
-other_stands : (j : ℕ) (x : Input) (e : Entry) (actor : Actor) → e.actor ≡ actor → is_other j actor ≡ true → falls_at j x e ≡ 0
+other_stands : (j : ℕ) (x : CellInput) (e : Entry) (actor : Actor) → e.actor ≡ actor → is_other j actor ≡ true → falls_at j x e ≡ 0
 other_stands j x e actor of apart = ap (λ (a : Actor). if is_other j a then 0 else falls x) of ∙ ap (λ (b : Bool). if b then 0 else falls x) apart
 
 -- one input more
-pub falls_behind : (i : ℕ) (c : Cell) (xs : List Input) (es : List Entry) (end : Cell) (x : Input) (e : Entry) → Leads c xs es end → own_falls i (xs ++ x ∷ []) (es ++ e ∷ []) ≡ own_falls i xs es + falls_at i x e
-falls_behind i c [] [] end x e leads = omega arith
-falls_behind i c [] (f ∷ fs) end x e leads = absurd leads
-falls_behind i c (y ∷ ys) [] end x e leads = absurd leads
-falls_behind i c (y ∷ ys) (f ∷ fs) end x e leads =
-    let more = falls_behind i (moved c y).cell ys fs end x e leads.1 in
+pub falls_behind : (i : ℕ) (xs : List CellInput) (es : List Entry) (x : CellInput) (e : Entry) → length xs ≡ length es → own_falls i (xs ++ x ∷ []) (es ++ e ∷ []) ≡ own_falls i xs es + falls_at i x e
+falls_behind i [] [] x e same = omega arith
+falls_behind i [] (f ∷ fs) x e same = absurd (omega (arith, same))
+falls_behind i (y ∷ ys) [] x e same = absurd (omega (arith, same))
+falls_behind i (y ∷ ys) (f ∷ fs) x e same =
+    let more = falls_behind i ys fs x e (omega (arith, same)) in
     omega (arith, more)
 
 -- ---- what they count
@@ -63,7 +64,7 @@ module _ {D : Type 0} (faults : D → ℕ) where
   )
 
   -- no disk failed with this input
-  pub counts_still : (x : Input) (e : Entry) (w : WorldState D) → falls x ≡ 0 → (own : ℕ → ℕ) → Counts faults own w → Counts faults (λ (i : ℕ). own i + falls_at i x e) w
+  pub counts_still : (x : CellInput) (e : Entry) (w : WorldState D) → falls x ≡ 0 → (own : ℕ → ℕ) → Counts faults own w → Counts faults (λ (i : ℕ). own i + falls_at i x e) w
   counts_still x e w none own = counts_as own (λ (i : ℕ). own i + falls_at i x e) w (λ i. stands i (none_falls i x e none)) where
     stands : (i : ℕ) → falls_at i x e ≡ 0 → own i + falls_at i x e ≡ own i
     stands i nothing = omega (arith, nothing)
@@ -79,7 +80,7 @@ module _ {D : Type 0} (faults : D → ℕ) where
   counted_more n k m was now le few (inr (one, inr last)) (inl counted) = inr (omega (arith, last, le))
 
   -- a server's step, with an input that made an entry of this server
-  pub counts_put : (i : ℕ) (x : Input) (e : Entry) (was now : ServerSeat D) (w : WorldState D) → e.actor ≡ actors.Node (Server i) → at_place w.servers i ≡ Some was → faults (seat_disk was) ≤ faults (seat_disk now) → Blames (falls x) (seat_disk was) (seat_disk now)
+  pub counts_put : (i : ℕ) (x : CellInput) (e : Entry) (was now : ServerSeat D) (w : WorldState D) → e.actor ≡ actors.Node (Server i) → at_place w.servers i ≡ Some was → faults (seat_disk was) ≤ faults (seat_disk now) → Blames (falls x) (seat_disk was) (seat_disk now)
       → (own : ℕ → ℕ) → Counts faults own w → Counts faults (λ (j : ℕ). own j + falls_at j x e) (record w { servers = put_place i now w.servers })
   counts_put i x e was now w actor found le blames own h =
       let there : nat_eq i 0 ≡ false = ne_eqb i 0 (λ same. absurd (omega (arith, same, (place_within w.servers i was found).0))) in (
@@ -98,7 +99,7 @@ module _ {D : Type 0} (faults : D → ℕ) where
   )
 
   -- so it is of the location database
-  pub loc_counts_put : (x : Input) (e : Entry) (now : DatabaseSeat D) (w : WorldState D) → e.actor ≡ actors.Node Loc → faults (loc_seat_disk w.database) ≤ faults (loc_seat_disk now) → Blames (falls x) (loc_seat_disk w.database) (loc_seat_disk now)
+  pub loc_counts_put : (x : CellInput) (e : Entry) (now : DatabaseSeat D) (w : WorldState D) → e.actor ≡ actors.Node Loc → faults (loc_seat_disk w.database) ≤ faults (loc_seat_disk now) → Blames (falls x) (loc_seat_disk w.database) (loc_seat_disk now)
       → (own : ℕ → ℕ) → Counts faults own w → Counts faults (λ (j : ℕ). own j + falls_at j x e) (record w { database = now })
   loc_counts_put x e now w actor le blames own h = (
     counted_more (own 0) (falls x) (falls_at 0 x e) (loc_seat_disk w.database) (loc_seat_disk now) le (at_most 0 x e) blames h.0,

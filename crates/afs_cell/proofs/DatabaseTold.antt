@@ -12,7 +12,7 @@ use Rattle.afs_disk.specs.Disk.{Rose}
 use Rattle.afs_rows.specs.Hosts.{HostStep}
 use Rattle.afs_rows.specs.LocRow.{LocState}
 use Rattle.afs_rows.specs.LocSteps.{LocHost}
-use Rattle.afs_rows.specs.Runs.{Input}
+use Rattle.afs_runs.specs.NodeRuns.{CellInput}
 use Rattle.afs_schedule.specs.Schedules.{IsInput, Turn}
 use Rattle.afs_clients.specs.Happening.{front_lines, IsGivenToLoc}
 use Rattle.afs_cell.specs.DatabaseSteps.{database_seat, HasLocHeard, HasLocStep, IsLocFallen, IsVoidAtLoc, LocTakes}
@@ -37,7 +37,7 @@ use Rattle.afs_cell.proofs.Settled.{database_keeps, node_settles, ready_more, Le
 abbrev with_database : {D : Type 0} → WorldState D → DatabaseSeat D → WorldState D
 with_database {D} w now = record w { database = now }
 
-module _ {D : Type 0} (seen : D → Option (List ℕ)) (may_leave : D → List ℕ → Type 0) (faults limit : D → ℕ) (s : Script) (is : Turn → Input → Type 0) (w : WorldState D) (front : Option Line)
+module _ {D : Type 0} (seen : D → Option (List ℕ)) (may_leave : D → List ℕ → Type 0) (faults limit : D → ℕ) (s : Script) (is : Turn → CellInput → Type 0) (w : WorldState D) (front : Option Line)
     (IsVoid : LocHost → Type 0) (Has : LocHost → (HostStep LocState → Type 0) → Type 0 → Type 0) where
   abbrev Voids : Type 0
   Voids = AllTell seen w → (t : Turn) → IsAt seen may_leave limit w t.cell t.left → IsVoid t.cell.loc → Voided (is t) t
@@ -66,7 +66,7 @@ module _ {D : Type 0} (seen : D → Option (List ℕ)) (may_leave : D → List �
     database_keeps seen may_leave faults limit s w now takes.keeps,
     (
       record { database = takes.goes (length w.history) (safe.database going); servers = safe.servers going },
-      λ c cell. record { loc = takes.happens c.loc cell.loc; host_count = cell.host_count; hosts = cell.hosts; count = cell.count; clients = cell.clients; sent = cell.sent; clock = cell.clock; handed = cell.handed; reached = cell.reached },
+      λ c cell. record { loc = takes.happens c.loc cell.loc; host_count = cell.host_count; hosts = cell.hosts; count = cell.count; clients = cell.clients; sent = cell.sent; clock = cell.clock; handed = cell.handed; admin_count = cell.admin_count },
     ),
   )
   takes_leaves now happened.Lost safe going takes voids links = database_keeps seen may_leave faults limit s w now takes.keeps

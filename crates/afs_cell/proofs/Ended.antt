@@ -11,11 +11,11 @@ use Rattle.afs_disk.specs.declared.bank.LendFault.TheVariants as lending
 use Rattle.afs_disk.specs.declared.bank.Place.{Place}
 use Rattle.afs_disk.specs.declared.disks.Lent.{Lent}
 use Rattle.afs_law.specs.Cells.{IsOfCell}
-use Rattle.afs_law.specs.Laws.{RunsAreLegal, RunsEndWell}
 use Rattle.afs_outside.specs.Outside.{AppendsFront}
 use Rattle.afs_records.specs.Durable.{Durable}
 use Rattle.afs_records.specs.LocDurable.{LocDurable}
-use Rattle.afs_rows.specs.Runs.{Cell, Entry, Input}
+use Rattle.afs_rows.specs.Runs.{Entry}
+use Rattle.afs_runs.specs.NodeRuns.{CellInput, NodeCell}
 use Rattle.afs_text.specs.FinalText.{final_text}
 use Rattle.afs_text.specs.HistoryText.{history_text, text}
 use Rattle.afs_text.specs.KeptText.{kept_history_text}
@@ -42,7 +42,7 @@ use Rattle.afs_cell.specs.Replays.{lends_of, no_other, one_other, AreAllBut, Are
 use Rattle.afs_command.specs.declared.statuses.Status.{Status}
 use Rattle.afs_command.specs.declared.statuses.Status.TheVariants as statuses
 use Rattle.afs_cell.proofs.LentCounts.{all_but_one, all_counted, counts_lent, failed_among, failed_at, none_of, none_rose, one_disk_failed, one_rose, rose_at, rose_once, AreCounted, IsAmong, OneFailed}
-use Rattle.afs_cell.proofs.RunEnds.{found_come, found_count, given_so, left_so, legal_run, length_told, lent_come, lent_length, no_others, read_so, Missing}
+use Rattle.afs_cell.proofs.RunEnds.{found_come, found_count, given_so, left_so, legal_run, length_told, lent_come, lent_length, no_others, read_so, Missing, RunLaws}
 
 -- ---- the disks go back
 
@@ -72,11 +72,11 @@ rose_by {D} seen faults own s disks o goes all are i has =
 
 -- what is known of it
 pub record HasEnded {D : Type 0} (seen : D → Option (List ℕ)) (may_leave : D → List ℕ → Type 0) (faults limit : D → ℕ) (s : Script) (w : WorldState D) : Type 0 where
-  pub law : RunsAreLegal × RunsEndWell
+  pub law : RunLaws
   pub in_cell : IsOfCell s
   pub world : IsWorld seen may_leave faults limit s w
   pub going : w.is_lost ≡ false
-  pub standing : AllTell seen w → (c : Cell) → IsCell seen may_leave limit w c → AreStanding seen limit c (disks_of w)
+  pub standing : AllTell seen w → (c : NodeCell) → IsCell seen may_leave limit w c → AreStanding seen limit c (disks_of w)
 
 abbrev All : {D : Type 0} → (D → Option (List ℕ)) → (D → List ℕ → Type 0) → (D → ℕ) → (D → ℕ) → Script → WorldState D → Type 0
 All {D} seen may_leave faults limit s w = AllTell seen w × HasPlayedAll seen may_leave faults limit s w
@@ -128,14 +128,14 @@ run_of {D} seen may_leave faults limit s w fs wire Writes is found written = rec
 }
 
 -- its disks go back: each has counted its failures in the history
-lent_rose : {D : Type 0} (seen : D → Option (List ℕ)) (may_leave : D → List ℕ → Type 0) (faults limit : D → ℕ) (s : Script) (w : WorldState D) (inputs : List Input) (end : Cell) (o : Outside) → IsWorld seen may_leave faults limit s w → Runs seen may_leave faults limit s w inputs end → GoesBack seen faults (disks_of w) o
+lent_rose : {D : Type 0} (seen : D → Option (List ℕ)) (may_leave : D → List ℕ → Type 0) (faults limit : D → ℕ) (s : Script) (w : WorldState D) (inputs : List CellInput) (end : NodeCell) (o : Outside) → IsWorld seen may_leave faults limit s w → Runs seen may_leave faults limit s w inputs end → GoesBack seen faults (disks_of w) o
     → (i : ℕ) → HasDisk s i → RoseBy (own_falls i inputs (told w.wire w.history) + no_other i) (o.disk_faults i)
 lent_rose {D} seen may_leave faults limit s w inputs end o is runs back =
     no_others s (λ (i : ℕ). own_falls i inputs (told w.wire w.history)) o.disk_faults
     (rose_by seen faults (λ (i : ℕ). own_falls i inputs (told w.wire w.history)) s (disks_of w) o back (omega (arith, lent_length 1 w.servers, is.safe.server_count)) (counts_lent faults (λ (i : ℕ). own_falls i inputs (told w.wire w.history)) w runs.counts))
 
 -- and so after they were read
-found_rose : {D : Type 0} (seen : D → Option (List ℕ)) (may_leave : D → List ℕ → Type 0) (faults limit : D → ℕ) (s : Script) (w : WorldState D) (inputs : List Input) (end : Cell) (fs : List (Left (Store D) D)) (o : Outside) → IsWorld seen may_leave faults limit s w → Runs seen may_leave faults limit s w inputs end
+found_rose : {D : Type 0} (seen : D → Option (List ℕ)) (may_leave : D → List ℕ → Type 0) (faults limit : D → ℕ) (s : Script) (w : WorldState D) (inputs : List CellInput) (end : NodeCell) (fs : List (Left (Store D) D)) (o : Outside) → IsWorld seen may_leave faults limit s w → Runs seen may_leave faults limit s w inputs end
     → AreFound seen faults limit (lent_from 1 w.servers) fs → GoesBack seen faults (all_kept (loc_seat_disk w.database) fs) o → (i : ℕ) → HasDisk s i → RoseBy (own_falls i inputs (told w.wire w.history) + no_other i) (o.disk_faults i)
 found_rose {D} seen may_leave faults limit s w inputs end fs o is runs found back =
     no_others s (λ (i : ℕ). own_falls i inputs (told w.wire w.history)) o.disk_faults
@@ -152,7 +152,7 @@ replays {D} seen may_leave faults limit s w fs wire Writes MayBeMissing o is fou
     record {
       history = told w.wire w.history;
       end = p.1.cell;
-      run = legal_run seen may_leave faults limit is.law (ToItsEnd s) no_other s w o.disk_faults is.in_cell is.world.safe.entries p.1 (found_rose seen may_leave faults limit s w p.1.inputs p.1.cell fs o is.world p.1.runs found back);
+      run = legal_run seen may_leave faults limit is.law (ToItsEnd s) no_other s w o.disk_faults is.in_cell is.world.safe.admin_count is.world.safe.entries p.1 (found_rose seen may_leave faults limit s w p.1.inputs p.1.cell fs o is.world p.1.runs found back);
       kept = map part fs;
       keep = so.keep;
       loc = so.loc;
@@ -177,7 +177,7 @@ reading_fails {D} seen may_leave faults limit s w fs wire o is found failed writ
       told = λ p. record {
         history = told w.wire w.history;
         end = p.1.cell;
-        run = legal_run seen may_leave faults limit is.law (ToItsEnd s) (one_other (failed_at 1 fs)) s w o.disk_faults is.in_cell is.world.safe.entries p.1
+        run = legal_run seen may_leave faults limit is.law (ToItsEnd s) (one_other (failed_at 1 fs)) s w o.disk_faults is.in_cell is.world.safe.admin_count is.world.safe.entries p.1
             (rose_by seen faults (λ (j : ℕ). own_falls j p.1.inputs (told w.wire w.history) + one_other (failed_at 1 fs) j) s (all_kept (loc_seat_disk w.database) fs) o back count
             (all_but_one seen faults limit (λ (j : ℕ). own_falls j p.1.inputs (told w.wire w.history)) (loc_seat_disk w.database) (lent_from 1 w.servers) fs found failed (counts_lent faults (λ (j : ℕ). own_falls j p.1.inputs (told w.wire w.history)) w p.1.runs.counts)));
         written = written_told seen may_leave faults limit s w wire o is.world p.1.runs.read written;
@@ -193,7 +193,7 @@ reading_stops {D} seen may_leave faults limit s w fs wire o is found written bac
     record {
       history = told w.wire w.history;
       end = p.1.cell;
-      run = legal_run seen may_leave faults limit is.law (SomeOfIt s) no_other s w o.disk_faults is.in_cell is.world.safe.entries some (found_rose seen may_leave faults limit s w p.1.inputs p.1.cell fs o is.world p.1.runs found back);
+      run = legal_run seen may_leave faults limit is.law (SomeOfIt s) no_other s w o.disk_faults is.in_cell is.world.safe.admin_count is.world.safe.entries some (found_rose seen may_leave faults limit s w p.1.inputs p.1.cell fs o is.world p.1.runs found back);
       written = written_told seen may_leave faults limit s w wire o is.world p.1.runs.read written;
       given = found_come (MissedByTheBank o) seen faults limit s.servers w fs o.given.before o.given.after is.world.safe.server_count p.0 found (missed seen faults (all_kept (loc_seat_disk w.database) fs) o back);
     }
@@ -231,7 +231,7 @@ ended {D} seen may_leave faults limit s w fs wire o written statuses.Limit taken
 
 -- what is known of a world whose run is no more than begun, and may be lost
 pub record HasStopped {D : Type 0} (seen : D → Option (List ℕ)) (may_leave : D → List ℕ → Type 0) (faults limit : D → ℕ) (s : Script) (w : WorldState D) : Type 0 where
-  pub law : RunsAreLegal × RunsEndWell
+  pub law : RunLaws
   pub in_cell : IsOfCell s
   pub world : IsWorld seen may_leave faults limit s w
 
@@ -240,7 +240,7 @@ pub stopped : {D : Type 0} (seen : D → Option (List ℕ)) (may_leave : D → L
 stopped {D} seen may_leave faults limit s w wire o is written back p = record {
   history = told w.wire w.history;
   end = p.1.cell;
-  run = legal_run seen may_leave faults limit is.law (SomeOfIt s) no_other s w o.disk_faults is.in_cell is.world.safe.entries p.1 (lent_rose seen may_leave faults limit s w p.1.inputs p.1.cell o is.world p.1.runs back);
+  run = legal_run seen may_leave faults limit is.law (SomeOfIt s) no_other s w o.disk_faults is.in_cell is.world.safe.admin_count is.world.safe.entries p.1 (lent_rose seen may_leave faults limit s w p.1.inputs p.1.cell o is.world p.1.runs back);
   written = written_told seen may_leave faults limit s w wire o is.world p.1.runs.read written;
   given = lent_come (MissedByTheBank o) seen s.servers w o.given.before o.given.after is.world.safe.server_count p.0 (missed seen faults (disks_of w) o back);
 }
@@ -261,7 +261,7 @@ was_cut {D} seen may_leave faults limit s w wire o is full written back = record
       record {
         history = told w.wire w.history;
         end = p.1.0.cell;
-        run = legal_run seen may_leave faults limit is.law (NotToItsEnd s) no_other s w o.disk_faults is.in_cell is.world.safe.entries p.1.0 (lent_rose seen may_leave faults limit s w p.1.0.inputs p.1.0.cell o is.world p.1.0.runs back);
+        run = legal_run seen may_leave faults limit is.law (NotToItsEnd s) no_other s w o.disk_faults is.in_cell is.world.safe.admin_count is.world.safe.entries p.1.0 (lent_rose seen may_leave faults limit s w p.1.0.inputs p.1.0.cell o is.world p.1.0.runs back);
         full = length_told w.wire w.history ∙ full;
         kept = left.0;
         keep = left.1.keep;
@@ -325,7 +325,7 @@ pub since_same : (o : Outside) → Since o o
 since_same o = record { sink = refl; passed = refl; given = refl; sink_faults = refl; disk_faults = λ n. refl; bank_faults = refl }
 
 -- so many failures were counted
-run_as : (s : Script) (IsSoFar : List Input → Type 0) (others : ℕ → ℕ) (history : List Entry) (end : Cell) (o earlier : Outside) → Since o earlier → IsLegalRun s IsSoFar others o.disk_faults history end → IsLegalRun s IsSoFar others earlier.disk_faults history end
+run_as : (s : Script) (IsSoFar : List CellInput → Type 0) (others : ℕ → ℕ) (history : List Entry) (end : NodeCell) (o earlier : Outside) → Since o earlier → IsLegalRun s IsSoFar others o.disk_faults history end → IsLegalRun s IsSoFar others earlier.disk_faults history end
 run_as s IsSoFar others history end o earlier since run = record {
   inputs = run.inputs;
   leads = run.leads;

@@ -1,5 +1,5 @@
 -- An event of the schedule is a step of the world.
-use Rattle.std.proofs.Common.{refl, arith, ap, sym, subst, ◌∙◌, ◌≡◌, ◌≤◌, ◌<◌, ◌+◌, ℕ, zero, suc, List, [], ◌∷◌, ◌++◌, length, false, Option, Some, None, Result, Ok, Err}
+use Rattle.std.proofs.Common.{refl, arith, ap, sym, subst, ◌∙◌, ◌≡◌, ◌≤◌, ◌<◌, ◌+◌, ℕ, zero, suc, List, [], ◌∷◌, ◌++◌, length, Bool, false, true, not, cond, ◌||◌, Option, Some, None, Result, Ok, Err}
 use Rattle.afs_num.specs.declared.histories.Actor.TheVariants as actors
 use Rattle.afs_history.specs.declared.lines.Entry as kept
 use Rattle.afs_history.specs.declared.lines.Line.TheVariants as lines
@@ -7,11 +7,14 @@ use Rattle.afs_history.specs.declared.scripts.Event.TheVariants as events
 use Rattle.afs_history.specs.declared.scripts.Script.{Script}
 use Rattle.afs_num.specs.Places.{at_place}
 use Rattle.afs_num.specs.declared.messages.Message.{Message}
+use Rattle.afs_num.specs.declared.messages.Received.TheVariants.{Whole}
 use Rattle.afs_num.specs.declared.types.Node.{Node}
 use Rattle.afs_num.specs.declared.types.Node.TheVariants.{Admin}
 use Rattle.afs_num.specs.declared.types.Parcel.{Parcel}
-use Rattle.afs_rows.specs.Runs.{given_at, given_to, gives, message_at, moved, nothing, ticks, voided, Cell, Input}
+use Rattle.afs_rows.specs.Runs.{gives, message_at, nothing, ticks}
+use Rattle.afs_runs.specs.NodeRuns.{admin_moves, given_at, given_to, is_gone, node_moved, usual, usually_moved, voided, CellInput, NodeCell}
 use Rattle.afs_rows.specs.Hosts.{steady}
+use Rattle.afs_adminrows.specs.AdminRow.{admin_row}
 use Rattle.afs_schedule.specs.Schedules.{IsInput, Turn}
 use Rattle.afs_text.specs.Telling.{sent_by}
 use Rattle.afs_cell.specs.Happening.{NothingSettles}
@@ -19,7 +22,7 @@ use Rattle.afs_cell.specs.Steps.{IsAt, Plays, Stepped, Steps}
 use Rattle.afs_cell.specs.Worlds.{most_entries, most_ticks, AllTell, IsSafe, WorldState}
 use Rattle.afs_cell.specs.declared.faults.WorldFault.{WorldFault}
 use Rattle.afs_cell.specs.declared.faults.WorldFault.TheVariants as faulty
-use Rattle.afs_cell.proofs.Reached.{reached_on}
+use Rattle.afs_clients.proofs.Numbers.{no_client}
 use Rattle.afs_cell.proofs.ClientSteps.{moved_nothing}
 use Rattle.afs_cell.proofs.Counts.{counts_still}
 use Rattle.afs_cell.proofs.Links.{message_found, Voided}
@@ -34,7 +37,7 @@ abbrev pub after_tick : {D : Type 0} → WorldState D → ℕ → WorldState D
 after_tick {D} w n = record w { history = w.history ++ tick_entry n ∷ []; clock = w.clock + n }
 
 module _ {D : Type 0} (seen : D → Option (List ℕ)) (may_leave : D → List ℕ → Type 0) (faults limit : D → ℕ) (s : Script) where
-  steps_as : (is more : Turn → Input → Type 0) (w new : WorldState D) (result : Result (Unit {0}) WorldFault) → ((t : Turn) (x : Input) → is t x → more t x) → Steps seen may_leave faults limit is w new result → Steps seen may_leave faults limit more w new result
+  steps_as : (is more : Turn → CellInput → Type 0) (w new : WorldState D) (result : Result (Unit {0}) WorldFault) → ((t : Turn) (x : CellInput) → is t x → more t x) → Steps seen may_leave faults limit is w new result → Steps seen may_leave faults limit more w new result
   steps_as is more w new (Ok done) f h = record {
     count = h.count;
     going = h.going;
@@ -45,11 +48,11 @@ module _ {D : Type 0} (seen : D → Option (List ℕ)) (may_leave : D → List �
   steps_as is more w new (Err e) f h = h
 
   -- what is such an input is another, too
-  pub stepped_as : (is more : Turn → Input → Type 0) (w new : WorldState D) (result : Result (Unit {0}) WorldFault) → ((t : Turn) (x : Input) → is t x → more t x) → Stepped seen may_leave faults limit s is w new result → Stepped seen may_leave faults limit s more w new result
+  pub stepped_as : (is more : Turn → CellInput → Type 0) (w new : WorldState D) (result : Result (Unit {0}) WorldFault) → ((t : Turn) (x : CellInput) → is t x → more t x) → Stepped seen may_leave faults limit s is w new result → Stepped seen may_leave faults limit s more w new result
   stepped_as is more w new result f h = record { steps = steps_as is more w new result f h.steps; safe = h.safe; tells = h.tells; counts = h.counts }
 
   -- nothing happens, and nothing is what comes of the input
-  pub skip_as : (is : Turn → Input → Type 0) (w new : WorldState D) (result : Result (Unit {0}) WorldFault) → IsSafe limit s w → w.is_lost ≡ false → length w.history < most_entries
+  pub skip_as : (is : Turn → CellInput → Type 0) (w new : WorldState D) (result : Result (Unit {0}) WorldFault) → IsSafe limit s w → w.is_lost ≡ false → length w.history < most_entries
       → (AllTell seen w → (t : Turn) → IsAt seen may_leave limit w t.cell t.left → Voided (is t) t) → NothingSettles w new result → Stepped seen may_leave faults limit s is w new result
   skip_as is w new (Ok done) safe going few void settles =
       subst (λ (v : WorldState D). Stepped seen may_leave faults limit s is w v (Ok done)) (sym settles) (nothing_happens seen may_leave faults limit s is w safe going few void)
@@ -57,23 +60,23 @@ module _ {D : Type 0} (seen : D → Option (List ℕ)) (may_leave : D → List �
       subst (λ (f : WorldFault). Stepped seen may_leave faults limit s is w new (Err f)) (sym settles.0)
       (subst (λ (v : WorldState D). Stepped seen may_leave faults limit s is w v (Err faulty.OutOfMemory)) (sym settles.1) (nothing_changes seen may_leave faults limit s is w safe))
 
-  pub skip_steps : (is : Turn → Input → Type 0) (w new : WorldState D) (result : Result (Unit {0}) WorldFault) → IsSafe limit s w → w.is_lost ≡ false → length w.history < most_entries → ((t : Turn) → is t nothing) → NothingSettles w new result → Stepped seen may_leave faults limit s is w new result
+  pub skip_steps : (is : Turn → CellInput → Type 0) (w new : WorldState D) (result : Result (Unit {0}) WorldFault) → IsSafe limit s w → w.is_lost ≡ false → length w.history < most_entries → ((t : Turn) → is t (usual nothing)) → NothingSettles w new result → Stepped seen may_leave faults limit s is w new result
   skip_steps is w new result safe going few void settles =
-      skip_as is w new result safe going few (λ tell t at. record { input = nothing; is_one = void t; moves = moved_nothing t.cell; left = refl; harmless = refl }) settles
+      skip_as is w new result safe going few (λ tell t at. record { input = usual nothing; is_one = void t; moves = moved_nothing t.cell; left = refl; harmless = refl }) settles
 
   -- the clock rises
   tick_plays : (n : ℕ) (t : Turn) (w : WorldState D) → 1 ≤ n → sent_by w.history ≡ length w.wire → IsAt seen may_leave limit w t.cell t.left → Plays seen may_leave faults limit (IsInput t (events.Tick n)) t w (after_tick w n)
-  unfolding moved
+  unfolding usually_moved
   tick_plays zero t w some all at = absurd (omega (arith, some))
   tick_plays (suc k) t w some all at = record {
-    input = ticks (suc k);
+    input = usual (ticks (suc k));
     is_one = refl;
     history = told-still w.wire w.history (tick_entry (suc k)) all refl;
     at = record {
-      cell = record { loc = at.cell.loc; host_count = at.cell.host_count; hosts = at.cell.hosts; count = at.cell.count; clients = at.cell.clients; sent = at.cell.sent; handed = at.cell.handed; reached = reached_on t.cell (ticks (suc k)) at.cell.reached; clock = ap (λ (c : ℕ). c + suc k) at.cell.clock };
+      cell = record { loc = at.cell.loc; host_count = at.cell.host_count; hosts = at.cell.hosts; count = at.cell.count; clients = at.cell.clients; sent = at.cell.sent; handed = at.cell.handed; admin_count = at.cell.admin_count; clock = ap (λ (c : ℕ). c + suc k) at.cell.clock };
       acts = at.acts;
     };
-    counts = counts_still faults (ticks (suc k)) (moved t.cell (ticks (suc k))).entry w refl;
+    counts = counts_still faults (usual (ticks (suc k))) (node_moved t.cell (usual (ticks (suc k)))).entry w refl;
   }
 
   pub tick_steps : (n : ℕ) (w : WorldState D) → 1 ≤ n → IsSafe limit s w → w.is_lost ≡ false → length w.history < most_entries → w.clock + n ≤ most_ticks → Stepped seen may_leave faults limit s (λ (t : Turn). IsInput t (events.Tick n)) w (after_tick w n) (Ok tt)
@@ -86,6 +89,7 @@ module _ {D : Type 0} (seen : D → Option (List ℕ)) (may_leave : D → List �
     safe = record {
       script = safe.script;
       cell_script = safe.cell_script;
+      admin_count = safe.admin_count;
       server_count = safe.server_count;
       client_count = safe.client_count;
       database = λ still. loc_ready_longer w.history (tick_entry n) w.database (safe.database still);
@@ -110,16 +114,23 @@ none_at : (sent : List Message) (place : ℕ) (o : Option Message) → at_place 
 none_at sent place None e h = e
 none_at sent place (Some m) e h = absurd h
 
-void_none : (c : Cell) (place : ℕ) → message_at c.sent place ≡ None → moved c (gives place steady) ≡ voided c
-unfolding moved
+void_none : (c : NodeCell) (place : ℕ) → message_at c.sent place ≡ None → node_moved c (usual (gives place steady)) ≡ voided c
+unfolding usually_moved
 void_none c place e = ap (given_at c place steady) e
 
-void_to : (c : Cell) (place : ℕ) (m : Message) (to : Node) → message_at c.sent place ≡ Some m → m.head.to ≡ to → given_to c place steady m to ≡ voided c → moved c (gives place steady) ≡ voided c
-unfolding moved
+void_to : (c : NodeCell) (place : ℕ) (m : Message) (to : Node) → message_at c.sent place ≡ Some m → m.head.to ≡ to → given_to c place steady m to ≡ voided c → node_moved c (usual (gives place steady)) ≡ voided c
+unfolding usually_moved
 void_to c place m to at is void = ap (given_at c place steady) at ∙ (ap (given_to c place steady m) is ∙ void)
 
-abbrev gives_void : (t : Turn) (place : ℕ) → moved t.cell (gives place steady) ≡ voided t.cell → Voided (IsInput t (events.Deliver place)) t
-gives_void t place e = record { input = gives place steady; is_one = (steady, (refl, tt)); moves = e; left = refl; harmless = refl }
+-- the cell has no administrators
+all_gone : (c : NodeCell) (k : ℕ) → c.admin_count ≡ 0 → is_gone c k ≡ true
+all_gone c k none = ap (λ (b : Bool). not b || c.gone k) (no_client {A = ℕ} [] k c.admin_count refl none)
+
+admin_void : (c : NodeCell) (place : ℕ) (m : Message) (k : ℕ) → c.admin_count ≡ 0 → given_to c place steady m (Admin k) ≡ voided c
+admin_void c place m k none = ap (λ (b : Bool). cond b (voided c) (admin_moves c k (admin_row (Admin k) (c.admins k) place (Whole m)))) (all_gone c k none)
+
+abbrev gives_void : (t : Turn) (place : ℕ) → node_moved t.cell (usual (gives place steady)) ≡ voided t.cell → Voided (IsInput t (events.Deliver place)) t
+gives_void t place e = record { input = usual (gives place steady); is_one = (steady, (refl, tt)); moves = e; left = refl; harmless = refl }
 
 module _ {D : Type 0} (seen : D → Option (List ℕ)) (may_leave : D → List ℕ → Type 0) (faults limit : D → ℕ) (w : WorldState D) (place : ℕ) where
   -- nothing was sent there
@@ -132,4 +143,4 @@ module _ {D : Type 0} (seen : D → Option (List ℕ)) (may_leave : D → List �
   pub to_admin : (t : Turn) (p : Parcel) (k : ℕ) → IsAt seen may_leave limit w t.cell t.left → at_place w.wire place ≡ Some p → p.head.to ≡ Admin k → Voided (IsInput t (events.Deliver place)) t
   to_admin t p k at e to =
       let f = message_found seen may_leave faults limit w t.cell place p at.cell e in
-      gives_void t place (void_to t.cell place f.message (Admin k) f.at (sym (ap (λ h. h.to) f.carries.head) ∙ to) refl)
+      gives_void t place (void_to t.cell place f.message (Admin k) f.at (sym (ap (λ h. h.to) f.carries.head) ∙ to) (admin_void t.cell place f.message k at.cell.admin_count))

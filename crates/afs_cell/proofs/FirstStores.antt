@@ -19,7 +19,7 @@ use Rattle.afs_grammar.specs.Lines.{volumes_at}
 use Rattle.afs_law.specs.Laws.{SetUpsAreFirst}
 use Rattle.afs_scripts.specs.SetUps.{NumbersAscend, SetUpsAreAccepted}
 use Rattle.afs_server.specs.Seen.{first_memory, lasting_of, state_seen, Memory, Serves}
-use Rattle.afs_rows.specs.Runs.{first_host}
+use Rattle.afs_runs.specs.NodeRuns.{first_node}
 use Rattle.afs_rows.specs.States.{ServerState}
 use Rattle.afs_volrows.specs.VolStates.{fresh_vol, NodeState, VolState}
 use Rattle.afs_volserv.specs.Seen.{vol_seen, ServesVolumes}
@@ -57,7 +57,7 @@ abbrev node_of : ServerState → VolState → NodeState
 node_of x y = record { file = x; vol = y }
 
 abbrev first_server_state : Script → ℕ → ServerState
-first_server_state s i = (first_host s i).state
+first_server_state s i = (first_node s i).state.file
 
 module _ {D : Type 0} (seen : D → Option (List ℕ)) (may_leave : D → List ℕ → Type 0) (faults limit : D → ℕ) (s : Script) (h : IsCellScript s) (i : ℕ) (old : D) (ls : List VolumeLine) where
   -- what is set up is what the script says

@@ -9,18 +9,17 @@ use Rattle.afs_history.specs.declared.scripts.Script.{Script}
 use Rattle.afs_disk.specs.declared.disks.Lent.{Lent}
 use Rattle.afs_grammar.specs.CellScripts.{IsCellScript}
 use Rattle.afs_rows.specs.Going.{ClientState}
-use Rattle.afs_rows.specs.Runs.{first_client, first_host, start}
+use Rattle.afs_rows.specs.Runs.{first_client}
+use Rattle.afs_runs.specs.NodeRuns.{first_node, node_start}
 use Rattle.afs_host.specs.declared.seats.Seat.TheVariants.{Down, Up}
 use Rattle.afs_schedule.specs.Schedules.{tasks_of}
-use Rattle.afs_cell.specs.SeatSteps.{IsRestingHost}
-use Rattle.afs_cell.proofs.Reached.{reached_first}
 use Rattle.afs_cell.specs.FirstSeats.{AreFirstHosts, AreFirstSeats, IsFirstSeat}
 use Rattle.afs_clients.specs.Places.{Each}
 use Rattle.afs_clients.specs.Seating.{AreFirstClients, IsFirstClient}
 use Rattle.afs_cell.specs.Steps.{IsFirst}
 use Rattle.afs_cell.specs.Lends.{AreLent, LentTell}
 use Rattle.afs_host.specs.LocSeats.{DatabaseRunning}
-use Rattle.afs_host.specs.Seated.{seat_disk, IsReadySeat, ServerSeat}
+use Rattle.afs_host.specs.Seated.{seat_disk, IsHost, IsReadySeat, ServerSeat}
 use Rattle.afs_cell.specs.Worlds.{none_gone, AllTell, IsCell, IsClient, IsReadyClient, IsSafe, IsWorld, LetGo, WorldState}
 use Rattle.afs_clients.specs.declared.clients.ClientSeat.{ClientSeat}
 use Rattle.afs_cell.proofs.FirstSeated.{count_seats}
@@ -92,8 +91,8 @@ module _ {D : Type 0} (seen : D → Option (List ℕ)) (may_leave : D → List �
   ready_seat capacity n l (Up r) e h = h.ready
   ready_seat capacity n l (Down r) e h = absurd h
 
-  host_seat : (capacity n : ℕ) (l : Lent D) (seat : ServerSeat D) → limit l.disk ≡ capacity → IsFirstSeat seen may_leave faults limit s n l.disk seat → IsRestingHost seen may_leave limit (Server n) seat (first_host s n)
-  host_seat capacity n l (Up r) e h = ([], h.host)
+  host_seat : (capacity n : ℕ) (l : Lent D) (seat : ServerSeat D) → limit l.disk ≡ capacity → IsFirstSeat seen may_leave faults limit s n l.disk seat → IsHost seen may_leave limit (Server n) seat (first_node s n)
+  host_seat capacity n l (Up r) e h = h.host
   host_seat capacity n l (Down r) e h = absurd h
 
   held_seat : (capacity n : ℕ) (l : Lent D) (seat : ServerSeat D) → limit l.disk ≡ capacity → IsFirstSeat seen may_leave faults limit s n l.disk seat → limit (seat_disk seat) ≡ capacity
@@ -108,7 +107,7 @@ module _ {D : Type 0} (seen : D → Option (List ℕ)) (may_leave : D → List �
   abbrev first_world : DatabaseRunning D → List (ServerSeat D) → List ClientSeat → WorldState D
   first_world database ss cs = record { script = s; database = Up database; servers = ss; clients = cs; wire = []; history = []; gone = none_gone; clock = 0; is_lost = false }
 
-  module _ (h : IsCellScript s) (one : Lent D) (ls : List (Lent D)) (database : DatabaseRunning D) (ss : List (ServerSeat D)) (cs : List ClientSeat) (lent : AreLent limit s.capacity 0 (one ∷ ls)) (all : length (one ∷ ls) ≡ s.servers + 1)
+  module _ (h : IsCellScript s) (admins : s.admins ≡ 0) (one : Lent D) (ls : List (Lent D)) (database : DatabaseRunning D) (ss : List (ServerSeat D)) (cs : List ClientSeat) (lent : AreLent limit s.capacity 0 (one ∷ ls)) (all : length (one ∷ ls) ≡ s.servers + 1)
       (hosts : AreFirstHosts seen may_leave faults limit s (one ∷ ls) database ss) (clients : AreFirstClients s 1 cs) (count : length cs ≡ s.clients) where
     seats_are : length ss ≡ s.servers
     seats_are =
@@ -118,17 +117,17 @@ module _ {D : Type 0} (seen : D → Option (List ℕ)) (may_leave : D → List �
     each_seat : (Q : ℕ → ServerSeat D → Type 0) → ((n : ℕ) (l : Lent D) (seat : ServerSeat D) → limit l.disk ≡ s.capacity → IsFirstSeat seen may_leave faults limit s n l.disk seat → Q n seat) → Each Q ss
     each_seat Q f = each_from Q ss (seats_from Q s.capacity 1 ls ss [] f lent.1.1 hosts.1)
 
-    is_cell : IsCell seen may_leave limit (first_world database ss cs) (start s)
+    is_cell : IsCell seen may_leave limit (first_world database ss cs) (node_start s)
     is_cell = record {
       loc = hosts.0.host;
       host_count = sym seats_are;
-      hosts = each_seat (λ (i : ℕ) (seat : ServerSeat D). IsRestingHost seen may_leave limit (Server i) seat (first_host s i)) (host_seat s.capacity);
+      hosts = each_seat (λ (i : ℕ) (seat : ServerSeat D). IsHost seen may_leave limit (Server i) seat (first_node s i)) (host_seat s.capacity);
       count = sym count;
       clients = each_client s (λ (n : ℕ) (c : ClientSeat). IsClient c (first_client s n) false) cs (λ n c first. record { state_is = first.state; away_is = first.up }) clients;
       sent = refl;
       clock = refl;
       handed = refl;
-      reached = reached_first s;
+      admin_count = admins;
     }
 
     pub is_first : IsFirst seen may_leave limit s (first_world database ss cs)
@@ -146,6 +145,7 @@ module _ {D : Type 0} (seen : D → Option (List ℕ)) (may_leave : D → List �
     is_safe = record {
       script = refl;
       cell_script = h;
+      admin_count = admins;
       server_count = seats_are;
       client_count = count;
       database = λ still. hosts.0.ready;
@@ -160,11 +160,11 @@ module _ {D : Type 0} (seen : D → Option (List ℕ)) (may_leave : D → List �
     pub is_world_first : IsWorld seen may_leave faults limit s (first_world database ss cs)
     is_world_first = record {
       safe = is_safe;
-      run = λ tell. record { inputs = []; cell = start s; runs = runs_none seen may_leave faults limit s (first_world database ss cs) is_first tell };
+      run = λ tell. record { inputs = []; cell = node_start s; runs = runs_none seen may_leave faults limit s (first_world database ss cs) is_first tell };
     }
 
   -- as the program makes it
-  module _ (h : IsCellScript s) (database : DatabaseRunning D) (ss : List (ServerSeat D)) (cs : List ClientSeat) (clients : AreFirstClients s 1 cs) (count : length cs ≡ s.clients)
+  module _ (h : IsCellScript s) (admins : s.admins ≡ 0) (database : DatabaseRunning D) (ss : List (ServerSeat D)) (cs : List ClientSeat) (clients : AreFirstClients s 1 cs) (count : length cs ≡ s.clients)
       (ts : List (ServerSeat D)) (ds : List ClientSeat) (wire : List Parcel) (history : List kept.Entry) (gone : LetGo) (servers_are : ts ≡ ss) (clients_are : ds ≡ cs) (no_wire : wire ≡ []) (no_history : history ≡ []) (not_gone : gone ≡ none_gone) where
     abbrev made_world : WorldState D
     made_world = record { script = s; database = Up database; servers = ts; clients = ds; wire = wire; history = history; gone = gone; clock = 0; is_lost = false }
@@ -177,11 +177,11 @@ module _ {D : Type 0} (seen : D → Option (List ℕ)) (may_leave : D → List �
 
     pub world_made : (ls : List (Lent D)) → AreLent limit s.capacity 0 ls → length ls ≡ s.servers + 1 → AreFirstHosts seen may_leave faults limit s ls database ss → IsWorld seen may_leave faults limit s made_world
     world_made [] lent all hosts = absurd hosts
-    world_made (one ∷ ls) lent all hosts = subst (λ (w : WorldState D). IsWorld seen may_leave faults limit s w) (sym made_is) (is_world_first h one ls database ss cs lent all hosts clients count)
+    world_made (one ∷ ls) lent all hosts = subst (λ (w : WorldState D). IsWorld seen may_leave faults limit s w) (sym made_is) (is_world_first h admins one ls database ss cs lent all hosts clients count)
 
     pub first_made : (ls : List (Lent D)) → AreLent limit s.capacity 0 ls → length ls ≡ s.servers + 1 → AreFirstHosts seen may_leave faults limit s ls database ss → IsFirst seen may_leave limit s made_world
     first_made [] lent all hosts = absurd hosts
-    first_made (one ∷ ls) lent all hosts = subst (λ (w : WorldState D). IsFirst seen may_leave limit s w) (sym made_is) (is_first h one ls database ss cs lent all hosts clients count)
+    first_made (one ∷ ls) lent all hosts = subst (λ (w : WorldState D). IsFirst seen may_leave limit s w) (sym made_is) (is_first h admins one ls database ss cs lent all hosts clients count)
 
   -- ---- which disks tell
 

@@ -1,9 +1,7 @@
 -- The disks at the end of a cell's run.
-use Rattle.std.proofs.Common.{refl, arith, append_assoc, ap, sym, subst, ◌∙◌, ◌≡◌, ◌+◌, ℕ, zero, suc, List, [], ◌∷◌, ◌++◌, length, true, false, Option, Some}
+use Rattle.std.proofs.Common.{refl, ap, sym, subst, ◌∙◌, ◌≡◌, ◌+◌, ℕ, zero, suc, List, [], ◌∷◌, ◌++◌, length, true, false, Option, Some}
 use Rattle.std.specs.Prelude.{Bool}
 use Rattle.afs_num.specs.Places.{at_place}
-use Rattle.afs_num.specs.declared.messages.Received.TheVariants.{Whole}
-use Rattle.afs_num.specs.declared.types.Node.{Node}
 use Rattle.afs_num.specs.declared.types.Node.TheVariants.{Server}
 use Rattle.afs_history.specs.declared.scripts.Script.{Script}
 use Rattle.afs_disk.specs.declared.disks.Lent.{Lent}
@@ -11,20 +9,14 @@ use Rattle.afs_journal.specs.Records.{whole_records}
 use Rattle.afs_records.specs.Durable.{Durable}
 use Rattle.afs_records.specs.LocDurable.{LocDurable}
 use Rattle.afs_volstore.specs.Stands.{Stands}
-use Rattle.afs_rows.specs.Runs.{Cell}
-use Rattle.afs_rows.specs.LocRow as loc
-use Rattle.afs_rows.specs.LocRow.{loc_decides, LocDecision, LocLasting, LocState}
-use Rattle.afs_rows.specs.LocSteps.{loc_begun_after}
-use Rattle.afs_rows.specs.ServerHosts.{begun_by_disk}
-use Rattle.afs_rows.specs.Hosts.{at_rest, in_boot, in_step, Fall, MayBegin, MayFind}
-use Rattle.afs_rows.specs.ServerRow.{begun_after, decides, drops, refuses, repeats, saves, shows, tells_boot, Decision}
-use Rattle.afs_rows.specs.States.{Lasting, Seat, ServerState}
-use Rattle.afs_rows.specs.Steps.{Begun}
-use Rattle.afs_volrows.specs.RestingHosts.{resting_host, resting_state}
+use Rattle.afs_runs.specs.NodeRuns.{NodeCell}
+use Rattle.afs_rows.specs.LocRow.{LocLasting, LocState}
+use Rattle.afs_rows.specs.Hosts.{Fall, MayBegin, MayFind}
+use Rattle.afs_rows.specs.States.{Lasting}
 use Rattle.afs_volrows.specs.VolStates.{NodeState}
-use Rattle.afs_volrows.proofs.HostResting.{hosts_rest}
-use Rattle.afs_volrows.proofs.HostPlain.{hosts_plain}
 use Rattle.afs_host.specs.Seats.{IsDown, Resting}
+use Rattle.afs_host.proofs.LocRising.{loc_fits}
+use Rattle.afs_host.proofs.Rising.{server_fits}
 use Rattle.afs_host.specs.Standing.{LiesAs}
 use Rattle.afs_host.specs.declared.seats.Seat.TheVariants.{Down, Up}
 use Rattle.afs_cell.specs.FirstSeats.{AreKeptSeats, IsKeptSeat, IsLocKeptSeat}
@@ -32,40 +24,11 @@ use Rattle.afs_cell.specs.Steps.{AreStanding, IsReadAfter, IsReadAfterAtLoc, Loc
 use Rattle.afs_cell.specs.Lends.{disks_of, lent_from, AreLent}
 use Rattle.afs_host.specs.LocSeated.{loc_seat_disk, DatabaseSeat, IsLocHost, IsLocReadySeat}
 use Rattle.afs_host.specs.LocSeats.{IsLocDown}
-use Rattle.afs_host.specs.LocStanding.{loc_begun_by_disk, LocLiesAs}
+use Rattle.afs_host.specs.LocStanding.{LocLiesAs}
 use Rattle.afs_host.specs.Seated.{seat_disk, IsHost, IsReadySeat, ServerSeat}
 use Rattle.afs_clients.specs.Places.{Each}
-use Rattle.afs_cell.specs.Worlds.{AllHold, IsCell, IsSafe, WorldState, IsReached}
-use Rattle.afs_cell.proofs.Reached.{of_client, open_there}
+use Rattle.afs_cell.specs.Worlds.{AllHold, IsCell, IsSafe, WorldState}
 use Rattle.afs_clients.proofs.Numbers.{none_some, some_is}
-
--- ---- a step leaves the capacity as it is
-
-decided_capacity : (me : Node) (s : ServerState) (clock : ℕ) (d : Decision) → (begun_after me s clock d).state.lasting.capacity ≡ s.lasting.capacity
-decided_capacity me s clock drops = refl
-decided_capacity me s clock (tells_boot head) = refl
-decided_capacity me s clock (repeats reply) = refl
-decided_capacity me s clock (refuses head code) = refl
-decided_capacity me s clock (shows head reading) = refl
-decided_capacity me s clock (saves head change) = refl
-
-capacity_after : (me : Node) (s : ServerState) (fall : Fall) → (begun_by_disk me s true fall).state.lasting.capacity ≡ s.lasting.capacity
-capacity_after me s at_rest = refl
-capacity_after me s (in_step m clock b) = decided_capacity me s clock (decides me s clock (Whole m))
-capacity_after me s in_boot = refl
-
-loc_decided_capacity : (s : LocState) (d : LocDecision) → (loc_begun_after s d).state.lasting.capacity ≡ s.lasting.capacity
-loc_decided_capacity s loc.drops = refl
-loc_decided_capacity s (loc.tells_boot head) = refl
-loc_decided_capacity s (loc.repeats reply) = refl
-loc_decided_capacity s (loc.refuses head code) = refl
-loc_decided_capacity s (loc.shows head reply) = refl
-loc_decided_capacity s (loc.saves head change) = refl
-
-loc_capacity_after : (s : LocState) (fall : Fall) → (loc_begun_by_disk s true fall).state.lasting.capacity ≡ s.lasting.capacity
-loc_capacity_after s at_rest = refl
-loc_capacity_after s (in_step m clock b) = loc_decided_capacity s (loc_decides s (Whole m))
-loc_capacity_after s in_boot = refl
 
 each_tail : {A : Type 0} (P : A → Type 0) (x : A) (xs : List A) → ((n : ℕ) (y : A) → at_place (x ∷ xs) n ≡ Some y → P y) → (n : ℕ) (y : A) → at_place xs n ≡ Some y → P y
 each_tail P x [] h n y e = absurd (none_some y e)
@@ -97,45 +60,42 @@ module _ {D : Type 0} (seen : D → Option (List ℕ)) (may_leave : D → List �
 
   -- ---- what a disk stands for
 
-  abbrev StandsFor : Cell → ℕ → D → List ℕ → Type 0
+  abbrev StandsFor : NodeCell → ℕ → D → List ℕ → Type 0
   StandsFor c i disk bytes = (d : Durable) × (MayBeRead c i d × (Stands bytes d × (d.capacity ≡ limit disk)))
 
-  may_begin : (c : Cell) (i : ℕ) (callers : List Seat) (x : Resting D) (down : IsDown seen may_leave limit (Server i) x (resting_host callers (c.hosts i))) (after : Bool) → MayFind down.fall after → MayBegin (c.hosts i).down after
-  may_begin c i callers x down after may = subst (λ (o : Option Fall). MayBegin o after) (sym down.down) may
+  may_begin : (c : NodeCell) (i : ℕ) (x : Resting D) (down : IsDown seen may_leave limit (Server i) x (c.hosts i)) (after : Bool) → MayFind down.fall after → MayBegin (c.hosts i).down after
+  may_begin c i x down after may = subst (λ (o : Option Fall). MayBegin o after) (sym down.down) may
 
-  lies_so : (c : Cell) (i : ℕ) (callers : List Seat) (x : Resting D) (down : IsDown seen may_leave limit (Server i) x (resting_host callers (c.hosts i))) → IsReached c → (bytes : List ℕ) (after : Bool) → MayFind down.fall after → LiesAs (Server i) (resting_state callers (c.hosts i).state) down.fall x.mark after (whole_records bytes) → StandsFor c i x.disk bytes
-  lies_so c i callers x down reached bytes false may before =
+  lies_so : (c : NodeCell) (i : ℕ) (x : Resting D) (down : IsDown seen may_leave limit (Server i) x (c.hosts i)) (bytes : List ℕ) (after : Bool) → MayFind down.fall after → LiesAs (Server i) (c.hosts i).state down.fall x.mark after (whole_records bytes) → StandsFor c i x.disk bytes
+  lies_so c i x down bytes false may before =
       let d = before.before.durable in
-      (d, ((false, (may_begin c i callers x down false may, before.before.read)), (before.before.stands, ap (λ (l : Lasting). l.capacity) before.before.read ∙ down.capacity)))
-  lies_so c i callers x down reached bytes true may after =
-      let d = after.after.durable in
-      let read = after.after.read
-      ∙ (ap (λ (b : Begun NodeState). b.state.file.lasting) (hosts_rest.begins (Server i) callers (c.hosts i).state true down.fall (of_client c i down.fall reached down.down))
-      ∙ ap (λ (b : Begun ServerState). b.state.lasting) (hosts_plain.begins (Server i) (c.hosts i).state true down.fall (open_there c reached i))) in (
+      (d, ((false, (may_begin c i x down false may, before.before.read)), (before.before.stands, ap (λ (l : Lasting). l.capacity) before.before.read ∙ down.capacity)))
+  lies_so c i x down bytes true may after =
+      let d = after.after.durable in (
         d,
         (
-          (true, (may_begin c i callers x down true may, subst (λ (o : Option Fall). IsReadAfter (Server i) (c.hosts i).state o d) (sym down.down) read)),
-          (after.after.stands, ap (λ (l : Lasting). l.capacity) read ∙ (capacity_after (Server i) (c.hosts i).state down.fall ∙ down.capacity)),
+          (true, (may_begin c i x down true may, subst (λ (o : Option Fall). IsReadAfter (Server i) (c.hosts i).state o d) (sym down.down) after.after.read)),
+          (after.after.stands, ap (λ (l : Lasting). l.capacity) after.after.read ∙ ((server_fits (Server i)).same_capacity (c.hosts i).state down.fall ∙ down.capacity)),
         ),
       )
 
-  seat_stands : (c : Cell) (i entries : ℕ) (callers : List Seat) (seat : ServerSeat D) → IsHost seen may_leave limit (Server i) seat (resting_host callers (c.hosts i)) → IsReadySeat (Server i) entries seat → IsKeptSeat seen may_leave limit seat → IsReached c → (bytes : List ℕ) → seen (seat_disk seat) ≡ Some bytes → StandsFor c i (seat_disk seat) bytes
-  seat_stands c i entries callers (Up r) up ready kept reached bytes e =
+  seat_stands : (c : NodeCell) (i entries : ℕ) (seat : ServerSeat D) → IsHost seen may_leave limit (Server i) seat (c.hosts i) → IsReadySeat (Server i) entries seat → IsKeptSeat seen may_leave limit seat → (bytes : List ℕ) → seen (seat_disk seat) ≡ Some bytes → StandsFor c i (seat_disk seat) bytes
+  seat_stands c i entries (Up r) up ready kept bytes e =
       let stands = kept.0 ready.can_run.up in
       (r.store.durable, ((false, (subst (λ (o : Option Fall). MayBegin o false) (sym up.down) tt, sym (ap (λ (x : NodeState). x.file.lasting) up.state))), (stands.stands bytes e, kept.1)))
-  seat_stands c i entries callers (Down x) down ready kept reached bytes e =
+  seat_stands c i entries (Down x) down ready kept bytes e =
       let found = down.found bytes e in
-      lies_so c i callers x down reached bytes found.0 found.1.0 found.1.1
+      lies_so c i x down bytes found.0 found.1.0 found.1.1
 
   -- ---- what the location database's disk stands for
 
-  abbrev StandsAtLoc : Cell → D → List ℕ → Type 0
+  abbrev StandsAtLoc : NodeCell → D → List ℕ → Type 0
   StandsAtLoc c disk bytes = (d : LocDurable) × (MayBeReadAtLoc c d × (LocStands bytes d × (d.capacity ≡ limit disk)))
 
-  loc_may_begin : (c : Cell) (x : Resting D) (down : IsLocDown seen may_leave limit x c.loc) (after : Bool) → MayFind down.fall after → MayBegin c.loc.down after
+  loc_may_begin : (c : NodeCell) (x : Resting D) (down : IsLocDown seen may_leave limit x c.loc) (after : Bool) → MayFind down.fall after → MayBegin c.loc.down after
   loc_may_begin c x down after may = subst (λ (o : Option Fall). MayBegin o after) (sym down.down) may
 
-  loc_lies_so : (c : Cell) (x : Resting D) (down : IsLocDown seen may_leave limit x c.loc) (bytes : List ℕ) (after : Bool) → MayFind down.fall after → LocLiesAs c.loc.state down.fall x.mark after (whole_records bytes) → StandsAtLoc c x.disk bytes
+  loc_lies_so : (c : NodeCell) (x : Resting D) (down : IsLocDown seen may_leave limit x c.loc) (bytes : List ℕ) (after : Bool) → MayFind down.fall after → LocLiesAs c.loc.state down.fall x.mark after (whole_records bytes) → StandsAtLoc c x.disk bytes
   loc_lies_so c x down bytes false may before =
       let d = before.before.durable in
       (d, ((false, (loc_may_begin c x down false may, before.before.read)), (before.before.stands, ap (λ (l : LocLasting). l.capacity) before.before.read ∙ down.capacity)))
@@ -144,11 +104,11 @@ module _ {D : Type 0} (seen : D → Option (List ℕ)) (may_leave : D → List �
         d,
         (
           (true, (loc_may_begin c x down true may, subst (λ (o : Option Fall). IsReadAfterAtLoc c.loc.state o d) (sym down.down) after.after.read)),
-          (after.after.stands, ap (λ (l : LocLasting). l.capacity) after.after.read ∙ (loc_capacity_after c.loc.state down.fall ∙ down.capacity)),
+          (after.after.stands, ap (λ (l : LocLasting). l.capacity) after.after.read ∙ (loc_fits.same_capacity c.loc.state down.fall ∙ down.capacity)),
         ),
       )
 
-  loc_seat_stands : (c : Cell) (entries : ℕ) (seat : DatabaseSeat D) → IsLocHost seen may_leave limit seat c.loc → IsLocReadySeat entries seat → IsLocKeptSeat seen may_leave limit seat → (bytes : List ℕ) → seen (loc_seat_disk seat) ≡ Some bytes → StandsAtLoc c (loc_seat_disk seat) bytes
+  loc_seat_stands : (c : NodeCell) (entries : ℕ) (seat : DatabaseSeat D) → IsLocHost seen may_leave limit seat c.loc → IsLocReadySeat entries seat → IsLocKeptSeat seen may_leave limit seat → (bytes : List ℕ) → seen (loc_seat_disk seat) ≡ Some bytes → StandsAtLoc c (loc_seat_disk seat) bytes
   loc_seat_stands c entries (Up r) up ready kept bytes e =
       let stands = kept.0 ready.can_run.up in
       (r.store.store.durable, ((false, (subst (λ (o : Option Fall). MayBegin o false) (sym up.down) tt, sym (ap (λ (x : LocState). x.lasting) up.state))), (stands.stands bytes e, kept.1)))
@@ -156,12 +116,11 @@ module _ {D : Type 0} (seen : D → Option (List ℕ)) (may_leave : D → List �
       let found = down.found bytes e in
       loc_lies_so c x down bytes found.0 found.1.0 found.1.1
 
-  pub standing : (s : Script) (w : WorldState D) → IsSafe limit s w → w.is_lost ≡ false → IsLocKeptSeat seen may_leave limit w.database → AreKeptSeats seen may_leave limit w.servers → (c : Cell) → IsCell seen may_leave limit w c → AreStanding seen limit c (disks_of w)
+  pub standing : (s : Script) (w : WorldState D) → IsSafe limit s w → w.is_lost ≡ false → IsLocKeptSeat seen may_leave limit w.database → AreKeptSeats seen may_leave limit w.servers → (c : NodeCell) → IsCell seen may_leave limit w c → AreStanding seen limit c (disks_of w)
   standing s w safe going loc_kept kept c cell = (
     loc_seat_stands c (length w.history) w.database cell.loc (safe.database going) loc_kept,
     λ n l found bytes e.
         let at = seat_of 1 w.servers kept n l found in
-        let host = cell.hosts n at.seat at.found in
         subst (λ (disk : D). seen disk ≡ Some bytes → StandsFor c n disk bytes) (sym at.is)
-        (seat_stands c n (length w.history) host.0 at.seat host.1 (safe.servers going n at.seat at.found) at.kept cell.reached bytes) e,
+        (seat_stands c n (length w.history) at.seat (cell.hosts n at.seat at.found) (safe.servers going n at.seat at.found) at.kept bytes) e,
   )

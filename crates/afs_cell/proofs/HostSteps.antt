@@ -11,22 +11,22 @@ use Rattle.afs_history.specs.declared.scripts.Task.{Task}
 use Rattle.afs_history.specs.declared.lines.Line.{Line}
 use Rattle.afs_history.specs.declared.lines.Outs.{Outs}
 use Rattle.afs_rows.specs.Callbacks.{put}
-use Rattle.afs_rows.specs.Runs.{loc_placed, moved, Cell, Entry, Input, Moved, placed}
+use Rattle.afs_rows.specs.Runs.{Entry}
+use Rattle.afs_runs.specs.NodeRuns.{bare_entry, loc_placed, node_moved, placed, CellInput, NodeCell, NodeMoved}
 use Rattle.afs_schedule.specs.Schedules.{left_by, Turn}
 use Rattle.afs_text.specs.Telling.{told, sent_by}
 use Rattle.afs_rows.specs.Hosts.{HostStep}
 use Rattle.afs_rows.specs.LocRow.{LocState}
-use Rattle.afs_rows.specs.States.{ServerState}
+use Rattle.afs_volrows.specs.VolStates.{NodeState}
 use Rattle.afs_clients.specs.Happening.{entry_of}
 use Rattle.afs_cell.specs.DatabaseSteps.{database_seat}
-use Rattle.afs_cell.specs.SeatSteps.{resting_seat, IsRestingHost, IsStepOf, SeatKind}
+use Rattle.afs_cell.specs.SeatSteps.{server_seat, IsStepOf, SeatKind}
 use Rattle.afs_clients.specs.Places.{put_place, Each}
 use Rattle.afs_cell.specs.Steps.{IsAt, Plays}
-use Rattle.afs_cell.specs.Worlds.{falls, falls_at, Counts, IsReached, WorldState}
+use Rattle.afs_cell.specs.Worlds.{falls, falls_at, Counts, WorldState}
 use Rattle.afs_host.specs.LocSeated.{loc_seat_disk, DatabaseSeat}
-use Rattle.afs_host.specs.Seated.{seat_disk, ServerSeat}
+use Rattle.afs_host.specs.Seated.{seat_disk, IsHost, ServerSeat}
 use Rattle.afs_cell.proofs.Counts.{counts_put, loc_counts_put, Blames}
-use Rattle.afs_cell.proofs.Reached.{reached_on}
 use Rattle.afs_cell.proofs.Parcels.{messages_of-read, messages_spelled-append, parcels_read-append, told-push}
 use Rattle.afs_clients.proofs.Numbers.{each_put, length_put}
 
@@ -47,17 +47,17 @@ abbrev pub entry_with : Actor → List Line → List Message → Entry
 entry_with actor ls ms = record { actor = actor; lines = ls; sent = ms; volumes = [] }
 
 module _ {D : Type 0} (seen : D → Option (List ℕ)) (may_leave : D → List ℕ → Type 0) (faults limit : D → ℕ) where
-  hosts_placed : (c : Cell) (i : ℕ) (was now : ServerSeat D) (servers : List (ServerSeat D)) (s : HostStep ServerState) → at_place servers i ≡ Some was → IsRestingHost seen may_leave limit (Server i) now s.host
-      → Each (λ (j : ℕ) (z : ServerSeat D). IsRestingHost seen may_leave limit (Server j) z (c.hosts j)) servers → Each (λ (j : ℕ) (z : ServerSeat D). IsRestingHost seen may_leave limit (Server j) z (put i s.host c.hosts j)) (put_place i now servers)
+  hosts_placed : (c : NodeCell) (i : ℕ) (was now : ServerSeat D) (servers : List (ServerSeat D)) (s : HostStep NodeState) → at_place servers i ≡ Some was → IsHost seen may_leave limit (Server i) now s.host
+      → Each (λ (j : ℕ) (z : ServerSeat D). IsHost seen may_leave limit (Server j) z (c.hosts j)) servers → Each (λ (j : ℕ) (z : ServerSeat D). IsHost seen may_leave limit (Server j) z (put i s.host c.hosts j)) (put_place i now servers)
   hosts_placed c i was now servers s found good each =
-      each_put (λ (j : ℕ) (z : ServerSeat D). IsRestingHost seen may_leave limit (Server j) z (c.hosts j)) (λ (j : ℕ) (z : ServerSeat D). IsRestingHost seen may_leave limit (Server j) z (put i s.host c.hosts j)) i now was servers found each
-      (λ j z apart h. subst (λ (b : Bool). IsRestingHost seen may_leave limit (Server j) z (cond b s.host (c.hosts j))) (sym apart) h)
-      (subst (λ (b : Bool). IsRestingHost seen may_leave limit (Server i) now (cond b s.host (c.hosts i))) (sym (eq-eqb i i refl)) good)
+      each_put (λ (j : ℕ) (z : ServerSeat D). IsHost seen may_leave limit (Server j) z (c.hosts j)) (λ (j : ℕ) (z : ServerSeat D). IsHost seen may_leave limit (Server j) z (put i s.host c.hosts j)) i now was servers found each
+      (λ j z apart h. subst (λ (b : Bool). IsHost seen may_leave limit (Server j) z (cond b s.host (c.hosts j))) (sym apart) h)
+      (subst (λ (b : Bool). IsHost seen may_leave limit (Server i) now (cond b s.host (c.hosts i))) (sym (eq-eqb i i refl)) good)
 
   -- the world stands for the cell after a server's step
-  at_placed : (w : WorldState D) (c : Cell) (left : Node → List Task) (i : ℕ) (was now : ServerSeat D) (front : List Line) (outs : Outs) (s : HostStep ServerState) → at_place w.servers i ≡ Some was → IsStepOf (resting_seat seen may_leave limit (Server i)) now front outs s
-      → IsReached (placed c i s).cell → IsAt seen may_leave limit w c left → IsAt seen may_leave limit (after_step w w.database (put_place i now w.servers) (Server i) front outs) (placed c i s).cell left
-  at_placed w c left i was now front outs s found good reached at = record {
+  at_placed : (w : WorldState D) (c : NodeCell) (left : Node → List Task) (i : ℕ) (was now : ServerSeat D) (front : List Line) (outs : Outs) (s : HostStep NodeState) → at_place w.servers i ≡ Some was → IsStepOf (server_seat seen may_leave limit (Server i)) now front outs s
+      → IsAt seen may_leave limit w c left → IsAt seen may_leave limit (after_step w w.database (put_place i now w.servers) (Server i) front outs) (placed c i s).cell left
+  at_placed w c left i was now front outs s found good at = record {
     cell = record {
       loc = at.cell.loc;
       host_count = at.cell.host_count ∙ sym (length_put i now w.servers);
@@ -67,15 +67,15 @@ module _ {D : Type 0} (seen : D → Option (List ℕ)) (may_leave : D → List �
       sent = parcels_read-append w.wire outs.parcels ∙ ap₂ (λ a b. a ++ b) at.cell.sent good.sent ∙ sym (messages_spelled-append c.sent s.sent);
       clock = at.cell.clock;
       handed = at.cell.handed;
-      reached = reached;
+      admin_count = at.cell.admin_count;
     };
     acts = at.acts;
   }
 
   -- and after one of the location database
-  at_loc_placed : (w : WorldState D) (c : Cell) (left : Node → List Task) (now : DatabaseSeat D) (front : List Line) (outs : Outs) (s : HostStep LocState) → IsStepOf (database_seat seen may_leave limit) now front outs s
-      → IsReached (loc_placed c s).cell → IsAt seen may_leave limit w c left → IsAt seen may_leave limit (after_step w now w.servers Loc front outs) (loc_placed c s).cell left
-  at_loc_placed w c left now front outs s good reached at = record {
+  at_loc_placed : (w : WorldState D) (c : NodeCell) (left : Node → List Task) (now : DatabaseSeat D) (front : List Line) (outs : Outs) (s : HostStep LocState) → IsStepOf (database_seat seen may_leave limit) now front outs s
+      → IsAt seen may_leave limit w c left → IsAt seen may_leave limit (after_step w now w.servers Loc front outs) (loc_placed c s).cell left
+  at_loc_placed w c left now front outs s good at = record {
     cell = record {
       loc = good.host;
       host_count = at.cell.host_count;
@@ -85,57 +85,57 @@ module _ {D : Type 0} (seen : D → Option (List ℕ)) (may_leave : D → List �
       sent = parcels_read-append w.wire outs.parcels ∙ ap₂ (λ a b. a ++ b) at.cell.sent good.sent ∙ sym (messages_spelled-append c.sent s.sent);
       clock = at.cell.clock;
       handed = at.cell.handed;
-      reached = reached;
+      admin_count = at.cell.admin_count;
     };
     acts = at.acts;
   }
 
   -- a step that an input gives to a node, which so has its place in the cell
-  pub record Linked {U S : Type 0} (kind : SeatKind D U S) (places : HostStep S → Moved) (is : Input → Type 0) (t : Turn) (was now : U) (front : List Line) (outs : Outs) : Type 0 where
-    pub input : Input
+  pub record Linked {U S : Type 0} (kind : SeatKind D U S) (places : HostStep S → NodeMoved) (is : CellInput → Type 0) (t : Turn) (was now : U) (front : List Line) (outs : Outs) : Type 0 where
+    pub input : CellInput
     pub is_one : is input
     pub step : HostStep S
-    pub moves : moved t.cell input ≡ places step
+    pub moves : node_moved t.cell input ≡ places step
     pub left : left_by input t.left ≡ t.left
     pub good : IsStepOf kind now front outs step
     pub blames : Blames faults (falls input) (kind.disk was) (kind.disk now)
 
   -- what such a step comes to in the cell, and in the world
-  pub record Stands {U S : Type 0} (kind : SeatKind D U S) (places : HostStep S → Moved) (node : Node) (w : WorldState D) (d : DatabaseSeat D) (ss : List (ServerSeat D)) (t : Turn) (was now : U) (front : List Line) (outs : Outs) : Type 0 where
-    pub entry : (s : HostStep S) → (places s).entry ≡ entry_with (actors.Node node) s.lines s.sent
-    pub at : (s : HostStep S) → IsStepOf kind now front outs s → IsReached (places s).cell → IsAt seen may_leave limit (after_step w d ss node front outs) (places s).cell t.left
-    pub counts : (x : Input) (e : Entry) → e.actor ≡ actors.Node node → Blames faults (falls x) (kind.disk was) (kind.disk now) → (own : ℕ → ℕ) → Counts faults own w → Counts faults (λ (j : ℕ). own j + falls_at j x e) (with_hosts w d ss)
+  pub record Stands {U S : Type 0} (kind : SeatKind D U S) (places : HostStep S → NodeMoved) (node : Node) (w : WorldState D) (d : DatabaseSeat D) (ss : List (ServerSeat D)) (t : Turn) (was now : U) (front : List Line) (outs : Outs) : Type 0 where
+    pub entry : (s : HostStep S) → bare_entry (places s).entry ≡ entry_with (actors.Node node) s.lines s.sent
+    pub at : (s : HostStep S) → IsStepOf kind now front outs s → IsAt seen may_leave limit (after_step w d ss node front outs) (places s).cell t.left
+    pub counts : (x : CellInput) (e : Entry) → e.actor ≡ actors.Node node → Blames faults (falls x) (kind.disk was) (kind.disk now) → (own : ℕ → ℕ) → Counts faults own w → Counts faults (λ (j : ℕ). own j + falls_at j x e) (with_hosts w d ss)
 
-  plays : {U S : Type 0} (kind : SeatKind D U S) (places : HostStep S → Moved) (node : Node) (is : Input → Type 0) (t : Turn) (w : WorldState D) (d : DatabaseSeat D) (ss : List (ServerSeat D)) (was now : U) (front : List Line) (outs : Outs) → sent_by w.history ≡ length w.wire → IsReached t.cell
+  plays : {U S : Type 0} (kind : SeatKind D U S) (places : HostStep S → NodeMoved) (node : Node) (is : CellInput → Type 0) (t : Turn) (w : WorldState D) (d : DatabaseSeat D) (ss : List (ServerSeat D)) (was now : U) (front : List Line) (outs : Outs) → sent_by w.history ≡ length w.wire
       → Stands kind places node w d ss t was now front outs → Linked kind places is t was now front outs → Plays seen may_leave faults limit is t w (after_step w d ss node front outs)
-  plays kind places node is t w d ss was now front outs all reached stands link = record {
+  plays kind places node is t w d ss was now front outs all stands link = record {
     input = link.input;
     is_one = link.is_one;
     history =
         told-push w.wire outs.parcels w.history (entry_of node (front ++ outs.lines) (length outs.parcels)) all refl
         ∙ ap (λ (e : Entry). told w.wire w.history ++ e ∷ [])
         (ap₂ (λ (ls : List Line) (ms : List Message). entry_with (actors.Node node) ls ms) link.good.lines (messages_of-read outs.parcels link.step.sent link.good.sent)
-        ∙ sym (ap (λ (m : Moved). m.entry) link.moves ∙ stands.entry link.step));
+        ∙ sym (ap (λ (m : NodeMoved). bare_entry m.entry) link.moves ∙ stands.entry link.step));
     at =
-        subst (λ (left : Node → List Task). IsAt seen may_leave limit (after_step w d ss node front outs) (moved t.cell link.input).cell left) (sym link.left)
-        (subst (λ (m : Moved). IsAt seen may_leave limit (after_step w d ss node front outs) m.cell t.left) (sym link.moves) (stands.at link.step link.good (subst (λ (m : Moved). IsReached m.cell) link.moves (reached_on t.cell link.input reached))));
-    counts = stands.counts link.input (moved t.cell link.input).entry (ap (λ (m : Moved). m.entry.actor) link.moves ∙ ap (λ (e : Entry). e.actor) (stands.entry link.step)) link.blames;
+        subst (λ (left : Node → List Task). IsAt seen may_leave limit (after_step w d ss node front outs) (node_moved t.cell link.input).cell left) (sym link.left)
+        (subst (λ (m : NodeMoved). IsAt seen may_leave limit (after_step w d ss node front outs) m.cell t.left) (sym link.moves) (stands.at link.step link.good));
+    counts = stands.counts link.input (node_moved t.cell link.input).entry (ap (λ (m : NodeMoved). m.entry.actor) link.moves ∙ ap (λ (e : Entry). e.actor) (stands.entry link.step)) link.blames;
   }
 
-  abbrev pub ServerLinked : (Input → Type 0) → Turn → ℕ → ServerSeat D → ServerSeat D → List Line → Outs → Type 0
-  ServerLinked is t i was now front outs = Linked (resting_seat seen may_leave limit (Server i)) (λ (s : HostStep ServerState). placed t.cell i s) is t was now front outs
+  abbrev pub ServerLinked : (CellInput → Type 0) → Turn → ℕ → ServerSeat D → ServerSeat D → List Line → Outs → Type 0
+  ServerLinked is t i was now front outs = Linked (server_seat seen may_leave limit (Server i)) (λ (s : HostStep NodeState). placed t.cell i s) is t was now front outs
 
-  pub server_plays : (is : Input → Type 0) (t : Turn) (w : WorldState D) (i : ℕ) (was now : ServerSeat D) (front : List Line) (outs : Outs) → sent_by w.history ≡ length w.wire → at_place w.servers i ≡ Some was
+  pub server_plays : (is : CellInput → Type 0) (t : Turn) (w : WorldState D) (i : ℕ) (was now : ServerSeat D) (front : List Line) (outs : Outs) → sent_by w.history ≡ length w.wire → at_place w.servers i ≡ Some was
       → faults (seat_disk was) ≤ faults (seat_disk now) → IsAt seen may_leave limit w t.cell t.left → ServerLinked is t i was now front outs → Plays seen may_leave faults limit is t w (after_step w w.database (put_place i now w.servers) (Server i) front outs)
   server_plays is t w i was now front outs all found le at link =
-      plays (resting_seat seen may_leave limit (Server i)) (λ (s : HostStep ServerState). placed t.cell i s) (Server i) is t w w.database (put_place i now w.servers) was now front outs all at.cell.reached
-      (record { entry = λ s. refl; at = λ s good reached. at_placed w t.cell t.left i was now front outs s found good reached at; counts = λ x e actor blames. counts_put faults i x e was now w actor found le blames }) link
+      plays (server_seat seen may_leave limit (Server i)) (λ (s : HostStep NodeState). placed t.cell i s) (Server i) is t w w.database (put_place i now w.servers) was now front outs all
+      (record { entry = λ s. refl; at = λ s good. at_placed w t.cell t.left i was now front outs s found good at; counts = λ x e actor blames. counts_put faults i x e was now w actor found le blames }) link
 
-  abbrev pub DatabaseLinked : (Input → Type 0) → Turn → DatabaseSeat D → DatabaseSeat D → List Line → Outs → Type 0
+  abbrev pub DatabaseLinked : (CellInput → Type 0) → Turn → DatabaseSeat D → DatabaseSeat D → List Line → Outs → Type 0
   DatabaseLinked is t was now front outs = Linked (database_seat seen may_leave limit) (λ (s : HostStep LocState). loc_placed t.cell s) is t was now front outs
 
-  pub database_plays : (is : Input → Type 0) (t : Turn) (w : WorldState D) (now : DatabaseSeat D) (front : List Line) (outs : Outs) → sent_by w.history ≡ length w.wire
+  pub database_plays : (is : CellInput → Type 0) (t : Turn) (w : WorldState D) (now : DatabaseSeat D) (front : List Line) (outs : Outs) → sent_by w.history ≡ length w.wire
       → faults (loc_seat_disk w.database) ≤ faults (loc_seat_disk now) → IsAt seen may_leave limit w t.cell t.left → DatabaseLinked is t w.database now front outs → Plays seen may_leave faults limit is t w (after_step w now w.servers Loc front outs)
   database_plays is t w now front outs all le at link =
-      plays (database_seat seen may_leave limit) (λ (s : HostStep LocState). loc_placed t.cell s) Loc is t w now w.servers w.database now front outs all at.cell.reached
-      (record { entry = λ s. refl; at = λ s good reached. at_loc_placed w t.cell t.left now front outs s good reached at; counts = λ x e actor blames. loc_counts_put faults x e now w actor le blames }) link
+      plays (database_seat seen may_leave limit) (λ (s : HostStep LocState). loc_placed t.cell s) Loc is t w now w.servers w.database now front outs all
+      (record { entry = λ s. refl; at = λ s good. at_loc_placed w t.cell t.left now front outs s good at; counts = λ x e actor blames. loc_counts_put faults x e now w actor le blames }) link

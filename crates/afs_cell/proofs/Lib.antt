@@ -16,6 +16,7 @@ mod DatabaseLinks
 mod DatabasePicked
 mod DatabaseTold
 mod Links
+mod Placed
 mod Settled
 mod ServersTold
 mod ClientSteps
@@ -43,4 +44,3 @@ mod Ended
 mod Returned
 mod WrittenOn
 mod PlayedOn
-mod Reached

@@ -22,8 +22,8 @@ module _ {D : Type 0} (seen : D → Option (List ℕ)) (may_leave : D → List �
   abbrev pub Played : Type 0
   Played = Stepped seen may_leave faults limit w.script (λ (t : Turn). IsInput t event) w new result
 
-  pub as_nothing : IsSafe limit w.script w → w.is_lost ≡ false → length w.history < most_entries → IsMeant event given.Nothing → NothingSettles w new result → Played
-  as_nothing safe going few meant settles = skip_steps seen may_leave faults limit w.script (λ (t : Turn). IsInput t event) w new result safe going few meant settles
+  pub as_nothing : IsSafe limit w.script w → w.is_lost ≡ false → length w.history < most_entries → FitsEvent (counts_of w.script) event → IsMeant event given.Nothing → NothingSettles w new result → Played
+  as_nothing safe going few fits meant settles = skip_steps seen may_leave faults limit w.script (λ (t : Turn). IsInput t event) w new result safe going few (meant (counts_of w.script) fits safe.admin_count) settles
 
   pub as_client : (n : ℕ) (what : ClientInput) → IsMeant event (given.Client n what) → Stepped seen may_leave faults limit w.script (IsAsked what n) w new result → Played
   as_client n what meant stepped = stepped_as seen may_leave faults limit w.script (IsAsked what n) (λ (t : Turn). IsInput t event) w new result meant.input stepped

@@ -6,7 +6,7 @@ use Rattle.afs_history.specs.declared.scripts.Event.TheVariants as events
 use Rattle.afs_history.specs.declared.scripts.Script.{Script}
 use Rattle.afs_grammar.specs.CellScripts.{counts_of, FitsEvent}
 use Rattle.afs_grammar.specs.Lines.{ticks_of}
-use Rattle.afs_rows.specs.Runs.{Input}
+use Rattle.afs_runs.specs.NodeRuns.{CellInput}
 use Rattle.afs_schedule.specs.Schedules.{IsInput, Turn}
 use Rattle.afs_schedule.specs.Settled.{settled, DeliversBehind, IsBehind, IsBehindEach}
 use Rattle.afs_schedule.specs.Taking.{IsLeft, Takes}
@@ -102,7 +102,7 @@ module _ {D : Type 0} (seen : D → Option (List ℕ)) (may_leave : D → List �
       (stays_full seen may_leave limit (whole b w) (whole b new) fault limited (steps b before way.world))
 
   -- memory was wanting
-  pub wants_since : (new : WorldState D) (is : Turn → Input → Type 0) (fault : WorldFault) → fault ≡ faulty.OutOfMemory → GoesOnSince seen may_leave faults limit w new → StepsSince seen may_leave faults limit is w new (Err fault) → (AllTell seen new → AllTell seen w)
+  pub wants_since : (new : WorldState D) (is : Turn → CellInput → Type 0) (fault : WorldFault) → fault ≡ faulty.OutOfMemory → GoesOnSince seen may_leave faults limit w new → StepsSince seen may_leave faults limit is w new (Err fault) → (AllTell seen new → AllTell seen w)
       → ((own : ℕ → ℕ) → Counts faults own w → Counts faults own new) → GoesSoSince seen may_leave faults limit w new old left played.OutOfMemory
   wants_since new is fault wanting world steps tells counts b before way =
       ends_some seen may_leave faults limit w.script (whole b w) (whole b new) old left way (world b before way.world) (stays_wanting seen may_leave limit (whole b w) (whole b new) fault wanting (steps b before way.world)) tells counts

@@ -7,7 +7,6 @@ use Rattle.afs_history.specs.declared.scripts.Script.{Script}
 use Rattle.afs_disk.specs.Disk.{Rose}
 use Rattle.afs_disk.specs.declared.disks.Lent.{Lent}
 use Rattle.afs_law.specs.Cells.{IsOfCell}
-use Rattle.afs_law.specs.Laws.{RunsAreLegal, RunsEndWell}
 use Rattle.afs_outside.specs.declared.outside.Failed.{Failed}
 use Rattle.afs_text.specs.FinalText.{final_text}
 use Rattle.afs_volstore.specs.Stores.{Store}
@@ -26,7 +25,7 @@ use Rattle.afs_cell.specs.Replays.{EndsRun, IsFew, WritesEntries}
 use Rattle.afs_command.specs.declared.statuses.Status.{Status}
 use Rattle.afs_command.specs.declared.statuses.Status.TheVariants as statuses
 use Rattle.afs_cell.proofs.Ended.{all_played, ended, entries_of, stopped, was_cut, GoesBack, HasEnded}
-use Rattle.afs_cell.proofs.RunEnds.{lent_length}
+use Rattle.afs_cell.proofs.RunEnds.{lent_length, RunLaws}
 
 -- ---- the disks that were read
 
@@ -47,7 +46,7 @@ pub record IsOver {D : Type 0} (seen : D → Option (List ℕ)) (may_leave : D �
   pub standing : StandsSince seen may_leave limit w disks
 
 has_ended : {D : Type 0} (seen : D → Option (List ℕ)) (may_leave : D → List ℕ → Type 0) (faults limit : D → ℕ) (wire : Bool) (start : Option (List ℕ)) (count : ℕ) (gone : HistoryTold) (w : WorldState D) (now : Option (List ℕ)) (counted : ℕ) (written : Result (Unit {0}) Failed) (disks : List (Lent D))
-    → RunsAreLegal × RunsEndWell → IsOfCell w.script → w.is_lost ≡ false → IsWritten seen may_leave faults limit wire start count gone w now counted written → IsOver seen may_leave limit w disks → HasEnded seen may_leave faults limit w.script (whole gone w)
+    → RunLaws → IsOfCell w.script → w.is_lost ≡ false → IsWritten seen may_leave faults limit wire start count gone w now counted written → IsOver seen may_leave limit w disks → HasEnded seen may_leave faults limit w.script (whole gone w)
 has_ended {D} seen may_leave faults limit wire start count gone w now counted written disks law in_cell going told over = record {
   law = law;
   in_cell = in_cell;
@@ -56,7 +55,7 @@ has_ended {D} seen may_leave faults limit wire start count gone w now counted wr
   standing = λ tells c is. subst (λ (ls : List (Lent D)). AreStanding seen limit c ls) over.are (over.standing going gone told.is told.world.safe c is);
 }
 
-module _ {D : Type 0} (seen : D → Option (List ℕ)) (may_leave : D → List ℕ → Type 0) (faults limit : D → ℕ) (wire : Bool) (start : Option (List ℕ)) (count : ℕ) (gone : HistoryTold) (w : WorldState D) (now : Option (List ℕ)) (counted : ℕ) (written : Result (Unit {0}) Failed) (disks : List (Lent D)) (o : Outside) (law : RunsAreLegal × RunsEndWell) (in_cell : IsOfCell w.script)
+module _ {D : Type 0} (seen : D → Option (List ℕ)) (may_leave : D → List ℕ → Type 0) (faults limit : D → ℕ) (wire : Bool) (start : Option (List ℕ)) (count : ℕ) (gone : HistoryTold) (w : WorldState D) (now : Option (List ℕ)) (counted : ℕ) (written : Result (Unit {0}) Failed) (disks : List (Lent D)) (o : Outside) (law : RunLaws) (in_cell : IsOfCell w.script)
     (told : IsWritten seen may_leave faults limit wire start count gone w now counted written) where
   -- played to its end, and what the servers' disks keep was read
   pub end_of : (d : D) (fs : List (Left (Store D) D)) (status result : Status) (taken : Result (Unit {0}) bank.Failed) → w.is_lost ≡ false → IsOver seen may_leave limit w disks → d ≡ loc_seat_disk w.database → AreFound seen faults limit (lent_from 1 w.servers) fs

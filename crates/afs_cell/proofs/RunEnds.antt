@@ -16,9 +16,10 @@ use Rattle.afs_fold.specs.Fold.{fold_all}
 use Rattle.afs_records.specs.LocDurable.{LocDurable}
 use Rattle.afs_volstore.specs.Stands.{Stands}
 use Rattle.afs_records.proofs.Forms.{some_is}
-use Rattle.afs_rows.specs.Runs.{Cell, Input}
+use Rattle.afs_rows.specs.Runs.{Entry}
+use Rattle.afs_runs.specs.NodeRuns.{node_start, CellInput, NodeCell, NodeLeads}
 use Rattle.afs_law.specs.Cells.{IsOfCell}
-use Rattle.afs_law.specs.Laws.{RunsAreLegal, RunsEndWell}
+use Rattle.afs_runs.specs.PlainRuns.{NodeRunsAreLegal, NodeRunsEndWell, PlainRunsBringNothing}
 use Rattle.afs_text.specs.Telling.{told}
 use Rattle.afs_volstore.specs.Stores.{Store}
 use Rattle.afs_clients.specs.Places.{Each}
@@ -26,7 +27,7 @@ use Rattle.afs_cell.specs.Steps.{AreStanding, HasPlayed, IsStanding, IsStandingA
 use Rattle.afs_cell.specs.Lends.{disks_of, lent_from}
 use Rattle.afs_host.specs.LocSeated.{loc_seat_disk}
 use Rattle.afs_host.specs.Seated.{seat_disk, ServerSeat}
-use Rattle.afs_cell.specs.Worlds.{most_entries, own_falls, AllTell, IsCell, WorldState}
+use Rattle.afs_cell.specs.Worlds.{most_entries, own_falls, AllTell, IsCell, Runs, WorldState}
 use Rattle.afs_final.specs.Reading.{fault_in, kept_disk, part, AreFound, IsRead}
 use Rattle.afs_final.specs.declared.reading.Left.{Left}
 use Rattle.afs_final.specs.declared.reading.Left.TheVariants as left
@@ -55,7 +56,7 @@ each_is {A} P xs h = each_from 1 P xs (λ n x e. subst (λ (k : ℕ). P k x) (om
 -- ---- the disks of a world
 
 -- the disk of a server may stand for something in the cell
-abbrev Stand : {D : Type 0} → (D → Option (List ℕ)) → (D → ℕ) → Cell → ℕ → Lent D → Type 0
+abbrev Stand : {D : Type 0} → (D → Option (List ℕ)) → (D → ℕ) → NodeCell → ℕ → Lent D → Type 0
 Stand {D} seen limit c i l = IsStanding seen limit c i l.disk
 
 abbrev Tells : {D : Type 0} → (D → Option (List ℕ)) → ℕ → Lent D → Type 0
@@ -78,7 +79,7 @@ same_durable records d e capacity hd he = some_is d e (sym hd ∙ (ap (λ (n : �
 no_fault : (f : LendFault) → Some f ≡ None → ⊥
 no_fault f e = absurd cc
 
-one_left : {D : Type 0} (seen : D → Option (List ℕ)) (faults limit : D → ℕ) (c : Cell) (i : ℕ) (l : Lent D) (f : Left (Store D) D) (fs : List (Left (Store D) D)) → Stand seen limit c i l → Tells seen i l → IsRead seen faults limit l.disk f → fault_in (f ∷ fs) ≡ None → MayBeRead c i (part f) × (fault_in fs ≡ None)
+one_left : {D : Type 0} (seen : D → Option (List ℕ)) (faults limit : D → ℕ) (c : NodeCell) (i : ℕ) (l : Lent D) (f : Left (Store D) D) (fs : List (Left (Store D) D)) → Stand seen limit c i l → Tells seen i l → IsRead seen faults limit l.disk f → fault_in (f ∷ fs) ≡ None → MayBeRead c i (part f) × (fault_in fs ≡ None)
 one_left {D} seen faults limit c i l (left.Kept s) fs stand tells read none =
     let bytes = some_of (seen l.disk) tells in
     let d = stand bytes.0 bytes.1 in
@@ -91,7 +92,7 @@ one_left {D} seen faults limit c i l (left.Bad d) fs stand tells read none =
 one_left {D} seen faults limit c i l (left.Failed d) fs stand tells read none = absurd (no_fault _ none)
 one_left {D} seen faults limit c i l (left.Unread d) fs stand tells read none = absurd (no_fault _ none)
 
-all_left : {D : Type 0} (seen : D → Option (List ℕ)) (faults limit : D → ℕ) (c : Cell) (i : ℕ) (ls : List (Lent D)) (fs : List (Left (Store D) D)) → EachFrom i (Stand seen limit c) ls → EachFrom i (Tells seen) ls → AreFound seen faults limit ls fs → fault_in fs ≡ None → i + length ls ≡ c.host_count + 1 → MayKeep c i (map part fs)
+all_left : {D : Type 0} (seen : D → Option (List ℕ)) (faults limit : D → ℕ) (c : NodeCell) (i : ℕ) (ls : List (Lent D)) (fs : List (Left (Store D) D)) → EachFrom i (Stand seen limit c) ls → EachFrom i (Tells seen) ls → AreFound seen faults limit ls fs → fault_in fs ≡ None → i + length ls ≡ c.host_count + 1 → MayKeep c i (map part fs)
 all_left {D} seen faults limit c i [] [] stand tells found none counted = omega (arith, counted)
 all_left {D} seen faults limit c i [] (f ∷ fs) stand tells found none counted = absurd found
 all_left {D} seen faults limit c i (l ∷ ls) [] stand tells found none counted = absurd found
@@ -162,28 +163,28 @@ given_by {D} MayBeMissing seen ls loc ds (Some given) new stand back =
 
 -- ---- what is kept at the end of a run, and the disks that stand for it
 
-pub record EndsSo {D : Type 0} (seen : D → Option (List ℕ)) (end : Cell) (kept : List Durable) (disks : List (Lent D)) : Type 0 where
+pub record EndsSo {D : Type 0} (seen : D → Option (List ℕ)) (end : NodeCell) (kept : List Durable) (disks : List (Lent D)) : Type 0 where
   pub keep : MayKeep end 1 kept
   pub loc : LocDurable
   pub keep_loc : MayBeReadAtLoc end loc
   pub stand : AllStand seen loc kept disks
 
-pub given_so : {D : Type 0} (MayBeMissing : ℕ → Type 0) (seen : D → Option (List ℕ)) (c : Cell) (kept : List Durable) (disks : List (Lent D)) (old new : Option Given) → (so : EndsSo seen c kept disks) → Missing MayBeMissing seen disks old new → GivesBack MayBeMissing so.loc kept old new
+pub given_so : {D : Type 0} (MayBeMissing : ℕ → Type 0) (seen : D → Option (List ℕ)) (c : NodeCell) (kept : List Durable) (disks : List (Lent D)) (old new : Option Given) → (so : EndsSo seen c kept disks) → Missing MayBeMissing seen disks old new → GivesBack MayBeMissing so.loc kept old new
 given_so {D} MayBeMissing seen c kept disks old new so back = given_by MayBeMissing seen disks so.loc kept old new so.stand back
 
 -- what the location database's disk stands for
-pub record LocEndsSo {D : Type 0} (seen : D → Option (List ℕ)) (end : Cell) (disk : D) : Type 0 where
+pub record LocEndsSo {D : Type 0} (seen : D → Option (List ℕ)) (end : NodeCell) (disk : D) : Type 0 where
   pub loc : LocDurable
   pub keep : MayBeReadAtLoc end loc
   pub stand : LocStand seen loc (record { node = 0; disk = disk })
 
-loc_so : {D : Type 0} (seen : D → Option (List ℕ)) (limit : D → ℕ) (c : Cell) (disk : D) → IsSome (seen disk) → IsStandingAtLoc seen limit c disk → LocEndsSo seen c disk
+loc_so : {D : Type 0} (seen : D → Option (List ℕ)) (limit : D → ℕ) (c : NodeCell) (disk : D) → IsSome (seen disk) → IsStandingAtLoc seen limit c disk → LocEndsSo seen c disk
 loc_so {D} seen limit c disk tells stand =
     let bytes = some_of (seen disk) tells in
     let d = stand bytes.0 bytes.1 in
     record { loc = d.0; keep = d.1.0; stand = (refl, (tells, λ bs e. subst (λ (xs : List ℕ). LocStands xs d.0) (some_is bytes.0 bs (sym bytes.1 ∙ e)) d.1.1.0)) }
 
-one_stands : {D : Type 0} (seen : D → Option (List ℕ)) (faults limit : D → ℕ) (c : Cell) (i : ℕ) (l : Lent D) (f : Left (Store D) D) (fs : List (Left (Store D) D)) → Stand seen limit c i l → Tells seen i l → IsRead seen faults limit l.disk f → fault_in (f ∷ fs) ≡ None →
+one_stands : {D : Type 0} (seen : D → Option (List ℕ)) (faults limit : D → ℕ) (c : NodeCell) (i : ℕ) (l : Lent D) (f : Left (Store D) D) (fs : List (Left (Store D) D)) → Stand seen limit c i l → Tells seen i l → IsRead seen faults limit l.disk f → fault_in (f ∷ fs) ≡ None →
     IsSome (seen (kept_disk f)) × ((bytes : List ℕ) → seen (kept_disk f) ≡ Some bytes → Stands bytes (part f))
 one_stands {D} seen faults limit c i l (left.Kept s) fs stand tells read none = (read.told.1 tells, λ bytes e. read.is.after bytes e)
 one_stands {D} seen faults limit c i l (left.Bad d) fs stand tells read none =
@@ -193,7 +194,7 @@ one_stands {D} seen faults limit c i l (left.Bad d) fs stand tells read none =
 one_stands {D} seen faults limit c i l (left.Failed d) fs stand tells read none = absurd (no_fault _ none)
 one_stands {D} seen faults limit c i l (left.Unread d) fs stand tells read none = absurd (no_fault _ none)
 
-all_stand : {D : Type 0} (seen : D → Option (List ℕ)) (faults limit : D → ℕ) (c : Cell) (i : ℕ) (ls : List (Lent D)) (fs : List (Left (Store D) D)) → EachFrom i (Stand seen limit c) ls → EachFrom i (Tells seen) ls → AreFound seen faults limit ls fs → fault_in fs ≡ None → StandFor seen i (kept_disks i fs) (map part fs)
+all_stand : {D : Type 0} (seen : D → Option (List ℕ)) (faults limit : D → ℕ) (c : NodeCell) (i : ℕ) (ls : List (Lent D)) (fs : List (Left (Store D) D)) → EachFrom i (Stand seen limit c) ls → EachFrom i (Tells seen) ls → AreFound seen faults limit ls fs → fault_in fs ≡ None → StandFor seen i (kept_disks i fs) (map part fs)
 all_stand {D} seen faults limit c i [] [] stand tells found none = refl
 all_stand {D} seen faults limit c i [] (f ∷ fs) stand tells found none = absurd found
 all_stand {D} seen faults limit c i (l ∷ ls) [] stand tells found none = absurd found
@@ -202,7 +203,7 @@ all_stand {D} seen faults limit c i (l ∷ ls) (f ∷ fs) stand tells found none
     ((refl, one_stands seen faults limit c i l f fs stand.0 tells.0 found.0 none), all_stand seen faults limit c (i + 1) ls fs stand.1 tells.1 found.1 rest)
 
 -- where the disks were read for the final part
-pub read_so : {D : Type 0} (seen : D → Option (List ℕ)) (may_leave : D → List ℕ → Type 0) (faults limit : D → ℕ) (w : WorldState D) (c : Cell) (fs : List (Left (Store D) D)) → IsCell seen may_leave limit w c → AllTell seen w → AreStanding seen limit c (disks_of w) →
+pub read_so : {D : Type 0} (seen : D → Option (List ℕ)) (may_leave : D → List ℕ → Type 0) (faults limit : D → ℕ) (w : WorldState D) (c : NodeCell) (fs : List (Left (Store D) D)) → IsCell seen may_leave limit w c → AllTell seen w → AreStanding seen limit c (disks_of w) →
     AreFound seen faults limit (lent_from 1 w.servers) fs → fault_in fs ≡ None → EndsSo seen c (map part fs) (all_kept (loc_seat_disk w.database) fs)
 read_so {D} seen may_leave faults limit w c fs is tells stand found none =
     let each = each_is (Stand seen limit c) (lent_from 1 w.servers) stand.1 in
@@ -216,13 +217,13 @@ read_so {D} seen may_leave faults limit w c fs is tells stand found none =
     }
 
 -- where they go back as they are
-abbrev LeftFrom : {D : Type 0} → (D → Option (List ℕ)) → Cell → ℕ → List (Lent D) → Type 0
+abbrev LeftFrom : {D : Type 0} → (D → Option (List ℕ)) → NodeCell → ℕ → List (Lent D) → Type 0
 LeftFrom {D} seen c i ls = (ds : List Durable) × (MayKeep c i ds × StandFor seen i ls ds)
 
 abbrev Numbered : {D : Type 0} → ℕ → Lent D → Type 0
 Numbered {D} i l = l.node ≡ i
 
-parts_stand : {D : Type 0} (seen : D → Option (List ℕ)) (limit : D → ℕ) (c : Cell) (i : ℕ) (ls : List (Lent D)) → EachFrom i (Stand seen limit c) ls → EachFrom i (Tells seen) ls → EachFrom i Numbered ls → i + length ls ≡ c.host_count + 1 → LeftFrom seen c i ls
+parts_stand : {D : Type 0} (seen : D → Option (List ℕ)) (limit : D → ℕ) (c : NodeCell) (i : ℕ) (ls : List (Lent D)) → EachFrom i (Stand seen limit c) ls → EachFrom i (Tells seen) ls → EachFrom i Numbered ls → i + length ls ≡ c.host_count + 1 → LeftFrom seen c i ls
 parts_stand {D} seen limit c i [] stand tells numbered counted = ([], (omega (arith, counted), refl))
 parts_stand {D} seen limit c i (l ∷ ls) stand tells numbered counted =
     let bytes = some_of (seen l.disk) tells.0 in
@@ -234,7 +235,7 @@ numbered_from : {D : Type 0} (i : ℕ) (ss : List (ServerSeat D)) → EachFrom i
 numbered_from {D} i [] = tt
 numbered_from {D} i (s ∷ ss) = (refl, numbered_from (i + 1) ss)
 
-pub left_so : {D : Type 0} (seen : D → Option (List ℕ)) (may_leave : D → List ℕ → Type 0) (limit : D → ℕ) (w : WorldState D) (c : Cell) → IsCell seen may_leave limit w c → AllTell seen w → AreStanding seen limit c (disks_of w) →
+pub left_so : {D : Type 0} (seen : D → Option (List ℕ)) (may_leave : D → List ℕ → Type 0) (limit : D → ℕ) (w : WorldState D) (c : NodeCell) → IsCell seen may_leave limit w c → AllTell seen w → AreStanding seen limit c (disks_of w) →
     (kept : List Durable) × EndsSo seen c kept (disks_of w)
 left_so {D} seen may_leave limit w c is tells stand =
     let each = each_is (Stand seen limit c) (lent_from 1 w.servers) stand.1 in
@@ -303,16 +304,24 @@ pub length_told : (ps : List Parcel) (es : List kept.Entry) → length (told ps 
 length_told ps [] = refl
 length_told ps (e ∷ es) = ap suc (length_told (drop e.sent ps) es)
 
+-- what is known of runs: they are legal, they end well, and no step brings a volume, as long as the cell has no administrators
+abbrev pub RunLaws : Type 0
+RunLaws = NodeRunsAreLegal × (NodeRunsEndWell × PlainRunsBringNothing)
+
+-- as long as the cell has no administrators, no step brings a volume: what the world tells is the whole history
+told_leads : {D : Type 0} (seen : D → Option (List ℕ)) (may_leave : D → List ℕ → Type 0) (faults limit : D → ℕ) (law : RunLaws) (s : Script) (w : WorldState D) → s.admins ≡ 0 → (inputs : List CellInput) (c : NodeCell) → Runs seen may_leave faults limit s w inputs c → NodeLeads (node_start s) inputs (told w.wire w.history) c
+told_leads {D} seen may_leave faults limit law s w admins inputs c runs = subst (λ (h : List Entry). NodeLeads (node_start s) inputs h c) (sym (law.1.1 s inputs runs.history c admins runs.leads) ∙ runs.tells) runs.leads
+
 -- what a world tells is a legal run of its script, as far as it was played
-pub legal_run : {D : Type 0} (seen : D → Option (List ℕ)) (may_leave : D → List ℕ → Type 0) (faults limit : D → ℕ) (law : RunsAreLegal × RunsEndWell) (IsSoFar : List Input → Type 0) (others : ℕ → ℕ) (s : Script) (w : WorldState D) (counts : ℕ → Span ℕ) → IsOfCell s → length w.history ≤ most_entries → (p : HasPlayed seen may_leave faults limit IsSoFar s w) → ((i : ℕ) → HasDisk s i → RoseBy (own_falls i p.inputs (told w.wire w.history) + others i) (counts i))
+pub legal_run : {D : Type 0} (seen : D → Option (List ℕ)) (may_leave : D → List ℕ → Type 0) (faults limit : D → ℕ) (law : RunLaws) (IsSoFar : List CellInput → Type 0) (others : ℕ → ℕ) (s : Script) (w : WorldState D) (counts : ℕ → Span ℕ) → IsOfCell s → s.admins ≡ 0 → length w.history ≤ most_entries → (p : HasPlayed seen may_leave faults limit IsSoFar s w) → ((i : ℕ) → HasDisk s i → RoseBy (own_falls i p.inputs (told w.wire w.history) + others i) (counts i))
     → IsLegalRun s IsSoFar others counts (told w.wire w.history) p.cell
-legal_run {D} seen may_leave faults limit law IsSoFar others s w counts in_cell few p failures = record {
+legal_run {D} seen may_leave faults limit law IsSoFar others s w counts in_cell admins few p failures = record {
   inputs = p.inputs;
-  leads = p.runs.leads;
+  leads = told_leads seen may_leave faults limit law s w admins p.inputs p.cell p.runs;
   so_far = p.played;
   few = omega (arith, length_told w.wire w.history, few);
-  legal = law.0 s (told w.wire w.history) p.cell in_cell (record { inputs = p.inputs; leads = p.runs.leads });
-  well = law.1 s (told w.wire w.history) p.cell in_cell (record { inputs = p.inputs; leads = p.runs.leads });
+  legal = law.0 s (told w.wire w.history) p.cell in_cell admins (record { inputs = p.inputs; leads = told_leads seen may_leave faults limit law s w admins p.inputs p.cell p.runs });
+  well = law.1.0 s (told w.wire w.history) p.cell in_cell admins (record { inputs = p.inputs; leads = told_leads seen may_leave faults limit law s w admins p.inputs p.cell p.runs });
   failures = failures;
 }
 

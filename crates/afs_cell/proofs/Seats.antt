@@ -73,7 +73,7 @@ module _ {D : Type 0} (seen : D → Option (List ℕ)) (may_leave : D → List �
   timed_by you me clock callee h r outs own (inl (b, called)) breaks pieces =
       inl (b, (called, subst (λ (k : Node). IsSeatStep seen may_leave limit you (Up r) [] outs (node_timed_out k h clock callee b)) own (step_up you r [] outs _ (breaks b called))))
   timed_by you me clock callee h r outs own (inr (none, (c, called))) breaks pieces =
-      inr (c, (called, subst (λ (k : Node). IsSeatStep seen may_leave limit you (Up r) [] outs (piece_timed_out k h clock callee c)) own (step_up you r [] outs _ (pieces none c called))))
+      inr (c, ((none, called), subst (λ (k : Node). IsSeatStep seen may_leave limit you (Up r) [] outs (piece_timed_out k h clock callee c)) own (step_up you r [] outs _ (pieces none c called))))
 
   pub timed : (you : Node) (clock count : ℕ) (callee : Node) (was r : ServerRunning D) (outs : Outs) → was.store.node ≡ you → waits_for was callee ≡ true
       → ((h : NodeHost) → IsUp was h → (b : BackCall) → h.state.file.backs.calls callee ≡ Some b → IsStepUp r [] outs (node_timed_out was.store.node h clock callee b))

@@ -9,25 +9,23 @@ use Rattle.afs_history.specs.declared.lines.Outs.{Outs}
 use Rattle.afs_history.specs.declared.scripts.Event.TheVariants as events
 use Rattle.afs_history.specs.declared.scripts.Script.{Script}
 use Rattle.afs_disk.specs.Disk.{Rose}
-use Rattle.afs_rows.specs.Runs.{has_host, Input}
+use Rattle.afs_runs.specs.NodeRuns.{has_host, CellInput}
 use Rattle.afs_schedule.specs.Schedules.{IsInput, Turn}
 use Rattle.afs_rows.specs.Hosts.{HostStep}
-use Rattle.afs_rows.specs.States.{Seat}
 use Rattle.afs_volrows.specs.NodeHosts.{NodeHost}
-use Rattle.afs_volrows.specs.RestingHosts.{resting_host}
 use Rattle.afs_volrows.specs.VolStates.{NodeState}
 use Rattle.afs_clients.specs.Happening.{front_lines, IsGiven}
 use Rattle.afs_cell.specs.Happening.{Settles}
-use Rattle.afs_cell.specs.SeatSteps.{HasHeard, HasStep, IsFallen, IsSeatStep, IsVoidServer, OneHappened, ServersHappened, IsRestingHost}
+use Rattle.afs_cell.specs.SeatSteps.{HasHeard, HasStep, IsFallen, IsSeatStep, IsVoidServer, OneHappened, ServersHappened}
 use Rattle.afs_cell.specs.Steps.{IsAt, Stepped}
 use Rattle.afs_clients.specs.Places.{put_place}
-use Rattle.afs_host.specs.Seated.{seat_disk, ServerSeat}
+use Rattle.afs_host.specs.Seated.{seat_disk, IsHost, ServerSeat}
 use Rattle.afs_cell.specs.Worlds.{most_entries, AllTell, IsSafe, WorldState}
 use Rattle.afs_cell.specs.declared.faults.WorldFault.{WorldFault}
 use Rattle.afs_clients.specs.declared.happening.Happened.{Happened}
 use Rattle.afs_clients.specs.declared.happening.Happened.TheVariants as happened
 use Rattle.afs_clients.specs.declared.happening.ServerInput.{ServerInput}
-use Rattle.afs_cell.proofs.Links.{link_input, link_message, link_void, link_void_message, message_found, void_file, IsFileFallen, IsVoidFile, Voided}
+use Rattle.afs_cell.proofs.Links.{link_input, link_message, link_void, link_void_message, message_found, Voided}
 use Rattle.afs_clients.proofs.Numbers.{each_put, length_put, no_host, put_same}
 use Rattle.afs_cell.proofs.HostSteps.{server_plays, ServerLinked}
 use Rattle.afs_cell.proofs.Settled.{loc_ready_more, node_settles, ready_more, server_keeps, servers_ready, Leaves}
@@ -36,14 +34,14 @@ use Rattle.afs_cell.proofs.Settled.{loc_ready_more, node_settles, ready_more, se
 abbrev with_servers : {D : Type 0} → WorldState D → List (ServerSeat D) → WorldState D
 with_servers {D} w servers = record w { servers = servers }
 
-module _ {D : Type 0} (seen : D → Option (List ℕ)) (may_leave : D → List ℕ → Type 0) (faults limit : D → ℕ) (s : Script) (is : Turn → Input → Type 0) (w : WorldState D) (i : ℕ) (front : Option Line)
+module _ {D : Type 0} (seen : D → Option (List ℕ)) (may_leave : D → List ℕ → Type 0) (faults limit : D → ℕ) (s : Script) (is : Turn → CellInput → Type 0) (w : WorldState D) (i : ℕ) (front : Option Line)
     (IsVoid : NodeHost → Type 0) (Has : NodeHost → (HostStep NodeState → Type 0) → Type 0 → Type 0) where
   abbrev Voids : Type 0
-  Voids = AllTell seen w → (t : Turn) → IsAt seen may_leave limit w t.cell t.left → (has_host t.cell i ≡ false) ⊎ ((callers : List Seat) × IsVoid (resting_host callers (t.cell.hosts i))) → Voided (is t) t
+  Voids = AllTell seen w → (t : Turn) → IsAt seen may_leave limit w t.cell t.left → (has_host t.cell i ≡ false) ⊎ IsVoid (t.cell.hosts i) → Voided (is t) t
 
   abbrev Links : Type 0
   Links = AllTell seen w → (t : Turn) → IsAt seen may_leave limit w t.cell t.left → (was now : ServerSeat D) (outs : Outs) → at_place w.servers i ≡ Some was
-      → (callers : List Seat) → Has (resting_host callers (t.cell.hosts i)) (IsSeatStep seen may_leave limit (Server i) now (front_lines front) outs) (Rose (faults (seat_disk was)) (faults (seat_disk now))) → ServerLinked seen may_leave faults limit (is t) t i was now (front_lines front) outs
+      → Has (t.cell.hosts i) (IsSeatStep seen may_leave limit (Server i) now (front_lines front) outs) (Rose (faults (seat_disk was)) (faults (seat_disk now))) → ServerLinked seen may_leave faults limit (is t) t i was now (front_lines front) outs
 
   abbrev One : List (ServerSeat D) → Happened → Type 0
   One servers what = OneHappened seen may_leave faults limit i (front_lines front) IsVoid Has w.servers servers what
@@ -55,9 +53,7 @@ module _ {D : Type 0} (seen : D → Option (List ℕ)) (may_leave : D → List �
   one_leaves : (servers : List (ServerSeat D)) (what : Happened) → IsSafe limit s w → w.is_lost ≡ false → (one : One servers what) → Voids → Links → After one.now what
   one_leaves servers happened.Nothing safe going one voids links = (
     ap (λ (ss : List (ServerSeat D)). record w { servers = ss }) (put_same i one.now one.was w.servers one.found one.takes.happens.0),
-    λ tell t at.
-        let host = at.cell.hosts i one.was one.found in
-        voids tell t at (inr (host.0, one.takes.happens.1 (resting_host host.0 (t.cell.hosts i)) host.1)),
+    λ tell t at. voids tell t at (inr (one.takes.happens.1 (t.cell.hosts i) (at.cell.hosts i one.was one.found))),
   )
   one_leaves servers (happened.Step outs) safe going one voids links = (
     server_keeps seen may_leave faults limit s w i one.was one.now one.found one.takes.keeps,
@@ -69,9 +65,8 @@ module _ {D : Type 0} (seen : D → Option (List ℕ)) (may_leave : D → List �
             (one.takes.goes (length w.history) (safe.servers going i one.was one.found));
       },
       λ tell t at.
-          let host = at.cell.hosts i one.was one.found in
           server_plays seen may_leave faults limit (is t) t w i one.was one.now (front_lines front) outs safe.sent one.found one.takes.keeps.no_fewer at
-          (links tell t at one.was one.now outs one.found host.0 (one.takes.happens (tell.1 i one.was one.found) (resting_host host.0 (t.cell.hosts i)) host.1)),
+          (links tell t at one.was one.now outs one.found (one.takes.happens (tell.1 i one.was one.found) (t.cell.hosts i) (at.cell.hosts i one.was one.found))),
     ),
   )
   one_leaves servers happened.Unchanged safe going one voids links = (
@@ -87,15 +82,14 @@ module _ {D : Type 0} (seen : D → Option (List ℕ)) (may_leave : D → List �
         loc = cell.loc;
         host_count = cell.host_count ∙ sym (length_put i one.now w.servers);
         hosts =
-            (let host = cell.hosts i one.was one.found in
-            each_put (λ (j : ℕ) (z : ServerSeat D). IsRestingHost seen may_leave limit (Server j) z (c.hosts j)) (λ (j : ℕ) (z : ServerSeat D). IsRestingHost seen may_leave limit (Server j) z (c.hosts j)) i one.now one.was w.servers one.found cell.hosts (λ j z apart h. h)
-            (host.0, one.takes.happens (resting_host host.0 (c.hosts i)) host.1));
+            each_put (λ (j : ℕ) (z : ServerSeat D). IsHost seen may_leave limit (Server j) z (c.hosts j)) (λ (j : ℕ) (z : ServerSeat D). IsHost seen may_leave limit (Server j) z (c.hosts j)) i one.now one.was w.servers one.found cell.hosts (λ j z apart h. h)
+            (one.takes.happens (c.hosts i) (cell.hosts i one.was one.found));
         count = cell.count;
         clients = cell.clients;
         sent = cell.sent;
         clock = cell.clock;
         handed = cell.handed;
-        reached = cell.reached;
+        admin_count = cell.admin_count;
       },
     ),
   )
@@ -115,14 +109,6 @@ module _ {D : Type 0} (seen : D → Option (List ℕ)) (may_leave : D → List �
       node_settles seen may_leave faults limit s is w safe going place new w.database (put_place i one.now w.servers) (Server i) front what result (one_leaves servers what safe going one voids links)
       (subst (λ (ss : List (ServerSeat D)). Settles (Server i) front what (with_servers w ss) new result) one.put settles)
 
-void_there : (i : ℕ) (input : ServerInput) (t : Turn) → (has_host t.cell i ≡ false) ⊎ ((callers : List Seat) × IsVoidServer input (resting_host callers (t.cell.hosts i))) → (has_host t.cell i ≡ false) ⊎ IsVoidFile input (t.cell.hosts i)
-void_there i input t (inl none) = inl none
-void_there i input t (inr (callers, void)) = inr (void_file input callers (t.cell.hosts i) void)
-
-fallen_there : (i : ℕ) (t : Turn) → (has_host t.cell i ≡ false) ⊎ ((callers : List Seat) × IsFallen (resting_host callers (t.cell.hosts i))) → (has_host t.cell i ≡ false) ⊎ IsFileFallen (t.cell.hosts i)
-fallen_there i t (inl none) = inl none
-fallen_there i t (inr (callers, fallen)) = inr fallen
-
 module _ {D : Type 0} (seen : D → Option (List ℕ)) (may_leave : D → List ℕ → Type 0) (faults limit : D → ℕ) (s : Script) (w : WorldState D) (i : ℕ) where
   -- a server was given something
   pub input_settles : (input : ServerInput) (servers : List (ServerSeat D)) (what : Happened) (new : WorldState D) (result : Result (Unit {0}) WorldFault) → IsSafe limit s w → w.is_lost ≡ false → length w.history < most_entries
@@ -130,10 +116,10 @@ module _ {D : Type 0} (seen : D → Option (List ℕ)) (may_leave : D → List �
       → Stepped seen may_leave faults limit s (λ (t : Turn). IsGiven i input t) w new result
   input_settles input servers what new result safe going place happens settles =
       server_settles seen may_leave faults limit s (λ (t : Turn). IsGiven i input t) w i None (IsVoidServer input) (HasStep (Server i) w.clock s.clients input) servers what new result safe going place happens
-      (λ tell t at none. link_void t i input (void_there i input t none))
-      (λ tell t at was now outs found callers has. link_input seen may_leave faults limit t w i input was now outs at.cell found callers
-      (subst (λ (k : ℕ). HasStep (Server i) t.cell.clock k input (resting_host callers (t.cell.hosts i)) (IsSeatStep seen may_leave limit (Server i) now [] outs) (Rose (faults (seat_disk was)) (faults (seat_disk now)))) (sym (at.cell.count ∙ safe.client_count))
-      (subst (λ (k : ℕ). HasStep (Server i) k s.clients input (resting_host callers (t.cell.hosts i)) (IsSeatStep seen may_leave limit (Server i) now [] outs) (Rose (faults (seat_disk was)) (faults (seat_disk now)))) (sym at.cell.clock) has)))
+      (λ tell t at none. link_void t i input none)
+      (λ tell t at was now outs found has. link_input seen may_leave faults limit t w i input was now outs at.cell found
+      (subst (λ (k : ℕ). HasStep (Server i) t.cell.clock k input (t.cell.hosts i) (IsSeatStep seen may_leave limit (Server i) now [] outs) (Rose (faults (seat_disk was)) (faults (seat_disk now)))) (sym (at.cell.count ∙ safe.client_count))
+      (subst (λ (k : ℕ). HasStep (Server i) k s.clients input (t.cell.hosts i) (IsSeatStep seen may_leave limit (Server i) now [] outs) (Rose (faults (seat_disk was)) (faults (seat_disk now)))) (sym at.cell.clock) has)))
       settles
 
   -- a server was given the message of a place
@@ -145,7 +131,7 @@ module _ {D : Type 0} (seen : D → Option (List ℕ)) (may_leave : D → List �
       server_settles seen may_leave faults limit s (λ (t : Turn). IsInput t (events.Deliver place)) w i (Some (lines.Given place)) IsFallen (HasHeard (Server i) w.clock place p.bytes) servers what new result safe going few happens
       (λ tell t at none.
       let f = message_found seen may_leave faults limit w t.cell place p at.cell found in
-      link_void_message t i place f.message f.at (sym (ap (λ h. h.to) f.carries.head) ∙ to) (fallen_there i t none))
-      (λ tell t at was now outs here callers heard. link_message seen may_leave faults limit t w i place p was now outs at.cell here found to callers
-      (subst (λ (k : ℕ). HasHeard (Server i) k place p.bytes (resting_host callers (t.cell.hosts i)) (IsSeatStep seen may_leave limit (Server i) now (lines.Given place ∷ []) outs) (Rose (faults (seat_disk was)) (faults (seat_disk now)))) (sym at.cell.clock) heard))
+      link_void_message t i place f.message f.at (sym (ap (λ h. h.to) f.carries.head) ∙ to) none)
+      (λ tell t at was now outs here heard. link_message seen may_leave faults limit t w i place p was now outs at.cell here found to
+      (subst (λ (k : ℕ). HasHeard (Server i) k place p.bytes (t.cell.hosts i) (IsSeatStep seen may_leave limit (Server i) now (lines.Given place ∷ []) outs) (Rose (faults (seat_disk was)) (faults (seat_disk now)))) (sym at.cell.clock) heard))
       settles

@@ -10,7 +10,8 @@ use Rattle.afs_history.specs.declared.lines.Entry as kept
 use Rattle.afs_history.specs.declared.lines.Line.{Line}
 use Rattle.afs_history.specs.declared.lines.Outs.{Outs}
 use Rattle.afs_history.specs.declared.scripts.Script.{Script}
-use Rattle.afs_rows.specs.Runs.{moved, voided, Cell, Entry, Input, Moved}
+use Rattle.afs_rows.specs.Runs.{Entry}
+use Rattle.afs_runs.specs.NodeRuns.{bare_entry, node_moved, voided, CellInput, NodeCell, NodeMoved}
 use Rattle.afs_schedule.specs.Schedules.{Turn}
 use Rattle.afs_text.specs.Telling.{told, sent_by}
 use Rattle.afs_host.specs.declared.seats.Seat.TheVariants.{Up, Down}
@@ -85,6 +86,7 @@ module _ {D : Type 0} (seen : D → Option (List ℕ)) (may_leave : D → List �
   safe_nothing s w safe place = record {
     script = safe.script;
     cell_script = safe.cell_script;
+    admin_count = safe.admin_count;
     server_count = safe.server_count;
     client_count = safe.client_count;
     database = λ going. loc_ready_longer w.history void_entry w.database (safe.database going);
@@ -100,27 +102,27 @@ module _ {D : Type 0} (seen : D → Option (List ℕ)) (may_leave : D → List �
     ticks = safe.ticks;
   }
 
-  abbrev void_step : Cell → Entry
+  abbrev void_step : NodeCell → Entry
   void_step c = (voided c).entry
 
-  void_plays : (is : Input → Type 0) (t : Turn) (w : WorldState D) → sent_by w.history ≡ length w.wire → IsAt seen may_leave limit w t.cell t.left → Voided is t → Plays seen may_leave faults limit is t w (after_nothing w)
+  void_plays : (is : CellInput → Type 0) (t : Turn) (w : WorldState D) → sent_by w.history ≡ length w.wire → IsAt seen may_leave limit w t.cell t.left → Voided is t → Plays seen may_leave faults limit is t w (after_nothing w)
   void_plays is t w all at v = record {
     input = v.input;
     is_one = v.is_one;
     history =
         told-still w.wire w.history void_entry all refl
-        ∙ ap (λ (m : Moved). told w.wire w.history ++ m.entry ∷ []) (sym v.moves);
+        ∙ ap (λ (m : NodeMoved). told w.wire w.history ++ bare_entry m.entry ∷ []) (sym v.moves);
     at =
-        subst (λ (left : Node → List Task). IsAt seen may_leave limit (after_nothing w) (moved t.cell v.input).cell left) (sym v.left)
-        (subst (λ (m : Moved). IsAt seen may_leave limit (after_nothing w) m.cell t.left) (sym v.moves)
+        subst (λ (left : Node → List Task). IsAt seen may_leave limit (after_nothing w) (node_moved t.cell v.input).cell left) (sym v.left)
+        (subst (λ (m : NodeMoved). IsAt seen may_leave limit (after_nothing w) m.cell t.left) (sym v.moves)
         (record {
-          cell = record { loc = at.cell.loc; host_count = at.cell.host_count; hosts = at.cell.hosts; count = at.cell.count; clients = at.cell.clients; sent = at.cell.sent; clock = at.cell.clock; handed = at.cell.handed; reached = at.cell.reached };
+          cell = record { loc = at.cell.loc; host_count = at.cell.host_count; hosts = at.cell.hosts; count = at.cell.count; clients = at.cell.clients; sent = at.cell.sent; clock = at.cell.clock; handed = at.cell.handed; admin_count = at.cell.admin_count };
           acts = at.acts;
         }));
-    counts = counts_still faults v.input (moved t.cell v.input).entry w v.harmless;
+    counts = counts_still faults v.input (node_moved t.cell v.input).entry w v.harmless;
   }
 
-  pub nothing_happens : (s : Script) (is : Turn → Input → Type 0) (w : WorldState D) → IsSafe limit s w → w.is_lost ≡ false → length w.history < most_entries
+  pub nothing_happens : (s : Script) (is : Turn → CellInput → Type 0) (w : WorldState D) → IsSafe limit s w → w.is_lost ≡ false → length w.history < most_entries
       → (AllTell seen w → (t : Turn) → IsAt seen may_leave limit w t.cell t.left → Voided (is t) t) → Stepped seen may_leave faults limit s is w (after_nothing w) (Ok tt)
   nothing_happens s is w safe going place void = record {
     steps = record {
@@ -134,7 +136,7 @@ module _ {D : Type 0} (seen : D → Option (List ℕ)) (may_leave : D → List �
   }
 
   -- memory was wanting, and nothing changed
-  pub nothing_changes : (s : Script) (is : Turn → Input → Type 0) (w : WorldState D) → IsSafe limit s w → Stepped seen may_leave faults limit s is w w (Err faulty.OutOfMemory)
+  pub nothing_changes : (s : Script) (is : Turn → CellInput → Type 0) (w : WorldState D) → IsSafe limit s w → Stepped seen may_leave faults limit s is w w (Err faulty.OutOfMemory)
   nothing_changes s is w safe = record {
     steps = (record { script = refl; history = refl; wire = refl; clock = refl }, inr (record { lost_as = refl; clients = refl; at = λ c left at. at }));
     safe = safe;
@@ -191,6 +193,7 @@ module _ {D : Type 0} (seen : D → Option (List ℕ)) (may_leave : D → List �
   safe_step s w d ss node front outs safe going place keep ready = record {
     script = safe.script;
     cell_script = safe.cell_script;
+    admin_count = safe.admin_count;
     server_count = keep.count ∙ safe.server_count;
     client_count = safe.client_count;
     database = λ still. subst (λ (n : ℕ). IsLocReadySeat n d) (sym (one_longer w.history (entry_of node (front ++ outs.lines) (length outs.parcels)))) ready.database;
@@ -207,7 +210,7 @@ module _ {D : Type 0} (seen : D → Option (List ℕ)) (may_leave : D → List �
     ticks = safe.ticks;
   }
 
-  step_told : (s : Script) (is : Turn → Input → Type 0) (w : WorldState D) (d : DatabaseSeat D) (ss : List (ServerSeat D)) (node : Node) (front : List Line) (outs : Outs) → IsSafe limit s w → w.is_lost ≡ false → length w.history < most_entries → HostsKeep s w d ss → HostsReady (length w.history + 1) d ss
+  step_told : (s : Script) (is : Turn → CellInput → Type 0) (w : WorldState D) (d : DatabaseSeat D) (ss : List (ServerSeat D)) (node : Node) (front : List Line) (outs : Outs) → IsSafe limit s w → w.is_lost ≡ false → length w.history < most_entries → HostsKeep s w d ss → HostsReady (length w.history + 1) d ss
       → (AllTell seen w → (t : Turn) → IsAt seen may_leave limit w t.cell t.left → Plays seen may_leave faults limit (is t) t w (after_step w d ss node front outs)) → Stepped seen may_leave faults limit s is w (after_step w d ss node front outs) (Ok tt)
   step_told s is w d ss node front outs safe going place keep ready plays = record {
     steps = record { count = one_longer w.history (entry_of node (front ++ outs.lines) (length outs.parcels)); going = going; plays = plays };
@@ -217,8 +220,8 @@ module _ {D : Type 0} (seen : D → Option (List ℕ)) (may_leave : D → List �
   }
 
   -- memory was wanting
-  step_wants : (s : Script) (is : Turn → Input → Type 0) (w : WorldState D) (d : DatabaseSeat D) (ss : List (ServerSeat D)) → IsSafe limit s w → w.is_lost ≡ false → HostsKeep s w d ss → HostsReady (length w.history) d ss
-      → ((c : Cell) → IsCell seen may_leave limit w c → IsCell seen may_leave limit (with_hosts w d ss) c) → Stepped seen may_leave faults limit s is w (with_hosts w d ss) (Err faulty.OutOfMemory)
+  step_wants : (s : Script) (is : Turn → CellInput → Type 0) (w : WorldState D) (d : DatabaseSeat D) (ss : List (ServerSeat D)) → IsSafe limit s w → w.is_lost ≡ false → HostsKeep s w d ss → HostsReady (length w.history) d ss
+      → ((c : NodeCell) → IsCell seen may_leave limit w c → IsCell seen may_leave limit (with_hosts w d ss) c) → Stepped seen may_leave faults limit s is w (with_hosts w d ss) (Err faulty.OutOfMemory)
   step_wants s is w d ss safe going keep ready same = record {
     steps = (
       record { script = refl; history = refl; wire = refl; clock = refl },
@@ -227,6 +230,7 @@ module _ {D : Type 0} (seen : D → Option (List ℕ)) (may_leave : D → List �
     safe = record {
       script = safe.script;
       cell_script = safe.cell_script;
+      admin_count = safe.admin_count;
       server_count = keep.count ∙ safe.server_count;
       client_count = safe.client_count;
       database = λ still. ready.database;
@@ -247,12 +251,13 @@ module _ {D : Type 0} (seen : D → Option (List ℕ)) (may_leave : D → List �
   true_false : true ≡ false → ⊥
   true_false e = absurd cc
 
-  step_loses : (s : Script) (is : Turn → Input → Type 0) (w : WorldState D) (d : DatabaseSeat D) (ss : List (ServerSeat D)) → IsSafe limit s w → HostsKeep s w d ss → Stepped seen may_leave faults limit s is w (lost_with w d ss) (Err faulty.OutOfMemory)
+  step_loses : (s : Script) (is : Turn → CellInput → Type 0) (w : WorldState D) (d : DatabaseSeat D) (ss : List (ServerSeat D)) → IsSafe limit s w → HostsKeep s w d ss → Stepped seen may_leave faults limit s is w (lost_with w d ss) (Err faulty.OutOfMemory)
   step_loses s is w d ss safe keep = record {
     steps = (record { script = refl; history = refl; wire = refl; clock = refl }, inl refl);
     safe = record {
       script = safe.script;
       cell_script = safe.cell_script;
+      admin_count = safe.admin_count;
       server_count = keep.count ∙ safe.server_count;
       client_count = safe.client_count;
       database = λ going. absurd (true_false going);
@@ -271,14 +276,14 @@ module _ {D : Type 0} (seen : D → Option (List ℕ)) (may_leave : D → List �
 
   -- Nothing came of the input, and the nodes are what they were; or a step was told; or memory was wanting, and they stand for what
   -- they stood for, or the cell is lost.
-  abbrev pub Leaves : Script → (Turn → Input → Type 0) → WorldState D → DatabaseSeat D → List (ServerSeat D) → Node → List Line → Happened → Type 0
+  abbrev pub Leaves : Script → (Turn → CellInput → Type 0) → WorldState D → DatabaseSeat D → List (ServerSeat D) → Node → List Line → Happened → Type 0
   Leaves s is w d ss node front happened.Nothing = (with_hosts w d ss ≡ w) × (AllTell seen w → (t : Turn) → IsAt seen may_leave limit w t.cell t.left → Voided (is t) t)
   Leaves s is w d ss node front (happened.Step outs) =
       HostsKeep s w d ss × (HostsReady (length w.history + 1) d ss × (AllTell seen w → (t : Turn) → IsAt seen may_leave limit w t.cell t.left → Plays seen may_leave faults limit (is t) t w (after_step w d ss node front outs)))
-  Leaves s is w d ss node front happened.Unchanged = HostsKeep s w d ss × (HostsReady (length w.history) d ss × ((c : Cell) → IsCell seen may_leave limit w c → IsCell seen may_leave limit (with_hosts w d ss) c))
+  Leaves s is w d ss node front happened.Unchanged = HostsKeep s w d ss × (HostsReady (length w.history) d ss × ((c : NodeCell) → IsCell seen may_leave limit w c → IsCell seen may_leave limit (with_hosts w d ss) c))
   Leaves s is w d ss node front happened.Lost = HostsKeep s w d ss
 
-  module _ (s : Script) (is : Turn → Input → Type 0) (w : WorldState D) (safe : IsSafe limit s w) (going : w.is_lost ≡ false) (place : length w.history < most_entries) (new : WorldState D) where
+  module _ (s : Script) (is : Turn → CellInput → Type 0) (w : WorldState D) (safe : IsSafe limit s w) (going : w.is_lost ≡ false) (place : length w.history < most_entries) (new : WorldState D) where
     -- this is the world, where memory was wanting
     wants_as : (e : WorldFault) (v : WorldState D) → e ≡ faulty.OutOfMemory → new ≡ v → Stepped seen may_leave faults limit s is w v (Err faulty.OutOfMemory) → Stepped seen may_leave faults limit s is w new (Err e)
     wants_as e v fault same stepped =

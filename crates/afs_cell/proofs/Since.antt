@@ -12,6 +12,7 @@ use Rattle.afs_history.specs.declared.lines.Line.{Line}
 use Rattle.afs_history.specs.declared.lines.Line.TheVariants as lines
 use Rattle.afs_history.specs.declared.scripts.Event.{Event}
 use Rattle.afs_history.specs.declared.scripts.Event.TheVariants as events
+use Rattle.afs_grammar.specs.CellScripts.{counts_of, FitsEvent}
 use Rattle.afs_wire.specs.Sent as wire
 use Rattle.afs_wire.specs.Sent.{Sent}
 use Rattle.afs_schedule.specs.Schedules.{IsInput, Turn}
@@ -183,10 +184,10 @@ module _ {D : Type 0} (seen : D → Option (List ℕ)) (may_leave : D → List �
 
 -- ---- one event
 
-pub as_nothing_since : {D : Type 0} (seen : D → Option (List ℕ)) (may_leave : D → List ℕ → Type 0) (faults limit : D → ℕ) (w new : WorldState D) (result : Result (Unit {0}) WorldFault) (event : Event) → w.is_lost ≡ false → w.gone.entries + length w.history < most_entries → IsMeant event given.Nothing → NothingSettles w new result
+pub as_nothing_since : {D : Type 0} (seen : D → Option (List ℕ)) (may_leave : D → List ℕ → Type 0) (faults limit : D → ℕ) (w new : WorldState D) (result : Result (Unit {0}) WorldFault) (event : Event) → w.is_lost ≡ false → w.gone.entries + length w.history < most_entries → FitsEvent (counts_of w.script) event → IsMeant event given.Nothing → NothingSettles w new result
     → SteppedSince seen may_leave faults limit (λ (t : Turn). IsInput t event) w new result
-as_nothing_since {D} seen may_leave faults limit w new result event going few meant settled b before safe =
-    as_nothing seen may_leave faults limit (whole b w) (whole b new) result event safe going (few_whole b w before few) meant (nothing_whole b w new result settled)
+as_nothing_since {D} seen may_leave faults limit w new result event going few fits meant settled b before safe =
+    as_nothing seen may_leave faults limit (whole b w) (whole b new) result event safe going (few_whole b w before few) fits meant (nothing_whole b w new result settled)
 
 pub kept_place : {D : Type 0} (w : WorldState D) (event : Event) (place : ℕ) → IsMeant event (given.Message place) → DeliversKept w event → w.gone.messages < place
 kept_place {D} w event place meant kept = subst (λ (e : Event). DeliversKept w e) meant kept

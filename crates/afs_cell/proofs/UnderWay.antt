@@ -8,7 +8,7 @@ use Rattle.afs_history.specs.declared.scripts.Script.{Script}
 use Rattle.afs_history.specs.declared.scripts.Event.TheVariants as events
 use Rattle.afs_grammar.specs.CellScripts.{counts_of, FitsEvent}
 use Rattle.afs_grammar.specs.Lines.{schedule_so_far, ticks_in, ticks_of}
-use Rattle.afs_rows.specs.Runs.{start, Input, Leads}
+use Rattle.afs_runs.specs.NodeRuns.{node_start, CellInput}
 use Rattle.afs_schedule.specs.Schedules.{events_in, events_of, first_turn, lowest, named_by, next_event, turned, waiting, AreFirst, AreInputs, IsInput, Turn}
 use Rattle.afs_schedule.specs.Taking.{IsLeft, Takes}
 use Rattle.afs_schedule.specs.declared.schedule.Schedule.{Schedule}
@@ -43,9 +43,11 @@ stays_full {D} seen may_leave limit old new fault is stays = subst (λ (f : Worl
 module _ {D : Type 0} (seen : D → Option (List ℕ)) (may_leave : D → List ℕ → Type 0) (faults limit : D → ℕ) (s : Script) where
   -- ---- the beginning
 
-  pub runs_none : (w : WorldState D) → IsFirst seen may_leave limit s w → AllTell seen w → Runs seen may_leave faults limit s w [] (start s)
+  pub runs_none : (w : WorldState D) → IsFirst seen may_leave limit s w → AllTell seen w → Runs seen may_leave faults limit s w [] (node_start s)
   runs_none w first tell = record {
-    leads = subst (λ (ps : List Parcel). Leads (start s) [] (told ps w.history) (start s)) (sym first.wire) (subst (λ (es : List kept.Entry). Leads (start s) [] (told [] es) (start s)) (sym first.history) refl);
+    history = [];
+    leads = refl;
+    tells = sym (ap₂ (λ (ps : List Parcel) (es : List kept.Entry). told ps es) first.wire first.history);
     read = subst (λ (ps : List Parcel). AreRead ps) (sym first.wire) refl;
     cell_is = λ going. first.cell tell;
     counts = (inl (omega arith), λ n seat found. inl (omega arith));
@@ -180,7 +182,7 @@ module _ {D : Type 0} (seen : D → Option (List ℕ)) (may_leave : D → List �
   ends_full w new old left event way takes full = subst (λ (x : WorldState D). GoesSo seen may_leave faults limit s w x left played.Limit) (sym full.1) (ends_first w old left event way takes full.0)
 
   -- memory was wanting
-  some_played : (xs : List Input) (t : Turn) (es : List Event) (o : Option (Event × List Event)) → next_event (waiting t) es ≡ o → SoFar s xs t es → AreInputs (first_turn s) (events_of s) xs ⊎ AreFirst (first_turn s) (events_of s) xs
+  some_played : (xs : List CellInput) (t : Turn) (es : List Event) (o : Option (Event × List Event)) → next_event (waiting t) es ≡ o → SoFar s xs t es → AreInputs (first_turn s) (events_of s) xs ⊎ AreFirst (first_turn s) (events_of s) xs
   some_played xs t es None e far = inl (all_played s xs t es far e)
   some_played xs t es (Some x) e far = inr (first_played s xs t es far (none_or (next_event (waiting t) es) x e))
 

@@ -5,14 +5,14 @@ use Rattle.afs_history.specs.declared.scripts.Script.{Script}
 use Rattle.afs_disk.specs.Disk.{Rose}
 use Rattle.afs_disk.specs.Fuses.{Fused}
 use Rattle.afs_disk.specs.declared.disks.Lent.{Lent}
-use Rattle.afs_rows.specs.Runs.{first_host, first_lasting, first_stored, volumes_at}
+use Rattle.afs_rows.specs.Runs.{first_lasting, first_stored, volumes_at}
+use Rattle.afs_runs.specs.NodeRuns.{first_node}
 use Rattle.afs_rows.specs.States.{durable_of}
 use Rattle.afs_volstore.specs.Stores.{IsKept, Store}
 use Rattle.afs_locstore.specs.LocFold.{loc_fold}
 use Rattle.afs_store.specs.Stores as kept
 use Rattle.afs_host.specs.LocSeated.{DatabaseSeat}
 use Rattle.afs_host.specs.LocSeats.{loc_disk_of, DatabaseRunning}
-use Rattle.afs_volrows.specs.RestingHosts.{resting_host}
 use Rattle.afs_host.specs.Seats.{disk_of, IsUp, ServerRunning}
 use Rattle.afs_host.specs.declared.seats.Seat.TheVariants.{Down, Up}
 use Rattle.afs_cell.specs.Ends.{IsLeftAt}
@@ -37,7 +37,7 @@ pub record IsFirstStore {D : Type 0} (seen : D → Option (List ℕ)) (may_leave
 -- A server at set-up, over that disk.
 pub record IsFirstServer {D : Type 0} (seen : D → Option (List ℕ)) (may_leave : D → List ℕ → Type 0) (faults limit : D → ℕ) (s : Script) (i : ℕ) (old : D) (r : ServerRunning D) : Type 0 where
   pub ready : IsReady (Server i) 0 r
-  pub host : IsUp r (resting_host [] (first_host s i))
+  pub host : IsUp r (first_node s i)
   pub same_limit : limit (disk_of r) ≡ limit old
   pub quiet : faults (disk_of r) ≡ faults old
   pub left : IsLeftAt seen may_leave s i old (disk_of r)

@@ -3,7 +3,7 @@ use Rattle.std.specs.Prelude.{◌≡◌, ◌≤◌, ◌↔◌, ℕ, List, [], Op
 use Rattle.afs_num.specs.declared.types.Node.TheVariants.{Loc}
 use Rattle.afs_history.specs.declared.scripts.Script.{Script}
 use Rattle.afs_disk.specs.Disk.{LeavesJust, Rose}
-use Rattle.afs_rows.specs.Runs.{start}
+use Rattle.afs_runs.specs.NodeRuns.{node_start}
 use Rattle.afs_locdb.specs.Creating.{IsSetUpSoFar}
 use Rattle.afs_host.specs.LocSeated.{IsLocReady}
 use Rattle.afs_host.specs.LocSeats.{loc_disk_of, DatabaseRunning, IsLocUp}
@@ -18,7 +18,7 @@ pub record IsLocLeft {D : Type 0} (seen : D → Option (List ℕ)) (may_leave : 
 -- the database at set-up, over that disk
 pub record IsFirstDatabase {D : Type 0} (seen : D → Option (List ℕ)) (may_leave : D → List ℕ → Type 0) (faults limit : D → ℕ) (s : Script) (old : D) (r : DatabaseRunning D) : Type 0 where
   pub ready : IsLocReady 0 r
-  pub host : IsLocUp r (start s).loc
+  pub host : IsLocUp r (node_start s).loc
   pub same_limit : limit (loc_disk_of r) ≡ limit old
   pub quiet : faults (loc_disk_of r) ≡ faults old
   pub left : IsLocLeft seen may_leave s old (loc_disk_of r)

@@ -14,7 +14,9 @@ use Rattle.afs_outside.specs.Outside.{AppendsFront}
 use Rattle.afs_records.specs.Durable.{Durable}
 use Rattle.afs_records.specs.LocDurable.{LocDurable}
 use Rattle.afs_volstore.specs.Stands.{Stands}
-use Rattle.afs_rows.specs.Runs.{start, Cell, Entry, Input, Leads}
+use Rattle.afs_rows.specs.Runs.{Entry}
+use Rattle.afs_runs.specs.NodeRuns.{node_start, CellInput, NodeCell, NodeLeads}
+use Rattle.afs_runs.specs.PlainRuns.{file_cell}
 use Rattle.afs_text.specs.FinalText.{final_text}
 use Rattle.afs_text.specs.HistoryText.{history_text, text}
 use Rattle.afs_text.specs.KeptText.{kept_history_text}
@@ -33,7 +35,7 @@ use Rattle.afs_command.specs.declared.statuses.Status.TheVariants as statuses
 
 -- At this end of a history the disks of the servers, from this number on, may keep these: from each a server reads the durable part of
 -- its server in the cell, and of one that is down the part before the step that was interrupted, or after it.
-abbrev pub MayKeep : Cell → ℕ → List Durable → Type 0
+abbrev pub MayKeep : NodeCell → ℕ → List Durable → Type 0
 MayKeep end i [] = i ≡ end.host_count + 1
 MayKeep end i (d ∷ ds) = MayBeRead end i d × MayKeep end (i + 1) ds
 
@@ -120,31 +122,31 @@ one_other server i = if nat_eq server i then 1 else 0
 -- A legal run of the script: inputs lead from its set-up through this history to this cell, and the schedule was played so far by them.
 -- The history has no more entries than one may have, and it is legal. At its end the servers hold the ideal volumes, with all that was
 -- acknowledged. The count of each disk rose by each failure of that disk in it, and by its others.
-pub record IsLegalRun (s : Script) (IsSoFar : List Input → Type 0) (others : ℕ → ℕ) (disk_faults : ℕ → Span ℕ) (history : List Entry) (end : Cell) : Type 0 where
-  pub inputs : List Input
-  pub leads : Leads (start s) inputs history end
+pub record IsLegalRun (s : Script) (IsSoFar : List CellInput → Type 0) (others : ℕ → ℕ) (disk_faults : ℕ → Span ℕ) (history : List Entry) (end : NodeCell) : Type 0 where
+  pub inputs : List CellInput
+  pub leads : NodeLeads (node_start s) inputs history end
   pub so_far : IsSoFar inputs
   pub few : length history ≤ most_entries
   pub legal : Legal history s
-  pub well : EndsWell s history end
+  pub well : EndsWell s history (file_cell end)
   pub failures : (i : ℕ) → HasDisk s i → RoseBy (own_falls i inputs history + others i) (disk_faults i)
 
 -- The inputs are the events of the script's schedule, one for one, with each drain as its deliveries.
-abbrev pub ToItsEnd : Script → List Input → Type 0
+abbrev pub ToItsEnd : Script → List CellInput → Type 0
 ToItsEnd s = AreInputs (first_turn s) (events_of s)
 
 -- They are the first of these, and one is left.
-abbrev pub NotToItsEnd : Script → List Input → Type 0
+abbrev pub NotToItsEnd : Script → List CellInput → Type 0
 NotToItsEnd s = AreFirst (first_turn s) (events_of s)
 
-abbrev pub SomeOfIt : Script → List Input → Type 0
-SomeOfIt s = λ (inputs : List Input). AreInputs (first_turn s) (events_of s) inputs ⊎ AreFirst (first_turn s) (events_of s) inputs
+abbrev pub SomeOfIt : Script → List CellInput → Type 0
+SomeOfIt s = λ (inputs : List CellInput). AreInputs (first_turn s) (events_of s) inputs ⊎ AreFirst (first_turn s) (events_of s) inputs
 
 -- The script was played to its end. What was written is the text of its history with what the servers' disks keep, all of it or a
 -- beginning; and the disks that were given back stand for just that, and for what the location database keeps.
 pub record Replays (s : Script) (wire : Bool) (Writes : List ℕ → Type 0) (MayBeMissing : ℕ → Type 0) (o : Outside) : Type 0 where
   pub history : List Entry
-  pub end : Cell
+  pub end : NodeCell
   pub run : IsLegalRun s (ToItsEnd s) no_other o.disk_faults history end
   pub kept : List Durable
   pub keep : MayKeep end 1 kept
@@ -157,7 +159,7 @@ pub record Replays (s : Script) (wire : Bool) (Writes : List ℕ → Type 0) (Ma
 -- stands, or where the sink failed, a beginning of it; and the disks that were given back stand for what it leaves.
 pub record ReplaysFirst (s : Script) (wire : Bool) (o : Outside) : Type 0 where
   pub history : List Entry
-  pub end : Cell
+  pub end : NodeCell
   pub run : IsLegalRun s (NotToItsEnd s) no_other o.disk_faults history end
   pub full : length history ≡ most_entries
   pub kept : List Durable
@@ -171,7 +173,7 @@ pub record ReplaysFirst (s : Script) (wire : Bool) (o : Outside) : Type 0 where
 -- Nothing of the final part stands there. The disks were given back, whatever they hold.
 pub record ReplaysSome (s : Script) (wire : Bool) (o : Outside) : Type 0 where
   pub history : List Entry
-  pub end : Cell
+  pub end : NodeCell
   pub run : IsLegalRun s (SomeOfIt s) no_other o.disk_faults history end
   pub written : Writes o (history_text wire history)
   pub given : GivesBackThose (MissedByTheBank o) (s.servers + 1) o.given.before o.given.after
@@ -180,7 +182,7 @@ pub record ReplaysSome (s : Script) (wire : Bool) (o : Outside) : Type 0 where
 -- history was written, without the final part, or where the sink failed, a beginning of it. The disks were given back, whatever they hold.
 pub record ReplaysUnread (s : Script) (wire : Bool) (server : ℕ) (o : Outside) : Type 0 where
   pub history : List Entry
-  pub end : Cell
+  pub end : NodeCell
   pub run : IsLegalRun s (ToItsEnd s) (one_other server) o.disk_faults history end
   pub written : Writes o (history_text wire history)
   pub given : GivesBackThose (MissedByTheBank o) (s.servers + 1) o.given.before o.given.after

@@ -10,10 +10,8 @@ use Rattle.afs_history.specs.declared.lines.Outs.{Outs}
 use Rattle.afs_disk.specs.Disk.{Rose}
 use Rattle.afs_model.specs.Messages.{messages_spelled, parcels_read, received}
 use Rattle.afs_rows.specs.Hosts.{Fall, Host, crashed, set_to_fail, set_to_stop, HostStep}
-use Rattle.afs_rows.specs.ServerHosts.{ServerHost}
-use Rattle.afs_rows.specs.States.{BackCall, Seat, ServerState}
+use Rattle.afs_rows.specs.States.{BackCall}
 use Rattle.afs_volrows.specs.NodeHosts.{node_kind, node_timed_out, node_woken, piece_timed_out, NodeHost}
-use Rattle.afs_volrows.specs.RestingHosts.{resting_host}
 use Rattle.afs_volrows.specs.VolStates.{NodeState, PieceCall}
 use Rattle.afs_server.specs.Seen.{CanDraw}
 use Rattle.afs_host.specs.Seats.{CanRun}
@@ -76,13 +74,6 @@ pub record Takes {D U S : Type 0} (kind : SeatKind D U S) (seen : D → Option (
 abbrev pub server_seat : {D : Type 0} → (D → Option (List ℕ)) → (D → List ℕ → Type 0) → (D → ℕ) → Node → SeatKind D (ServerSeat D) NodeState
 server_seat {D} seen may_leave limit me = record { disk = λ s. seat_disk s; is = λ s h. IsHost seen may_leave limit me s h; ready = λ n s. IsReadySeat me n s }
 
--- In a cell where clients alone call servers it stands for the host of a file server: its volume server rests, with some callers.
-abbrev pub IsRestingHost : {D : Type 0} → (D → Option (List ℕ)) → (D → List ℕ → Type 0) → (D → ℕ) → Node → ServerSeat D → ServerHost → Type 0
-IsRestingHost {D} seen may_leave limit me s h = (callers : List Seat) × IsHost seen may_leave limit me s (resting_host callers h)
-
-abbrev pub resting_seat : {D : Type 0} → (D → Option (List ℕ)) → (D → List ℕ → Type 0) → (D → ℕ) → Node → SeatKind D (ServerSeat D) ServerState
-resting_seat {D} seen may_leave limit me = record { disk = λ s. seat_disk s; is = λ s h. IsRestingHost seen may_leave limit me s h; ready = λ n s. IsReadySeat me n s }
-
 -- the host is down
 abbrev pub IsFallen : NodeHost → Type 0
 IsFallen h = (fall : Fall) × (h.down ≡ Some fall)
@@ -93,11 +84,11 @@ IsVoidServer (server.TimeOut callee) h = IsFallen h ⊎ ((h.state.file.backs.cal
 IsVoidServer server.Restart h = h.down ≡ None
 IsVoidServer input h = IsFallen h
 
--- its file server's call to this client is timed out, or its volume server's to this server
+-- Its file server's call to this node is timed out; or where that has none, its volume server's.
 abbrev pub HasTimedOut : Node → ℕ → Node → NodeHost → (HostStep NodeState → Type 0) → Type 0
 HasTimedOut me clock callee h Is =
     ((b : BackCall) × ((h.state.file.backs.calls callee ≡ Some b) × Is (node_timed_out me h clock callee b)))
-    ⊎ ((c : PieceCall) × ((h.state.vol.calls callee ≡ Some c) × Is (piece_timed_out me h clock callee c)))
+    ⊎ ((c : PieceCall) × (((h.state.file.backs.calls callee ≡ None) × (h.state.vol.calls callee ≡ Some c)) × Is (piece_timed_out me h clock callee c)))
 
 -- What it makes of this, at this time in a cell of so many clients, has a step that `Is` tells of. Where its disk fails by itself, the
 -- disk's count rose.

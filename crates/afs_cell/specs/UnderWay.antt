@@ -5,7 +5,7 @@ use Rattle.afs_history.specs.declared.scripts.Event.{Event}
 use Rattle.afs_history.specs.declared.scripts.Script.{Script}
 use Rattle.afs_grammar.specs.CellScripts.{counts_of, FitsEvent}
 use Rattle.afs_grammar.specs.Lines.{ticks_in}
-use Rattle.afs_rows.specs.Runs.{Input}
+use Rattle.afs_runs.specs.NodeRuns.{CellInput}
 use Rattle.afs_schedule.specs.Schedules.{events_of, first_turn, AreFirst, AreInputs, Turn}
 use Rattle.afs_schedule.specs.Taking.{IsLeft}
 use Rattle.afs_schedule.specs.declared.schedule.Schedule.{Schedule}
@@ -15,13 +15,13 @@ use Rattle.afs_cell.specs.declared.playing.Played.{Played}
 use Rattle.afs_cell.specs.declared.playing.Played.TheVariants as played
 
 -- these inputs lead to this turn, and these events are left: what they are is played behind them
-pub record SoFar (s : Script) (xs : List Input) (t : Turn) (es : List Event) : Type 0 where
-  pub all : (ys : List Input) → AreInputs t es ys → AreInputs (first_turn s) (events_of s) (xs ++ ys)
-  pub first : (ys : List Input) → AreFirst t es ys → AreFirst (first_turn s) (events_of s) (xs ++ ys)
+pub record SoFar (s : Script) (xs : List CellInput) (t : Turn) (es : List Event) : Type 0 where
+  pub all : (ys : List CellInput) → AreInputs t es ys → AreInputs (first_turn s) (events_of s) (xs ++ ys)
+  pub first : (ys : List CellInput) → AreFirst t es ys → AreFirst (first_turn s) (events_of s) (xs ++ ys)
 
 -- these inputs were played, and the world stands for their turn
 pub record HasCome {D : Type 0} (seen : D → Option (List ℕ)) (may_leave : D → List ℕ → Type 0) (faults limit : D → ℕ) (s : Script) (w : WorldState D) (es : List Event) (named : List ℕ) : Type 0 where
-  pub inputs : List Input
+  pub inputs : List CellInput
   pub turn : Turn
   pub runs : Runs seen may_leave faults limit s w inputs turn.cell
   pub at : IsAt seen may_leave limit w turn.cell turn.left

@@ -1,5 +1,5 @@
 -- The program's cell, and the cell of the definitions that it stands for.
-use Rattle.std.specs.Prelude.{◌≡◌, ◌≤◌, ◌⊎◌, ◌+◌, ◌-◌, ◌^◌, ℕ, List, ◌∷◌, Bool, false, not, nat_eq, if◌then◌else◌, Option, length, IsSome}
+use Rattle.std.specs.Prelude.{◌≡◌, ◌≤◌, ◌⊎◌, ◌+◌, ◌-◌, ◌^◌, ℕ, List, ◌∷◌, Bool, false, not, nat_eq, if◌then◌else◌, Option, length, map, IsSome}
 use Rattle.afs_num.specs.declared.histories.Actor.{Actor}
 use Rattle.afs_num.specs.declared.histories.Actor.TheVariants as actors
 use Rattle.afs_num.specs.declared.types.Node.TheVariants.{Loc, Server}
@@ -9,11 +9,11 @@ use Rattle.afs_history.specs.declared.scripts.Script.{Script}
 use Rattle.afs_grammar.specs.CellScripts.{IsCellScript}
 use Rattle.afs_model.specs.Messages.{messages_spelled, parcels_read}
 use Rattle.afs_rows.specs.Going.{ClientState}
-use Rattle.afs_rows.specs.Runs.{gives, start, starts_again, Cell, Entry, Input, Leads, RunsTo, locations}
+use Rattle.afs_rows.specs.Runs.{gives, starts_again, Entry, locations}
+use Rattle.afs_runs.specs.NodeRuns.{bare_entry, node_start, usual, CellInput, NodeCell, NodeLeads}
 use Rattle.afs_rows.specs.Hosts.{fails_early, fails_midway, gives_out}
 use Rattle.afs_host.specs.LocSeated.{loc_seat_disk, DatabaseSeat, IsLocHost, IsLocReadySeat}
-use Rattle.afs_host.specs.Seated.{seat_disk, IsReadySeat, ServerSeat}
-use Rattle.afs_cell.specs.SeatSteps.{IsRestingHost}
+use Rattle.afs_host.specs.Seated.{seat_disk, IsHost, IsReadySeat, ServerSeat}
 use Rattle.afs_clients.specs.Places.{Each}
 use Rattle.afs_text.specs.Telling.{told, sent_by, AreRead}
 use Rattle.afs_clients.specs.declared.clients.ClientSeat.{ClientSeat}
@@ -53,21 +53,17 @@ pub record IsClient (s : ClientSeat) (state : ClientState) (away : Bool) : Type 
   pub state_is : s.client.state ≡ state
   pub away_is : s.is_away ≡ away
 
--- a run leads to it
-abbrev pub IsReached : Cell → Type 0
-IsReached c = (s : Script) × ((history : List Entry) × RunsTo history s c)
-
--- the cell that the world stands for
-pub record IsCell {D : Type 0} (seen : D → Option (List ℕ)) (may_leave : D → List ℕ → Type 0) (limit : D → ℕ) (w : WorldState D) (c : Cell) : Type 0 where
+-- The cell that the world stands for. It has no administrators.
+pub record IsCell {D : Type 0} (seen : D → Option (List ℕ)) (may_leave : D → List ℕ → Type 0) (limit : D → ℕ) (w : WorldState D) (c : NodeCell) : Type 0 where
   pub loc : IsLocHost seen may_leave limit w.database c.loc
   pub host_count : c.host_count ≡ length w.servers
-  pub hosts : Each (λ (i : ℕ) (s : ServerSeat D). IsRestingHost seen may_leave limit (Server i) s (c.hosts i)) w.servers
+  pub hosts : Each (λ (i : ℕ) (s : ServerSeat D). IsHost seen may_leave limit (Server i) s (c.hosts i)) w.servers
   pub count : c.count ≡ length w.clients
   pub clients : Each (λ (n : ℕ) (s : ClientSeat). IsClient s (c.clients n) (c.away n)) w.clients
   pub sent : parcels_read w.wire ≡ messages_spelled c.sent
   pub clock : c.clock ≡ w.clock
   pub handed : c.handed ≡ locations w.script
-  pub reached : IsReached c
+  pub admin_count : c.admin_count ≡ 0
 
 -- ---- what the next input may rely on
 
@@ -96,10 +92,10 @@ abbrev pub Counts : {D : Type 0} → (D → ℕ) → (ℕ → ℕ) → WorldStat
 Counts {D} faults own w = IsCounted (own 0) (faults (loc_seat_disk w.database)) × Each (λ (i : ℕ) (s : ServerSeat D). IsCounted (own i) (faults (seat_disk s))) w.servers
 
 -- the disk of a node fails by itself with this input
-abbrev pub falls : Input → ℕ
-falls (gives place (gives_out call)) = 1
-falls (starts_again i after fails_early) = 1
-falls (starts_again i after fails_midway) = 1
+abbrev pub falls : CellInput → ℕ
+falls (usual (gives place (gives_out call))) = 1
+falls (usual (starts_again i after fails_early)) = 1
+falls (usual (starts_again i after fails_midway)) = 1
 falls x = 0
 
 -- Whether this is a node with a disk, and another than that of this number. The database has number 0.
@@ -110,11 +106,11 @@ is_other i actor = false
 
 -- The disk of the node of this number fails by itself with this input, which made this entry. Where the entry is of no node with a disk,
 -- such a failure counts for each.
-abbrev pub falls_at : ℕ → Input → Entry → ℕ
+abbrev pub falls_at : ℕ → CellInput → Entry → ℕ
 falls_at i x e = if is_other i e.actor then 0 else falls x
 
 -- how often it failed by itself with these inputs, each of which made an entry
-abbrev pub own_falls : ℕ → List Input → List Entry → ℕ
+abbrev pub own_falls : ℕ → List CellInput → List Entry → ℕ
 own_falls i (x ∷ xs) (e ∷ es) = falls_at i x e + own_falls i xs es
 own_falls i xs es = 0
 
@@ -130,6 +126,7 @@ most_ticks = 1000000000
 pub record IsSafe {D : Type 0} (limit : D → ℕ) (s : Script) (w : WorldState D) : Type 0 where
   pub script : w.script ≡ s
   pub cell_script : IsCellScript s
+  pub admin_count : s.admins ≡ 0
   pub server_count : length w.servers ≡ s.servers
   pub client_count : length w.clients ≡ s.clients
   pub database : w.is_lost ≡ false → IsLocReadySeat (length w.history) w.database
@@ -140,17 +137,19 @@ pub record IsSafe {D : Type 0} (limit : D → ℕ) (s : Script) (w : WorldState 
   pub entries : length w.history ≤ most_entries
   pub ticks : w.clock ≤ most_ticks
 
--- These inputs lead from the script's set-up through the history that the world tells to this cell, and the world stands for it.
--- Each time that a disk failed by itself is counted by that disk.
-pub record Runs {D : Type 0} (seen : D → Option (List ℕ)) (may_leave : D → List ℕ → Type 0) (faults limit : D → ℕ) (s : Script) (w : WorldState D) (inputs : List Input) (cell : Cell) : Type 0 where
-  pub leads : Leads (start s) inputs (told w.wire w.history) cell
+-- These inputs lead from the script's set-up through a history to this cell, and the world stands for it. What the world tells is that
+-- history but for volumes that a step brings. Each time that a disk failed by itself is counted by that disk.
+pub record Runs {D : Type 0} (seen : D → Option (List ℕ)) (may_leave : D → List ℕ → Type 0) (faults limit : D → ℕ) (s : Script) (w : WorldState D) (inputs : List CellInput) (cell : NodeCell) : Type 0 where
+  pub history : List Entry
+  pub leads : NodeLeads (node_start s) inputs history cell
+  pub tells : map bare_entry history ≡ told w.wire w.history
   pub read : AreRead w.wire
   pub cell_is : w.is_lost ≡ false → IsCell seen may_leave limit w cell
   pub counts : Counts faults (λ (i : ℕ). own_falls i inputs (told w.wire w.history)) w
 
 pub record HasRun {D : Type 0} (seen : D → Option (List ℕ)) (may_leave : D → List ℕ → Type 0) (faults limit : D → ℕ) (s : Script) (w : WorldState D) : Type 0 where
-  pub inputs : List Input
-  pub cell : Cell
+  pub inputs : List CellInput
+  pub cell : NodeCell
   pub runs : Runs seen may_leave faults limit s w inputs cell
 
 -- Where the disks tell, what the world tells is a run of its script.

@@ -19,13 +19,14 @@ use afs_wire::Wire;
 use std::alloc::Global;
 
 /// The cell of a script over these disks, the location database's and one for each server, in order of number. A refusal hands all disks
-/// back, in order.
+/// back, in order. The cell has no administrators yet, so the script names none.
 pub fn set_up<'a, D: Disk + Drop>(
     alloc: Global,
     script: &'a Script,
     disks: Disks<D>,
 ) -> Result<World<'a, D>, (SetupFault, Disks<D>)>
     requires script { IsCellScript script.now }
+    requires admins { script.now.admins ≡ 0 }
     requires disks { AreLent D.limit script.now.capacity 0 disks }
     requires all { length disks ≡ script.now.servers + 1 }
     ensures world { IfOk result (IsWorld D.seen D.may_leave D.faults D.limit script.now) }

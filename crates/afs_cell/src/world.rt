@@ -5,8 +5,6 @@ ghost use Rattle.afs_num.specs.declared.types.Node.TheVariants.{Loc, Server};
 ghost use Rattle.afs_history.specs.declared.scripts.Event.TheVariants as events;
 ghost use Rattle.afs_grammar.specs.CellScripts.{counts_of, FitsEvent};
 ghost use Rattle.afs_grammar.specs.Lines.{ticks_of};
-ghost use Rattle.afs_rows.specs.Runs.{nothing};
-ghost use Rattle.afs_rows.specs.Runs as runs;
 ghost use Rattle.afs_schedule.specs.Schedules.{IsInput};
 ghost use Rattle.afs_clients.specs.Happening.{IsAsked, IsDue, IsDueAtLoc, IsGiven, IsGivenToLoc};
 ghost use Rattle.afs_cell.specs.DatabaseHearing.{IsPickedAtLoc};

@@ -4,7 +4,8 @@ use Rattle.std.specs.List.{insert, remove}
 use Rattle.std.specs.Prelude.{slice_index_or, slice_set, IfNone, Option}
 use Rattle.std.proofs.lemmas.Bool.{eqb-true, eqb-false, ne_eqb, lt-ltb, le-ltb}
 use Rattle.afs_num.specs.Places.{at_place}
-use Rattle.afs_rows.specs.Runs.{has_client, has_host, Cell}
+use Rattle.afs_rows.specs.Runs.{has_client}
+use Rattle.afs_runs.specs.NodeRuns.{has_host, NodeCell}
 use Rattle.afs_clients.specs.Places.{put_place, Each}
 
 pub some_is : {A : Type 0} (x y : A) → Some x ≡ Some y → x ≡ y
@@ -94,15 +95,15 @@ client_there xs n x count e same = ap (λ (k : ℕ). has_client k n) same ∙ cl
 pub no_client : {A : Type 0} (xs : List A) (n : ℕ) (count : ℕ) → at_place xs n ≡ None → count ≡ length xs → has_client count n ≡ false
 no_client xs n count e same = ap (λ (k : ℕ). has_client k n) same ∙ client_past (length xs) n (place_past xs n e)
 
-host_as_client : (c : Cell) (n : ℕ) → has_host c n ≡ has_client c.host_count n
+host_as_client : (c : NodeCell) (n : ℕ) → has_host c n ≡ has_client c.host_count n
 host_as_client c zero = refl
 host_as_client c (suc n) = refl
 
 -- and a server
-pub host_there : {A : Type 0} (xs : List A) (n : ℕ) (x : A) (c : Cell) → at_place xs n ≡ Some x → c.host_count ≡ length xs → has_host c n ≡ true
+pub host_there : {A : Type 0} (xs : List A) (n : ℕ) (x : A) (c : NodeCell) → at_place xs n ≡ Some x → c.host_count ≡ length xs → has_host c n ≡ true
 host_there xs n x c e same = host_as_client c n ∙ client_there xs n x c.host_count e same
 
-pub no_host : {A : Type 0} (xs : List A) (n : ℕ) (c : Cell) → at_place xs n ≡ None → c.host_count ≡ length xs → has_host c n ≡ false
+pub no_host : {A : Type 0} (xs : List A) (n : ℕ) (c : NodeCell) → at_place xs n ≡ None → c.host_count ≡ length xs → has_host c n ≡ false
 no_host xs n c e same = host_as_client c n ∙ no_client xs n c.host_count e same
 
 put_same_by : {A : Type 0} (n : ℕ) (x : A) (xs : List A) → at_place xs n ≡ Some x → put_place n x xs ≡ xs

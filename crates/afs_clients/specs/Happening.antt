@@ -17,7 +17,8 @@ use Rattle.afs_history.specs.declared.scripts.Script.{Script}
 use Rattle.afs_model.specs.Messages.{messages_spelled, parcels_read, received}
 use Rattle.afs_rows.specs.ClientRow.{act_of, begin_row, guest_row, reborn}
 use Rattle.afs_rows.specs.Going.{ClientState, Going}
-use Rattle.afs_rows.specs.Runs.{locations, server_waits, sets_fail, sets_stop, starts_again, stops, wakes, Input, Outcome}
+use Rattle.afs_rows.specs.Runs.{locations, server_waits, sets_fail, sets_stop, starts_again, stops, wakes, Outcome}
+use Rattle.afs_runs.specs.NodeRuns.{usual, CellInput}
 use Rattle.afs_rows.specs.Steps.{Step}
 use Rattle.afs_schedule.specs.Schedules.{at_server, client_act, IsInput, IsRestart, Turn}
 pub use Rattle.afs_cache.specs.Managing.{seek_times_out, times_out}
@@ -36,19 +37,19 @@ use Rattle.afs_clients.specs.declared.happening.ServerInput.TheVariants as serve
 -- ---- events
 
 -- which input of the cell it is, at a server and at the location database: a restart leaves open whether the disk fails, and what it kept where it had failed by itself
-abbrev pub IsGiven : ℕ → ServerInput → Turn → Input → Type 0
-IsGiven i (server.TimeOut callee) t x = x ≡ server_waits i callee
-IsGiven i server.Wake t x = x ≡ wakes i
-IsGiven i (server.Crash pick) t x = x ≡ at_server i (stops i)
-IsGiven i server.Restart t x = IsRestart (t.cell.hosts i).down (λ (after : Bool) (outcome : Outcome). at_server i (starts_again i after outcome)) x
-IsGiven i (server.Stop calls pick) t x = x ≡ at_server i (sets_stop i calls pick)
-IsGiven i (server.Fail call) t x = x ≡ at_server i (sets_fail i call)
+abbrev pub IsGiven : ℕ → ServerInput → Turn → CellInput → Type 0
+IsGiven i (server.TimeOut callee) t x = x ≡ usual (server_waits i callee)
+IsGiven i server.Wake t x = x ≡ usual (wakes i)
+IsGiven i (server.Crash pick) t x = x ≡ usual (at_server i (stops i))
+IsGiven i server.Restart t x = IsRestart (t.cell.hosts i).down (λ (after : Bool) (outcome : Outcome). usual (at_server i (starts_again i after outcome))) x
+IsGiven i (server.Stop calls pick) t x = x ≡ usual (at_server i (sets_stop i calls pick))
+IsGiven i (server.Fail call) t x = x ≡ usual (at_server i (sets_fail i call))
 
-abbrev pub IsGivenToLoc : DatabaseInput → Turn → Input → Type 0
-IsGivenToLoc (database.Crash pick) t x = x ≡ stops 0
-IsGivenToLoc database.Restart t x = IsRestart t.cell.loc.down (starts_again 0) x
-IsGivenToLoc (database.Stop calls pick) t x = x ≡ sets_stop 0 calls pick
-IsGivenToLoc (database.Fail call) t x = x ≡ sets_fail 0 call
+abbrev pub IsGivenToLoc : DatabaseInput → Turn → CellInput → Type 0
+IsGivenToLoc (database.Crash pick) t x = x ≡ usual (stops 0)
+IsGivenToLoc database.Restart t x = IsRestart t.cell.loc.down (λ (after : Bool) (outcome : Outcome). usual (starts_again 0 after outcome)) x
+IsGivenToLoc (database.Stop calls pick) t x = x ≡ usual (sets_stop 0 calls pick)
+IsGivenToLoc (database.Fail call) t x = x ≡ usual (sets_fail 0 call)
 
 -- a failure is due at a call that is yet to come
 abbrev pub IsDue : ServerInput → Type 0
@@ -120,7 +121,7 @@ ClientTakes s n clock client.Crash old new outs = HasFallen s n old new outs
 ClientTakes s n clock client.Restart old new outs = HasRisen n old new outs
 
 -- the event that gives a client this
-abbrev pub IsAsked : ClientInput → ℕ → Turn → Input → Type 0
+abbrev pub IsAsked : ClientInput → ℕ → Turn → CellInput → Type 0
 IsAsked client.Act n t x = IsInput t (events.Act (Client n)) x
 IsAsked (client.TimeOut callee) n t x = IsInput t (events.Timeout (Client n) callee) x
 IsAsked client.Crash n t x = IsInput t (events.Crash (Client n)) x

@@ -4,7 +4,8 @@ use Rattle.afs_history.specs.declared.scripts.Event.{Event}
 use Rattle.afs_history.specs.declared.scripts.Event.TheVariants as events
 use Rattle.afs_words.specs.declared.nodes.Counts.{Counts}
 use Rattle.afs_grammar.specs.CellScripts.{FitsEvent}
-use Rattle.afs_rows.specs.Runs.{nothing, Input}
+use Rattle.afs_rows.specs.Runs.{nothing}
+use Rattle.afs_runs.specs.NodeRuns.{usual, CellInput}
 use Rattle.afs_schedule.specs.Schedules.{IsInput, Turn}
 use Rattle.afs_clients.specs.Happening.{IsAsked, IsDue, IsDueAtLoc, IsGiven, IsGivenToLoc}
 use Rattle.afs_clients.specs.declared.events.Given.{Given}
@@ -15,21 +16,25 @@ use Rattle.afs_clients.specs.declared.happening.ServerInput.{ServerInput}
 
 -- an input of the client's is the event, and the client is one of the cell where the event fits it
 pub record IsForClient (event : Event) (n : ℕ) (what : ClientInput) : Type 0 where
-  pub input : (t : Turn) (x : Input) → IsAsked what n t x → IsInput t event x
+  pub input : (t : Turn) (x : CellInput) → IsAsked what n t x → IsInput t event x
   pub inside : (c : Counts) → FitsEvent c event → (1 ≤ n) × (n ≤ c.clients)
 
 -- and of a server's, whose failure is due at a call to come
 pub record IsForServer (event : Event) (i : ℕ) (what : ServerInput) : Type 0 where
-  pub input : (t : Turn) (x : Input) → IsGiven i what t x → IsInput t event x
+  pub input : (t : Turn) (x : CellInput) → IsGiven i what t x → IsInput t event x
   pub due : (c : Counts) → FitsEvent c event → IsDue what
 
 -- and of the location database's
 pub record IsForLoc (event : Event) (what : DatabaseInput) : Type 0 where
-  pub input : (t : Turn) (x : Input) → IsGivenToLoc what t x → IsInput t event x
+  pub input : (t : Turn) (x : CellInput) → IsGivenToLoc what t x → IsInput t event x
   pub due : (c : Counts) → FitsEvent c event → IsDueAtLoc what
 
+-- nothing is the event, where it fits a cell without administrators
+abbrev pub IsForNone : Event → Type 0
+IsForNone event = (c : Counts) → FitsEvent c event → c.admins ≡ 0 → (t : Turn) → IsInput t event (usual nothing)
+
 abbrev pub IsMeant : Event → Given → Type 0
-IsMeant event given.Nothing = (t : Turn) → IsInput t event nothing
+IsMeant event given.Nothing = IsForNone event
 IsMeant event (given.Client n what) = IsForClient event n what
 IsMeant event (given.Server i what) = IsForServer event i what
 IsMeant event (given.Database what) = IsForLoc event what

@@ -40,12 +40,12 @@ module _ {D : Type 0} (w : Ghosts D) (old new : ServerRunning D) where
   pub mark_so : (clock : ℕ) (found : Received) (result : Result (Outs × List Parcel) NodeFault) → Handled clock found result → Becomes w (λ s. KeepsMark old s) new result
   mark_so clock found (Ok r) handled = tt
   mark_so clock found (Err nodes.OutOfMemory) handled = tt
-  mark_so clock found (Err nodes.Down) broken = λ s line fallen. fallen.mark ∙ ap (λ (t : Store (Fused D)). count_mark t.count) broken.closed
+  mark_so clock found (Err nodes.Down) broken = λ s line fallen. fallen.mark ∙ ap (λ (t : Store (Fused D)). count_mark t.count) broken.closed.is
 
   pub rests_so : (clock : ℕ) (found : Received) (result : Result (Outs × List Parcel) NodeFault) → Handled clock found result → Becomes w (λ s. RestsServed w old.store.node s) new result
   rests_so clock found (Ok r) handled = tt
   rests_so clock found (Err nodes.OutOfMemory) handled = tt
-  rests_so clock found (Err nodes.Down) broken = λ s line fallen crash. fallen.rests (crash ∙ ap (λ (n : Node). lines.Crash n) (ap (λ (t : Store (Fused D)). t.node) (sym broken.closed)))
+  rests_so clock found (Err nodes.Down) broken = λ s line fallen crash. fallen.rests (crash ∙ ap (λ (n : Node). lines.Crash n) (ap (λ (t : Store (Fused D)). t.node) (sym broken.closed.is)))
 
   pub told_so : (result : Result (Outs × List Parcel) NodeFault) → (IsSome (w.seen (disk_of new)) ↔ IsSome (w.seen (disk_of old))) → Becomes w (λ s. IsSome (w.seen (disk_served s)) ↔ IsSome (w.seen (disk_of old))) new result
   told_so (Ok r) told = told

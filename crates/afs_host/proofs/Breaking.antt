@@ -83,8 +83,8 @@ down_step {D} w leaves reads old new clock found can broken s line fallen h up m
     fallen_step (server_keeping old.store.node) server_sight w leaves reads old new m clock (record {
       armed = broken.armed;
       set = can.set;
-      node = ap (λ (t : Store (Fused D)). t.node) broken.closed;
-      counted = ap (λ (t : Store (Fused D)). t.count) broken.closed;
+      node = ap (λ (t : Store (Fused D)). t.node) broken.closed.is;
+      counted = ap (λ (t : Store (Fused D)). t.count) broken.closed.is;
       lies = λ b. broken.lies m b whole;
       reached = broken.reached;
       left = λ b. broken.left m b whole;

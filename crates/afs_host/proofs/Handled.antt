@@ -18,7 +18,6 @@ use Rattle.afs_volrows.specs.NodeHosts.{node_kind, NodeHost}
 use Rattle.afs_volrows.specs.VolSteps.{node_device_calls, node_row}
 use Rattle.afs_volstore.specs.Stores.{Store}
 use Rattle.afs_server_parts.specs.declared.faults.NodeFault.TheVariants as nodes
-use Rattle.afs_server.specs.Handling.{IsQuiet}
 use Rattle.afs_node.specs.Handling.{node_record, AreSameSteps, DrawsFew, LeavesNode, MakesNode}
 use Rattle.afs_node.specs.Seen.{node_found, node_seen, SameNode, SameStored, ServesNode}
 use Rattle.afs_node.specs.declared.node.ServerNode.{ServerNode}
@@ -27,6 +26,7 @@ use Rattle.afs_host.specs.Seats.{with_behind, CanRun, GoesOn, IsStepUp, IsUp, On
 use Rattle.afs_host.specs.Serving.{RunsRow}
 use Rattle.afs_host.specs.Setting.{IsSet}
 use Rattle.afs_host.proofs.Stepping.{as_up, lowered_set, made_up, unstruck, up_step}
+use Rattle.afs_saving.specs.Saving.{IsQuiet}
 
 abbrev the_calls : {D : Type 0} → ServerRunning D → ℕ → List ℕ → ℕ
 the_calls {D} old clock bytes = node_device_calls old.store.node (node_seen old.memory old.store) clock (node_found bytes)

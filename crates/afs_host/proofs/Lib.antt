@@ -14,7 +14,6 @@ pub mod LocHeard
 pub mod LocRising
 pub mod LocStepping
 pub mod Lying
-pub mod Placed
 pub mod Rising
 pub mod Started
 pub mod Stepping

@@ -33,7 +33,7 @@ use Rattle.afs_volrows.specs.VolSteps.{from_of, is_of_client, node_file_decides,
 use Rattle.afs_volrows.specs.VolSteps as volumes
 use Rattle.afs_volstore.specs.Stores.{recorded, Store}
 use Rattle.afs_volstore.specs.VolumeLaws.{volume_sound}
-use Rattle.afs_server.specs.Seen.{begun_step, lasting_of}
+use Rattle.afs_server.specs.Seen.{begun_step}
 use Rattle.afs_node.specs.Handling.{node_begun_step}
 use Rattle.afs_host.specs.Seats.{IsStepUp, Resting, ServerRunning}
 use Rattle.afs_host.specs.Standing.{begun_node, server_keeping}
@@ -42,6 +42,7 @@ use Rattle.afs_host.specs.declared.starting.Start.{Start}
 use Rattle.afs_host.specs.declared.starting.Start.TheVariants as starts
 use Rattle.afs_host.proofs.Booting.{not_full, same_start, up_by}
 use Rattle.afs_host.proofs.Lying.{IsSoundKeeping}
+use Rattle.afs_sharing.specs.Lasting.{lasting_of}
 
 -- ---- its disk and its state
 

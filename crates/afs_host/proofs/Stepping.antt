@@ -28,13 +28,14 @@ use Rattle.afs_volrows.specs.VolSteps as volumes
 use Rattle.afs_volstore.specs.Stores.{Store}
 use Rattle.afs_sendings.specs.Pieces.{call_or_none, call_seen, Piece}
 use Rattle.afs_server_parts.specs.Called.{call_to}
-use Rattle.afs_server.specs.Handling.{record_decided, IsDone}
+use Rattle.afs_server.specs.Handling.{record_decided}
 use Rattle.afs_volserv.specs.Handling.{vol_record}
 use Rattle.afs_node.specs.Handling.{node_record, IsSameStep, MakesNode}
 use Rattle.afs_node.specs.Seen.{node_seen}
 use Rattle.afs_node.specs.declared.node.ServerNode.{ServerNode}
 use Rattle.afs_host.specs.Seats.{waits_for, with_behind, IsHostUp, IsStepUp, IsUp, Running, ServerRunning}
 use Rattle.afs_host.specs.Setting.{IsSet}
+use Rattle.afs_sharing.specs.Stores.{IsDone}
 
 -- what holds of the host that is just the node's state holds of each for which it stands
 pub as_host_up : {N T S : Type 0} (seen : N → T → S) (r : Running N T) (h : Host S) (P : Host S → Type 0) → IsHostUp seen r h → P (record { state = seen r.memory r.store; down = None; armed = r.armed }) → P h

@@ -15,10 +15,11 @@ use Rattle.afs_store.specs.Folding.{Folding}
 use Rattle.afs_store.specs.Stores.{StandFor}
 use Rattle.afs_volstore.specs.VolumeFold.{volume_fold}
 use Rattle.afs_volstore.specs.declared.held.Held.{Held}
-use Rattle.afs_server.specs.Seen.{begun_state, lasting_of}
+use Rattle.afs_server.specs.Seen.{begun_state}
 use Rattle.afs_volrows.specs.NodeHosts.{node_kind}
 use Rattle.afs_volrows.specs.VolStates.{fresh_vol, NodeState}
 use Rattle.afs_node.specs.Handling.{node_record}
+use Rattle.afs_sharing.specs.Lasting.{lasting_of}
 
 -- ---- a node of any kind
 

@@ -5,6 +5,7 @@ use Rattle.afs_num.specs.Nodes.{same_node}
 use Rattle.afs_num.specs.declared.types.Node.{Node}
 use Rattle.afs_num.specs.declared.types.Node.TheVariants.{Loc, Server, Client, Admin}
 use Rattle.afs_history.specs.declared.acts.Act.{Act}
+use Rattle.afs_history.specs.declared.scripts.AdminAct.{AdminAct}
 use Rattle.afs_history.specs.declared.scripts.Event.{Event}
 use Rattle.afs_history.specs.declared.scripts.Event.TheVariants as events
 use Rattle.afs_history.specs.declared.scripts.Script.{Script}
@@ -13,12 +14,15 @@ use Rattle.afs_history.specs.declared.scripts.Task.TheVariants as tasks
 use Rattle.afs_rows.specs.Callbacks.{put_at}
 use Rattle.afs_rows.specs.ClientRow.{act_of}
 use Rattle.afs_rows.specs.Going.{ClientState, Going}
-use Rattle.afs_rows.specs.Runs.{begins, client_starts, client_stops, gives, gives_out, is_away, moved, nothing, server_waits, sets_fail, sets_stop, start, starts_again, steady, stops, ticks, waits, wakes, Cell, Entry, Fall, Input, Leads, Luck, MayBegin, Outcome}
+use Rattle.afs_rows.specs.Runs.{begins, client_starts, client_stops, gives, gives_out, nothing, server_waits, sets_fail, sets_stop, starts_again, steady, stops, ticks, waits, wakes, Fall, Input, Luck, MayBegin, Outcome}
+use Rattle.afs_adminrows.specs.AdminRow.{waiting_on, AdminState}
+use Rattle.afs_adminrows.specs.declared.turns.Running.{Running}
+use Rattle.afs_runs.specs.NodeRuns.{admin_begins, admin_starts, admin_stops, admin_waits, is_away, is_gone, node_moved, node_start, usual, CellInput, NodeCell}
 
 -- ---- a schedule under way: the cell, what each client and each administrator has not begun, and the places that a deliver named
 
 pub record Turn : Type 0 where
-  pub cell : Cell
+  pub cell : NodeCell
   pub left : Node → List Task
   pub named : List ℕ
 
@@ -38,8 +42,14 @@ client_act None = None
 client_act (Some (tasks.Client n act)) = Some act
 client_act (Some (tasks.Admin n act)) = None
 
+-- that of an administrator
+abbrev pub admin_act : Option Task → Option AdminAct
+admin_act None = None
+admin_act (Some (tasks.Client n act)) = None
+admin_act (Some (tasks.Admin n act)) = Some act
+
 abbrev pub first_turn : Script → Turn
-first_turn s = record { cell = start s; left = λ n. tasks_of n s.tasks; named = [] }
+first_turn s = record { cell = node_start s; left = λ n. tasks_of n s.tasks; named = [] }
 
 -- ---- drains
 
@@ -72,13 +82,29 @@ is_idle None = true
 is_idle (Some act) = false
 
 -- a client that is up and idle begins its next act; else nothing happens
-abbrev pub act_input : Cell → ℕ → Option Act → Input
+abbrev pub act_input : NodeCell → ℕ → Option Act → Input
 act_input c n None = nothing
 act_input c n (Some act) = if not (is_away c n) && is_idle (act_of (c.clients n)) then begins n act else nothing
 
 -- only the call to this node times out
 abbrev pub timeout_input : ClientState → ℕ → Node → Input
 timeout_input c n callee = if same_node c.callee callee then waits n else nothing
+
+-- so it is with an administrator
+abbrev pub is_at_rest : Option Running → Bool
+is_at_rest None = true
+is_at_rest (Some act) = false
+
+abbrev pub admin_act_input : NodeCell → ℕ → Option AdminAct → CellInput
+admin_act_input c n None = usual nothing
+admin_act_input c n (Some act) = if not (is_gone c n) && is_at_rest (c.admins n).running then admin_begins n act else usual nothing
+
+abbrev pub is_waiting_on : Node → Option Node → Bool
+is_waiting_on callee None = false
+is_waiting_on callee (Some node) = same_node node callee
+
+abbrev pub admin_timeout_input : AdminState → ℕ → Node → CellInput
+admin_timeout_input a n callee = if is_waiting_on callee (waiting_on a) then admin_waits n else usual nothing
 
 -- the disk fails by itself at no call, or at one of the step's, from the first on
 abbrev pub IsLuck : Luck → Type 0
@@ -92,43 +118,47 @@ at_server zero x = nothing
 at_server (suc i) x = x
 
 -- how a node with a disk begins again: before the interrupted step or after it
-abbrev pub IsRestart : Option Fall → (Bool → Outcome → Input) → Input → Type 0
+abbrev pub IsRestart : Option Fall → (Bool → Outcome → CellInput) → CellInput → Type 0
 IsRestart down begun x = (after : Bool) × ((outcome : Outcome) × (MayBegin down after × (x ≡ begun after outcome)))
 
 -- What each event is. A delivery leaves open whether the disk fails by itself. So does a restart of a node with a disk: it begins before
 -- the interrupted step or after it as the blow tells that ended it, where the disk was set to that, and this is open where it failed by
--- itself. No event is a step of an administrator yet.
-abbrev pub IsInput : Turn → Event → Input → Type 0
-IsInput t (events.Act (Client n)) x = x ≡ act_input t.cell n (client_act (slice_get (t.left (Client n)) 0))
-IsInput t (events.Act node) x = x ≡ nothing
-IsInput t (events.Deliver place) x = (luck : Luck) × ((x ≡ gives place luck) × IsLuck luck)
+-- itself.
+abbrev pub IsInput : Turn → Event → CellInput → Type 0
+IsInput t (events.Act (Client n)) x = x ≡ usual (act_input t.cell n (client_act (slice_get (t.left (Client n)) 0)))
+IsInput t (events.Act (Admin n)) x = x ≡ admin_act_input t.cell n (admin_act (slice_get (t.left (Admin n)) 0))
+IsInput t (events.Act node) x = x ≡ usual nothing
+IsInput t (events.Deliver place) x = (luck : Luck) × ((x ≡ usual (gives place luck)) × IsLuck luck)
 IsInput t events.Drain x = ⊥
-IsInput t (events.Timeout (Client n) callee) x = x ≡ timeout_input (t.cell.clients n) n callee
-IsInput t (events.Timeout (Server i) callee) x = x ≡ server_waits i callee
-IsInput t (events.Timeout node callee) x = x ≡ nothing
-IsInput t (events.Wake i) x = x ≡ wakes i
-IsInput t (events.Tick n) x = x ≡ ticks n
-IsInput t (events.Crash (Client n)) x = x ≡ client_stops n
-IsInput t (events.Crash node) x = x ≡ nothing
-IsInput t (events.CrashDisk (Server i) pick) x = x ≡ at_server i (stops i)
-IsInput t (events.CrashDisk Loc pick) x = x ≡ stops 0
-IsInput t (events.CrashDisk node pick) x = x ≡ nothing
-IsInput t (events.Restart (Client n)) x = x ≡ client_starts n
-IsInput t (events.Restart (Server i)) x = IsRestart (t.cell.hosts i).down (λ (after : Bool) (outcome : Outcome). at_server i (starts_again i after outcome)) x
-IsInput t (events.Restart Loc) x = IsRestart t.cell.loc.down (starts_again 0) x
-IsInput t (events.Restart node) x = x ≡ nothing
-IsInput t (events.Stop (Server i) calls pick) x = x ≡ at_server i (sets_stop i calls pick)
-IsInput t (events.Stop Loc calls pick) x = x ≡ sets_stop 0 calls pick
-IsInput t (events.Stop node calls pick) x = x ≡ nothing
-IsInput t (events.Fail (Server i) call) x = x ≡ at_server i (sets_fail i call)
-IsInput t (events.Fail Loc call) x = x ≡ sets_fail 0 call
-IsInput t (events.Fail node call) x = x ≡ nothing
+IsInput t (events.Timeout (Client n) callee) x = x ≡ usual (timeout_input (t.cell.clients n) n callee)
+IsInput t (events.Timeout (Admin n) callee) x = x ≡ admin_timeout_input (t.cell.admins n) n callee
+IsInput t (events.Timeout (Server i) callee) x = x ≡ usual (server_waits i callee)
+IsInput t (events.Timeout Loc callee) x = x ≡ usual nothing
+IsInput t (events.Wake i) x = x ≡ usual (wakes i)
+IsInput t (events.Tick n) x = x ≡ usual (ticks n)
+IsInput t (events.Crash (Client n)) x = x ≡ usual (client_stops n)
+IsInput t (events.Crash (Admin n)) x = x ≡ admin_stops n
+IsInput t (events.Crash node) x = x ≡ usual nothing
+IsInput t (events.CrashDisk (Server i) pick) x = x ≡ usual (at_server i (stops i))
+IsInput t (events.CrashDisk Loc pick) x = x ≡ usual (stops 0)
+IsInput t (events.CrashDisk node pick) x = x ≡ usual nothing
+IsInput t (events.Restart (Client n)) x = x ≡ usual (client_starts n)
+IsInput t (events.Restart (Admin n)) x = x ≡ admin_starts n
+IsInput t (events.Restart (Server i)) x = IsRestart (t.cell.hosts i).down (λ (after : Bool) (outcome : Outcome). usual (at_server i (starts_again i after outcome))) x
+IsInput t (events.Restart Loc) x = IsRestart t.cell.loc.down (λ (after : Bool) (outcome : Outcome). usual (starts_again 0 after outcome)) x
+IsInput t (events.Stop (Server i) calls pick) x = x ≡ usual (at_server i (sets_stop i calls pick))
+IsInput t (events.Stop Loc calls pick) x = x ≡ usual (sets_stop 0 calls pick)
+IsInput t (events.Stop node calls pick) x = x ≡ usual nothing
+IsInput t (events.Fail (Server i) call) x = x ≡ usual (at_server i (sets_fail i call))
+IsInput t (events.Fail Loc call) x = x ≡ usual (sets_fail 0 call)
+IsInput t (events.Fail node call) x = x ≡ usual nothing
 
 -- ---- a schedule is a list of inputs
 
 -- an act that has begun is no longer left
-abbrev pub left_by : Input → (Node → List Task) → Node → List Task
-left_by (begins n act) left = put_at (Client n) (drop 1 (left (Client n))) left
+abbrev pub left_by : CellInput → (Node → List Task) → Node → List Task
+left_by (usual (begins n act)) left = put_at (Client n) (drop 1 (left (Client n))) left
+left_by (admin_begins n act) left = put_at (Admin n) (drop 1 (left (Admin n))) left
 left_by x left = left
 
 -- a deliver names its place, whether something is there or not
@@ -136,21 +166,21 @@ abbrev pub named_by : Event → List ℕ → List ℕ
 named_by (events.Deliver place) named = place ∷ named
 named_by e named = named
 
-abbrev pub turned : Turn → Event → Input → Turn
-turned t e x = record { cell = (moved t.cell x).cell; left = left_by x t.left; named = named_by e t.named }
+abbrev pub turned : Turn → Event → CellInput → Turn
+turned t e x = record { cell = (node_moved t.cell x).cell; left = left_by x t.left; named = named_by e t.named }
 
 -- an input is the event that comes next, and the rest goes on behind it
-abbrev pub IsNext : Turn → Option (Event × List Event) → Input → (Turn → List Event → Type 0) → Type 0
+abbrev pub IsNext : Turn → Option (Event × List Event) → CellInput → (Turn → List Event → Type 0) → Type 0
 IsNext t None x rest = ⊥
 IsNext t (Some e) x rest = IsInput t e.0 x × rest (turned t e.0 x) e.1
 
 -- these inputs are the events, one for one, with each drain as its deliveries, and none is left
-abbrev pub AreInputs : Turn → List Event → List Input → Type 0
+abbrev pub AreInputs : Turn → List Event → List CellInput → Type 0
 AreInputs t es [] = next_event (waiting t) es ≡ None
 AreInputs t es (x ∷ xs) = IsNext t (next_event (waiting t) es) x (λ u more. AreInputs u more xs)
 
 -- they are the first of them, and an event is left
-abbrev pub AreFirst : Turn → List Event → List Input → Type 0
+abbrev pub AreFirst : Turn → List Event → List CellInput → Type 0
 AreFirst t es [] = next_event (waiting t) es ≡ None → ⊥
 AreFirst t es (x ∷ xs) = IsNext t (next_event (waiting t) es) x (λ u more. AreFirst u more xs)
 
@@ -161,18 +191,3 @@ events_in (Some es) = es
 
 abbrev pub events_of : Script → List Event
 events_of s = events_in s.schedule
-
--- ---- histories of a script
-
--- The history is that of the script's schedule, and ends in this cell: inputs lead there from the set-up, and they are the
--- schedule's events, one for one.
-pub record IsHistoryOf (s : Script) (history : List Entry) (end : Cell) : Type 0 where
-  pub inputs : List Input
-  pub leads : Leads (start s) inputs history end
-  pub acts : AreInputs (first_turn s) (events_of s) inputs
-
--- it is that of the first events, and one is left
-pub record IsHistoryOfFirst (s : Script) (history : List Entry) (end : Cell) : Type 0 where
-  pub inputs : List Input
-  pub leads : Leads (start s) inputs history end
-  pub acts : AreFirst (first_turn s) (events_of s) inputs

@@ -1,4 +1,5 @@
 mod Few
 mod Listing
+mod NoAdmins
 mod Scripts
 mod SetUps

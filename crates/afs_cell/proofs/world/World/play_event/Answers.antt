@@ -10,7 +10,7 @@ use Rattle.afs_cell.proofs.world.World.play_event.Goals as goal
 
 pub returns-in-Nothing-clause-plays : goal.returns-in-Nothing-clause-plays
 returns-in-Nothing-clause-plays g c = record {
-  stepped = as_nothing_since g.D.Disk.seen g.D.Disk.may_leave g.D.Disk.faults g.D.Disk.limit c.args.self.now c.skip.new.self c.skip.result c.args.event c.requires.going c.requires.few c.in-Nothing.ensures.meant c.skip.ensures;
+  stepped = as_nothing_since g.D.Disk.seen g.D.Disk.may_leave g.D.Disk.faults g.D.Disk.limit c.args.self.now c.skip.new.self c.skip.result c.args.event c.requires.going c.requires.few c.requires.fits c.in-Nothing.ensures.meant c.skip.ensures;
   keeps = keeps_skipped c.args.self.now c.skip.new.self c.skip.result c.skip.ensures;
   clock = omega (arith, nothing_clock c.args.self.now c.skip.new.self c.skip.result c.skip.ensures);
 }

@@ -11,7 +11,6 @@ use Rattle.afs_model.specs.Messages.{received}
 use Rattle.afs_rows.specs.Hosts.{lowered}
 use Rattle.afs_volrows.specs.VolSteps.{node_device_calls, node_row}
 use Rattle.afs_volstore.specs.Stores.{Store}
-use Rattle.afs_server.specs.Handling.{IsQuiet, IsWritten}
 use Rattle.afs_server_parts.specs.declared.faults.NodeFault.{NodeFault}
 use Rattle.afs_server_parts.specs.declared.faults.NodeFault.TheVariants as nodes
 use Rattle.afs_node.specs.Handling.{node_record, HandlesNode}
@@ -25,6 +24,7 @@ use Rattle.afs_host.proofs.Broken.{ended_left, ended_lies}
 use Rattle.afs_host.proofs.Handled.{row_made, Passed, passed_goes_on, passed_step, quiet_then, same_goes_on}
 use Rattle.afs_host.proofs.Rising.{server_fits}
 use Rattle.afs_host.proofs.Stepping.{made_calls}
+use Rattle.afs_saving.specs.Saving.{IsQuiet, IsWritten}
 use Rattle.afs_host.proofs.serving.Running+ServerNode+VolStore+Fuse+D.handle.Goals as goal
 
 pub returns-in-Ok-clause-handled : goal.returns-in-Ok-clause-handled

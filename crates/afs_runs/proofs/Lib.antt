@@ -1,0 +1,3 @@
+mod Unmade
+pub mod Plain
+mod AdminRuns

@@ -1,0 +1,2 @@
+pub mod NodeRuns
+pub mod PlainRuns
