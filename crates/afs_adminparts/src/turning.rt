@@ -84,7 +84,7 @@ fn code_behind(cause: Cause, code: Code) -> Code
     }
 }
 
-/// A failure in a recovery: it leaves what isn't in order, unless another administrator has the entry.
+/// A failure in a recovery: it leaves what may not be in order, unless another administrator has the entry.
 pub fn mend_fails(cause: Cause, code: Code) -> Turn
     ensures { result ≡ turns.mend_fails cause code }
 {

@@ -1,5 +1,5 @@
 //! Where an act of an administrator stands. A place is known by the call that is asked there, and carries all that the rest of the act
-//! uses but the act itself. So the act's unanswered call is told by its place, and kept nowhere besides.
+//! uses but the act itself. So the act's unanswered call is told by its place. (A program may keep it beside the place, to send it again.)
 
 ghost use Rattle.std.specs.Prelude.{◌≡◌, IfOk};
 

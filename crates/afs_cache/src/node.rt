@@ -5,7 +5,7 @@ ghost use Rattle.std.specs.List.{All};
 ghost use Rattle.afs_num.specs.Nodes.{IsNode};
 ghost use Rattle.afs_model.specs.CellRows.{client_calls};
 ghost use Rattle.afs_model.specs.Heads.{user_limit};
-ghost use Rattle.afs_model.specs.Messages.{FindsMessages, received_by};
+ghost use Rattle.afs_model.specs.Messages.{received_by};
 ghost use Rattle.afs_rows.specs.ClientRow.{act_of, begin_row, guest_row, new_client};
 ghost use Rattle.afs_rows.specs.Runs.{locations_in};
 ghost use Rattle.afs_acts.specs.Acts.{HasServer, IsShortAct};
@@ -119,8 +119,6 @@ impl CacheManager {
     pub fn receive(&mut self, bytes: &[u8], now: u32) -> Mem<Outs>
         requires last { self.old.state.last < number_limit }
         ensures step { Takes (λ place. guest_row self.old.node self.old.state now place (received_by client_calls bytes.now)) self.old self.new result }
-        // A message that stands in the bytes is found, unless it is a call that isn't served.
-        ensures found { FindsMessages client_calls bytes.now }
         // The client makes one call at most.
         ensures last { OnOk result (self.new.state.last ≤ self.old.state.last + 1) }
         ensures lasting { lasting self.new.state ≡ lasting self.old.state }

@@ -8,8 +8,6 @@ use Rattle.afs_num.specs.declared.calls.FsReply.{FsReply}
 use Rattle.afs_num.specs.declared.calls.FsReply.TheVariants as replies
 use Rattle.afs_num.specs.declared.messages.Call.TheVariants as ask
 use Rattle.afs_num.specs.declared.messages.Message.{Message}
-use Rattle.afs_num.specs.declared.messages.Received.{Received}
-use Rattle.afs_num.specs.declared.messages.Received.TheVariants.{Whole}
 use Rattle.afs_num.specs.declared.messages.Reply.TheVariants as tell
 use Rattle.afs_num.specs.declared.types.Fid.{Fid}
 use Rattle.afs_num.specs.declared.histories.Version.{Version}
@@ -21,7 +19,6 @@ use Rattle.afs_xdr.specs.Words.{AreWords}
 use Rattle.afs_model.specs.CellRows.{cell_replies, reply_number, call_number}
 use Rattle.afs_model.specs.Calls.{runs, Admitted, call_seat, paired}
 use Rattle.afs_model.specs.Heads.{is_zero}
-use Rattle.afs_model.specs.Messages.{IsSoundCarried}
 use Rattle.afs_ideal.specs.Operations.{last_count, op, Caller}
 use Rattle.afs_ideal.specs.Replies.{change_reply}
 use Rattle.afs_ideal.specs.Tables.{get}
@@ -166,11 +163,6 @@ pub record IsDecision (s : ServerState) (clock : ℕ) (head : Head) (d : Decisio
 pub record IsCallUnder (head : Head) (call : FsCall) : Type 0 where
   pub opcode : head.opcode ≡ call_number (ask.File call)
   pub fits : FitsCall call
-
--- the header is that of what was received, and so of a call that has a spelling, where it was read whole
-abbrev pub IsUnder : Head → Received → Type 0
-IsUnder head (Whole m) = IsSoundCarried head.half head.opcode m.carried
-IsUnder head r = Unit {0}
 
 -- where the decision runs the call, the call's pair is to run
 abbrev pub Runs : Decided → Admitted Message → Type 0

@@ -2,5 +2,6 @@
 #![tactic(auto)]
 
 mod dumping;
+pub mod pieces;
 
 pub use dumping::{Piece, dump, dump_piece};

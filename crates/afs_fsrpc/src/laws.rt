@@ -4,7 +4,7 @@ ghost use Rattle.std.specs.Prelude.{◌≡◌, ◌++◌, List, [], ℕ, ℤ, Opt
 ghost use Rattle.afs_num.specs.declared.types.Head.{Head};
 ghost use Rattle.afs_num.specs.declared.calls.FsCall.{FsCall};
 ghost use Rattle.afs_num.specs.declared.calls.FsReply.{FsReply};
-ghost use Rattle.afs_shape.specs.Tables.{rows_of};
+ghost use Rattle.afs_fields.specs.TableRows.{rows_of};
 ghost use Rattle.afs_model.specs.Rpc.{SpellsCall, SpellsReply};
 ghost use Rattle.afs_model.specs.FsRows.{call_rows, reply_rows, fs_calls, fs_replies};
 

@@ -1,8 +1,8 @@
 //! Fields of a shape, read and written.
 
+use afs_fields::tables::{Row, Shape, Table};
 use afs_num::types::Fid;
 use afs_shape::kinds::{Field, Fields, Kind};
-use afs_shape::tables::{Row, Shape, Table};
 use afs_xdr::reading::Reader;
 use afs_xdr::writing::Writer;
 use std::alloc::Global;

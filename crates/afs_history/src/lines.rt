@@ -178,7 +178,7 @@ pub enum Line {
         node: Node,
         act: SharedAdminAct,
     },
-    /// The administrator's act ends with this code, and what it left isn't in order.
+    /// The administrator's act ends with this code, and what it left may not be in order.
     Stuck {
         node: Node,
         code: Code,

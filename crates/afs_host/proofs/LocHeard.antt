@@ -15,7 +15,7 @@ use Rattle.afs_model.specs.Messages.{received, received_by}
 use Rattle.afs_rows.specs.LocRow.{admits, drops, loc_decides, loc_serves, refuses, LocDecision, LocState}
 use Rattle.afs_rows.specs.ServerRow.{bad_fields, not_served}
 use Rattle.afs_locdb.specs.Handling.{loc_calls_served, loc_record_decided}
-use Rattle.afs_node.proofs.Heard.{among_all, stands_by}
+use Rattle.afs_server_parts.proofs.Standing.{among_all, stands_by}
 
 -- ---- a call that isn't read makes no record
 

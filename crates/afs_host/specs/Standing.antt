@@ -10,7 +10,7 @@ use Rattle.afs_journal.specs.Records.{whole_records}
 use Rattle.afs_records.specs.Durable.{mark_of, Durable}
 use Rattle.afs_rows.specs.Hosts.{at_rest, begun_from, in_boot, in_step, Fall, Kind, MayFind}
 use Rattle.afs_rows.specs.States.{Lasting}
-use Rattle.afs_memory.specs.declared.prepared.Prepared.{Prepared}
+use Rattle.afs_readying.specs.declared.prepared.Prepared.{Prepared}
 use Rattle.afs_store.specs.Folding.{Folding}
 use Rattle.afs_store.specs.Stores.{StandFor}
 use Rattle.afs_volstore.specs.VolumeFold.{volume_fold}

@@ -5,8 +5,6 @@ use Rattle.afs_num.specs.Nodes.{same_node}
 use Rattle.afs_num.specs.declared.location_calls.LocCall.{LocCall}
 use Rattle.afs_num.specs.declared.location_calls.LocReply.{LocReply}
 use Rattle.afs_num.specs.declared.messages.Message.{Message}
-use Rattle.afs_num.specs.declared.messages.Received.{Received}
-use Rattle.afs_num.specs.declared.messages.Received.TheVariants.{Whole}
 use Rattle.afs_num.specs.declared.messages.Reply.TheVariants as tell
 use Rattle.afs_num.specs.declared.types.Head.{Head}
 use Rattle.afs_num.specs.declared.types.Node.TheVariants.{Loc}
@@ -14,7 +12,6 @@ use Rattle.afs_shape.specs.Rows.{IsWithin}
 use Rattle.afs_model.specs.Calls.{runs, Admitted}
 use Rattle.afs_model.specs.CellRows.{cell_replies, reply_number}
 use Rattle.afs_model.specs.Heads.{is_zero}
-use Rattle.afs_model.specs.Messages.{IsSoundCarried}
 use Rattle.afs_records.specs.LocRecords.{deed_form, Listed}
 use Rattle.afs_rows.specs.LocRow.{changes, drops, holds, is_locked, loc_op, reads, refused, refuses, repeats, roomed, shows, tells_boot, unlisted, LocChange, LocDecision, LocLasting, LocResult, LocState}
 use Rattle.afs_locstore.specs.States.{parts_of}
@@ -112,11 +109,6 @@ Runs (decided.Refuses code) a = a ≡ runs
 Runs (decided.Shows reply) a = a ≡ runs
 Runs (decided.Saves c) a = a ≡ runs
 Runs d a = Unit {0}
-
--- the header is that of what was received, and so of a call that has a spelling, where it was read whole
-abbrev pub IsUnder : Head → Received → Type 0
-IsUnder head (Whole m) = IsSoundCarried head.half head.opcode m.carried
-IsUnder head r = Unit {0}
 
 -- the decision leaves the disk as it is
 abbrev pub leaves_disk : Decided → Bool

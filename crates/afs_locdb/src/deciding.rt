@@ -11,7 +11,8 @@ ghost use Rattle.afs_rows.specs.LocRow as rows;
 ghost use Rattle.afs_rows.specs.LocRow.{admits, called, loc_op, loc_serves, runs_carried, runs_received};
 ghost use Rattle.afs_rows.specs.ServerRow.{bad_fields, not_served};
 ghost use Rattle.afs_shape.specs.Rows.{IsWithin};
-ghost use Rattle.afs_locdb.specs.Deciding.{change_decided, change_in, decision_of, outcome_of, CanAnswer, CanBeTold, IsByAnother, IsMadeIn, IsUnder, Runs};
+ghost use Rattle.afs_locdb.specs.Deciding.{change_decided, change_in, decision_of, outcome_of, CanAnswer, CanBeTold, IsByAnother, IsMadeIn, Runs};
+ghost use Rattle.afs_server_parts.specs.Heard.{IsUnder};
 ghost use Rattle.afs_locdb.specs.Seen.{loc_seen, IsInBoot};
 
 use crate::database::LocDb;

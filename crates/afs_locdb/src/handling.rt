@@ -8,7 +8,7 @@ ghost use Rattle.afs_history.specs.declared.lines.Line.TheVariants as lines;
 ghost use Rattle.afs_journal.specs.Records.{whole_records};
 ghost use Rattle.afs_model.specs.Calls.{call_seat, paired};
 ghost use Rattle.afs_model.specs.Heads.{IsSoundHead};
-ghost use Rattle.afs_model.specs.Messages.{received_by, FindsMessages, HasSpelling, IsSoundReceived};
+ghost use Rattle.afs_model.specs.Messages.{received_by, HasSpelling, IsSoundReceived};
 ghost use Rattle.afs_num.specs.declared.messages.Received.TheVariants as receives;
 ghost use Rattle.afs_records.specs.LocDurable.{loc_folded, LocDurable};
 ghost use Rattle.afs_records.specs.LocEffects.{loc_effect_of};
@@ -18,7 +18,8 @@ ghost use Rattle.afs_rows.specs.LocRow.{called, drops, loc_device_calls, loc_dec
 ghost use Rattle.afs_rows.specs.LocSteps.{loc_begun_after, loc_row};
 ghost use Rattle.afs_store.specs.Stores.{LeftAround};
 ghost use Rattle.afs_locstore.specs.LocFold.{loc_fold};
-ghost use Rattle.afs_locdb.specs.Deciding.{decision_of, leaves_disk, CanBeTold, IsByAnother, IsMadeIn, IsUnder, Runs};
+ghost use Rattle.afs_locdb.specs.Deciding.{decision_of, leaves_disk, CanBeTold, IsByAnother, IsMadeIn, Runs};
+ghost use Rattle.afs_server_parts.specs.Heard.{IsUnder};
 ghost use Rattle.afs_locdb.specs.Handling.{loc_calls_served, loc_decided_then, loc_record_decided, loc_record_then, Does, Handles, IsDone, IsQuiet, IsWritten};
 ghost use Rattle.afs_locdb.specs.Saving.{DoesAll, OnDisk, Ran, LeavesPrepared};
 ghost use Rattle.afs_locdb.specs.Seen.{lasting_of, loc_seen, IsInBoot, Serves};
@@ -176,7 +177,6 @@ impl<D: Disk> LocDb<D> {
         requires up { self.old.store.closed ≡ false }
         ensures does { DoesAll (loc_decided_then self.old bytes.now) self.old self.new result }
         ensures disk { OnDisk D.Disk (loc_record_then self.old bytes.now) self.old.store.durable self.old.store.disk self.new.store.disk result }
-        ensures found { FindsMessages loc_calls_served bytes.now }
     {
         let received = read_message(self.alloc, &CALLS, bytes)?;
         self.take(&received)
@@ -189,7 +189,6 @@ impl<D: Disk> LocDb<D> {
         requires serves { Serves self.old }
         requires up { self.old.store.closed ≡ false }
         ensures step { (place : ℕ) → Handles (loc_row (loc_seen self.old) place (received_by loc_calls_served bytes.now)) (lines.Given place ∷ []) self.old self.new result }
-        ensures found { FindsMessages loc_calls_served bytes.now }
         ensures serves { OnOk result (Serves self.new) }
 
         // A disk that tells goes on telling, whatever the result.

@@ -1,4 +1,3 @@
 pub mod Held
-pub mod Readied
 pub mod Redone
 pub mod Told

@@ -1,7 +1,6 @@
 pub mod Called
 pub mod Named
 pub mod Numbered
-pub mod Preparing
 pub mod Redoing
 pub mod Redos
 pub mod States

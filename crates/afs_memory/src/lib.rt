@@ -1,11 +1,8 @@
 //! What a server's disk keeps, in memory, and what a record does to it.
 #![tactic(auto)]
 
-mod copying;
 mod lines;
 pub mod memory;
-pub mod prepared;
-pub mod readying;
 pub mod redo;
 pub mod redoing;
 mod state;

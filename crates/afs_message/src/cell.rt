@@ -3,12 +3,12 @@
 ghost use Rattle.afs_model.specs.CellRows.{cell_calls, cell_replies};
 ghost use Rattle.afs_model.proofs.CellMade.{calls_sound, replies_sound};
 
+use afs_fields::messages::Messages;
+use afs_fields::tables::Shape;
 use afs_fsrpc::tables::{FsCalls, FsReplies};
 use afs_num::messages::{Call, Reply};
 use afs_num::types::Mem;
 use afs_shape::faults::ShapeFault;
-use afs_shape::messages::Messages;
-use afs_shape::tables::Shape;
 use afs_vlrpc::tables::{LocCalls, LocReplies};
 use afs_volrpc::tables::{VolCalls, VolReplies};
 use afs_xdr::reading::Reader;

@@ -7,7 +7,7 @@ ghost use Rattle.afs_shape.specs.Reading.{fields_to_end_at};
 ghost use Rattle.afs_model.specs.Heads.{head_words};
 ghost use Rattle.afs_model.specs.Rpc.{replied_at};
 ghost use Rattle.afs_model.specs.CellRows.{cell_calls, cell_replies};
-ghost use Rattle.afs_model.specs.Messages.{called_at, received_reply, received_notice, read_body, received_by, received, spelled, IsSoundReceived, HasSpelling, FitsMessage, FindsMessages};
+ghost use Rattle.afs_model.specs.Messages.{called_at, received_reply, received_notice, read_body, received_by, received, spelled, IsSoundReceived, HasSpelling, FitsMessage};
 
 use crate::cell::{CellCalls, CellReplies};
 use afs_num::messages::{Carried, Message, Received};
@@ -93,8 +93,6 @@ fn receive(alloc: Global, served: &[u32], bytes: &[u8]) -> Mem<Received>
 pub fn read_message(alloc: Global, served: &[u32], bytes: &[u8]) -> Mem<Received>
     ensures value { IfOk result (λ x. x ≡ received_by served.now bytes.now) }
     ensures sound { IfOk result IsSoundReceived }
-    // A message that stands in the bytes is found, unless it is a call that isn't served.
-    ensures found { FindsMessages served.now bytes.now }
 {
     receive(alloc, served, bytes)
 }

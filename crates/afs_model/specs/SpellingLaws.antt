@@ -13,7 +13,7 @@ use Rattle.afs_shape.specs.Tables.{kinds_in, AreOf}
 use Rattle.afs_shape.specs.Rows.{message_of}
 use Rattle.afs_model.specs.Rpc.{SpellsCall, SpellsReply}
 use Rattle.afs_model.specs.CellRows.{call_rows, reply_rows, cell_calls, cell_replies, call_number, reply_number, interface_of, interface_of_reply}
-use Rattle.afs_model.specs.Messages.{FitsMessage, spelled, received}
+use Rattle.afs_model.specs.Messages.{FitsMessage, spelled, received, FindsMessages}
 
 -- what is spelled is read again
 abbrev pub SpelledAreRead : Type 0
@@ -30,6 +30,11 @@ IsBytes bytes = (i : ℕ) → slice_index bytes i < 256
 -- a message that is read in bytes is one with a spelling, and they are its spelling
 abbrev pub ReadAreSpelled : Type 0
 ReadAreSpelled = (bytes : List ℕ) (m : Message) → IsBytes bytes → received bytes ≡ Whole m → (spelled m ≡ bytes) × FitsMessage m
+
+-- a node that serves some of the calls finds each message in the bytes that any node finds there: whole, or, where it is a call that the
+-- node doesn't serve, as such
+abbrev pub MessagesAreFound : Type 0
+MessagesAreFound = (served bytes : List ℕ) → IsBytes bytes → FindsMessages served bytes
 
 -- a call is found in bytes exactly where they spell it
 abbrev pub CallsAreFound : Type 0

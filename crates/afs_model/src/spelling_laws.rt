@@ -1,6 +1,6 @@
 //! Laws about the spelling of messages. Each is the contract of a function that does nothing.
 
-ghost use Rattle.afs_model.specs.SpellingLaws.{CallsAreFound, CallsHaveOneInterface, ReadAreSpelled, RefusalsAreFound, RepliesAreFound, RepliesAreOfTheirCalls, RepliesHaveOneInterface, RowsMakeCalls, RowsMakeReplies, SpelledAreRead, SpellingsDontBegin};
+ghost use Rattle.afs_model.specs.SpellingLaws.{CallsAreFound, CallsHaveOneInterface, MessagesAreFound, ReadAreSpelled, RefusalsAreFound, RepliesAreFound, RepliesAreOfTheirCalls, RepliesHaveOneInterface, RowsMakeCalls, RowsMakeReplies, SpelledAreRead, SpellingsDontBegin};
 
 /// What is spelled is read again.
 pub fn spelled_are_read()
@@ -15,6 +15,11 @@ pub fn spellings_dont_begin()
 /// A message that is read in bytes is one with a spelling, and the bytes are its spelling.
 pub fn read_are_spelled()
     ensures { ReadAreSpelled }
+{}
+
+/// What any node finds in bytes, a node that serves some of the calls finds too, but for the rest of a call that it doesn't serve.
+pub fn messages_are_found()
+    ensures { MessagesAreFound }
 {}
 
 /// A node finds a call in bytes exactly where they spell it.

@@ -24,7 +24,7 @@ use Rattle.afs_rows.specs.States.{Backs, Lasting}
 use Rattle.afs_volrows.specs.VolStates.{VolState}
 use Rattle.afs_volrows.specs.VolSteps.{drops, is_vol_caller, is_volume_call, refuses_vol, vol_admits, vol_called, vol_carried, vol_decides, vol_turn, vol_turned, VolDecision}
 use Rattle.afs_volserv.specs.Handling.{vol_calls_served, vol_record}
-use Rattle.afs_node.proofs.Heard.{among_all, stands_by}
+use Rattle.afs_server_parts.proofs.Standing.{among_all, stands_by}
 
 -- ---- what it decides
 

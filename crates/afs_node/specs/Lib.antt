@@ -1,2 +1,3 @@
 pub mod Handling
 pub mod Seen
+pub mod Laws

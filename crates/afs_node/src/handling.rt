@@ -10,7 +10,7 @@ ghost use Rattle.afs_volrows.specs.VolSteps.{is_waiting, node_row};
 ghost use Rattle.afs_server_parts.specs.declared.faults.NodeFault.TheVariants as faults;
 ghost use Rattle.afs_server.specs.Seen.{CanDraw};
 ghost use Rattle.afs_volserv.specs.Seen.{CanRelease, HasRoom};
-ghost use Rattle.afs_node.specs.Handling.{node_taken, AreSameSteps, HandlesNode, StepsNode, TookNode};
+ghost use Rattle.afs_node.specs.Handling.{node_taken, HandlesNode, StepsNode, TookNode};
 ghost use Rattle.afs_node.specs.Seen.{node_found, node_seen, sent_by_client, SameNode, SameStored, ServesNode};
 
 use crate::node::ServerNode;
@@ -121,7 +121,6 @@ impl ServerNode {
         requires up { store.old.closed ≡ false }
         requires now { now ≤ 1000000000 }
         ensures step { (place : ℕ) → HandlesNode (node_row store.old.node (node_seen self.old store.old) now place (node_found bytes.now)) (lines.Given place ∷ []) self.old self.new store.old store.new result }
-        ensures same { AreSameSteps store.old.node (node_seen self.old store.old) now bytes.now }
         ensures message { IsErrOf result faults.Down → (m : Message) × (received bytes.now ≡ Whole m) }
         ensures leaves { StepsNode D.Disk now (node_found bytes.now) self.old self.new store.old store.new result }
     {

@@ -2,6 +2,7 @@
 #![tactic(auto)]
 
 mod handling;
+pub mod laws;
 mod node;
 mod waiting;
 

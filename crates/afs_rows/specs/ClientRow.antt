@@ -143,8 +143,8 @@ abbrev pub server_or_first : Option Location → ℕ
 server_or_first None = 1
 server_or_first (Some l) = home_of l
 
--- Where the volume of this operand is: where the table has it now. A copy is asked for where its read-write volume is: the sites of
--- copies aren't looked at yet.
+-- Where the volume of this operand is: where the table has it now. A copy is asked for where its read-write volume is: a backup is
+-- always there. For a read-only volume this is not all: `afs_copyrows` has the rows of a client that looks at its sites.
 abbrev pub server_for : List Location → Option Operand → ℕ
 server_for table None = 1
 server_for table (Some o) = server_or_first (find_location table o)

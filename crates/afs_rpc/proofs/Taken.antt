@@ -8,7 +8,7 @@ use Rattle.afs_shape.specs.Reading.{in_place, GivesShape}
 use Rattle.afs_shape.specs.Rows.{MessageTable, message_of}
 use Rattle.afs_shape.specs.Bodies.{row_at, body_at}
 use Rattle.afs_shape.specs.Taken.{row_fields_at, TakesRead}
-use Rattle.afs_shape.proofs.TakenLaws.{is_body}
+use Rattle.afs_fields.proofs.TakenLaws.{is_body}
 use Rattle.afs_model.specs.Heads.{user_limit}
 use Rattle.afs_model.specs.Rpc.{asked_at, answer_at}
 

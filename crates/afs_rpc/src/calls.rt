@@ -11,10 +11,10 @@ ghost use Rattle.afs_model.specs.Heads.{user_limit, head_words};
 ghost use Rattle.afs_model.specs.Rpc.{asked_at, call_at, spelled_call, SpellsCall, ReadsCall, IsValueOrNoMemory, IsHeadFor};
 
 use crate::heads::{head_of_half, write_head};
+use afs_fields::messages::Messages;
 use afs_num::sequences::Octets;
 use afs_num::types::{Half, Head, Mem};
 use afs_shape::faults::ShapeFault;
-use afs_shape::messages::Messages;
 use afs_xdr::reading::Reader;
 use afs_xdr::writing::Writer;
 use std::alloc::Global;

@@ -14,11 +14,11 @@ ghost use Rattle.afs_model.specs.Heads.{is_zero, head_words};
 ghost use Rattle.afs_model.specs.Rpc.{answer_at, replied_at, reply_at, answer_fields, spelled_reply, SpellsReply, ReadsReply, IsValueOrNoMemory, CanAnswer, IsHeadFor, IsOpcodeOf};
 
 use crate::heads::{head_of_half, write_head};
+use afs_fields::messages::Messages;
 use afs_num::sequences::Octets;
 use afs_num::types::{Code, Half, Head, Mem};
 use afs_shape::faults::ShapeFault;
 use afs_shape::kinds::Fields;
-use afs_shape::messages::Messages;
 use afs_xdr::reading::Reader;
 use afs_xdr::writing::Writer;
 use std::alloc::Global;

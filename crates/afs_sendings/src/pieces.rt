@@ -3,7 +3,6 @@
 ghost use Rattle.std.specs.Prelude.{◌≡◌, ◌≤◌, ◌+◌, ◌++◌, ◌∷◌, [], Some, None, false, IfOk, OnOk};
 ghost use Rattle.std.specs.Option.{option_map};
 ghost use Rattle.afs_num.specs.Nodes.{IsNode};
-ghost use Rattle.afs_rows.specs.Callbacks.{put_at};
 ghost use Rattle.afs_server_parts.specs.Called.{call_to, known_to};
 ghost use Rattle.afs_volrows.specs.VolSteps.{moved_on, sent_whole};
 ghost use Rattle.afs_sendings.specs.Pieces.{adds, ends, renews, retries, sends, starts, way_of, AreTo, IsServerNode, Piece};
@@ -15,15 +14,9 @@ use afs_num::types::{Mem, Node};
 use afs_server_parts::callees::{
     BackCall, copy_callees, end_call, find_call, known, set_call, set_known,
 };
+use afs_server_parts::pumping::next_number;
 use afs_server_parts::turns::Stand;
-use std::alloc::{AllocError, Global};
-
-/// The number behind the last one. What is left of numbers is never used up: a boot of the server is shorter.
-pub fn next_number(last: u32) -> Mem<u32>
-    ensures { IfOk result (λ n. n ≡ last + 1) }
-{
-    last.checked_add(1).ok_or(AllocError)
-}
+use std::alloc::Global;
 
 /// The number of the node's last call, the servers to which dumps go, and the messages that a step sends. A plan for which memory ran
 /// out is to be thrown away.

@@ -1,6 +1,6 @@
 //! Dumps that are sent to other servers, piece by piece.
 
-ghost use Rattle.std.specs.Prelude.{◌≡◌, ◌≤◌, ◌<◌, ◌+◌, ◌-◌, ◌++◌, ◌∷◌, [], Some, false, length, nat_lt, not, take, IfOk};
+ghost use Rattle.std.specs.Prelude.{◌≡◌, ◌≤◌, ◌<◌, ◌+◌, ◌-◌, ◌++◌, ◌∷◌, [], Some, false, length, IfOk};
 ghost use Rattle.std.specs.Option.{option_copied};
 ghost use Rattle.afs_num.specs.Nodes.{IsNode};
 ghost use Rattle.afs_num.specs.declared.volume_calls.VolCall.TheVariants as calls;
@@ -9,6 +9,7 @@ ghost use Rattle.afs_volrows.specs.VolSteps.{moved_on, piece_message, sent_whole
 ghost use Rattle.afs_dumps.specs.Streams.{piece_at};
 ghost use Rattle.afs_sendings.specs.Sendings.{first_of, rest_of};
 
+use afs_dump::pieces::{MOST_PIECE, is_last_piece, piece_of};
 use afs_message::spelled::SpelledMessage;
 use afs_num::messages::{Call, Carried, Message};
 use afs_num::sequences::Octets;
@@ -19,53 +20,8 @@ use afs_server_parts::turns::Stand;
 use std::alloc::{AllocError, Global};
 use std::marker::Model;
 
-/// At most so many bytes of a dump go in one piece.
-pub const MOST_PIECE: usize = 33_554_432;
-
 /// A piece is given by this call.
 pub const RESTORE: u32 = 102;
-
-/// The first of these bytes, so many as go in one piece.
-fn front(bytes: &[u8]) -> &[u8]
-    ensures { result.now ≡ take most_piece bytes.entry.now }
-{
-    if bytes.len() <= MOST_PIECE {
-        bytes
-    } else {
-        bytes.split_at(MOST_PIECE).0
-    }
-}
-
-/// The first piece of a dump, which may be all of it; then the bytes are shared.
-fn first_piece(alloc: Global, whole: &Octets) -> Mem<Octets>
-    ensures { IfOk result (λ p. p ≡ take most_piece whole.now) }
-{
-    if whole.len() <= MOST_PIECE {
-        Ok(whole.copy(alloc)?)
-    } else {
-        Octets::from_slice(alloc, front(whole.as_slice()))
-    }
-}
-
-/// The piece of a dump from this offset on.
-pub fn piece_of(alloc: Global, whole: &Octets, offset: usize) -> Mem<Octets>
-    requires { offset ≤ length whole.now }
-    ensures { IfOk result (λ p. p ≡ piece_at most_piece offset whole.now) }
-{
-    if offset == 0 {
-        first_piece(alloc, whole)
-    } else {
-        Octets::from_slice(alloc, front(whole.as_slice().split_at(offset).1))
-    }
-}
-
-/// Whether the piece of a dump of this length from this offset on is its last.
-pub fn is_last_piece(offset: usize, length: usize) -> bool
-    requires { offset ≤ length }
-    ensures { result ≡ not (nat_lt most_piece (length - offset)) }
-{
-    length - offset <= MOST_PIECE
-}
 
 /// A dump that is sent to a transaction at another server: the header of the call that asked for it, the family and the transaction,
 /// the whole dump, and how many bytes of it went.

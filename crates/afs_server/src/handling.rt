@@ -10,7 +10,7 @@ ghost use Rattle.afs_journal.specs.Records.{whole_records};
 ghost use Rattle.afs_journal.specs.Words.{SameCountsBy, LeavesByPickOf, ReachesBy};
 ghost use Rattle.afs_model.specs.Calls.{call_seat, paired};
 ghost use Rattle.afs_model.specs.Heads.{IsSoundHead};
-ghost use Rattle.afs_model.specs.Messages.{received_by, FindsMessages, HasSpelling, IsSoundReceived};
+ghost use Rattle.afs_model.specs.Messages.{received_by, HasSpelling, IsSoundReceived};
 ghost use Rattle.afs_records.specs.Durable.{Durable};
 ghost use Rattle.afs_fold.specs.Effects.{effect_of};
 ghost use Rattle.afs_fold.specs.Fold.{folded};
@@ -20,7 +20,8 @@ ghost use Rattle.afs_rows.specs.ServerRow.{begun_after, device_calls, drops, Dec
 ghost use Rattle.afs_volrows.specs.FileRow.{file_called, file_decides, file_row};
 ghost use Rattle.afs_volstore.specs.Stores.{LeftAround};
 ghost use Rattle.afs_memory.specs.Telling.{in_words};
-ghost use Rattle.afs_decisions.specs.Deciding.{leaves_disk, CanBeTold, Decides, FitsDecided, IsUnder, Runs, CanBeDone};
+ghost use Rattle.afs_decisions.specs.Deciding.{leaves_disk, CanBeTold, Decides, FitsDecided, Runs, CanBeDone};
+ghost use Rattle.afs_server_parts.specs.Heard.{IsUnder};
 ghost use Rattle.afs_server.specs.Handling.{decided_then, record_then, backs_then, turn_then, turned_then, calls_served, holds_seen, server_seen, Handles, CanStep, ServesOver};
 ghost use Rattle.afs_server.specs.Hearing.{answered_turn, noticed_turn};
 ghost use Rattle.afs_server.specs.Putting.{Took};
@@ -225,9 +226,8 @@ impl FileServer {
         now: u32,
     ) -> Result<Outs, NodeFault>
         requires can { CanStep self.old store.old now }
-        ensures took { let d = decided_then self.old store.old now bytes.now in
+        ensures { let d = decided_then self.old store.old now bytes.now in
             Took D.Disk now d (turned_then self.old store.old now d (received_by calls_served bytes.now)) self.old self.new store.old store.new result }
-        ensures found { FindsMessages calls_served bytes.now }
     {
         let received = read_message(self.alloc, &CALLS, bytes)?;
         self.take(store, &received, now)
@@ -247,7 +247,6 @@ impl FileServer {
         requires up { store.old.closed ≡ false }
         requires now { now ≤ 1000000000 }
         ensures step { (place : ℕ) → Handles (file_row store.old.node (holds_seen store.old) (server_seen self.old store.old) now place (received_by calls_served bytes.now)) (lines.Given place ∷ []) self.old self.new store.old store.new result }
-        ensures found { FindsMessages calls_served bytes.now }
         ensures serves { OnOk result (ServesOver self.new store.new) }
 
         // A disk that tells goes on telling, whatever the result.

@@ -4,6 +4,7 @@ pub mod First
 pub mod Released
 pub mod Same
 pub mod Spelling
+pub mod Standing
 pub mod Steps
 pub mod Turning
 pub mod Parted

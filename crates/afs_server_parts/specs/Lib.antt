@@ -3,3 +3,4 @@ pub mod Ending
 pub mod Few
 pub mod Telling
 pub mod Turning
+pub mod Heard

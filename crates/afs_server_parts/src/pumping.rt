@@ -21,7 +21,7 @@ use std::alloc::{AllocError, Global};
 use std::mem::replace;
 
 /// The number of the next call. What is left of numbers is never used up: a boot of the server is shorter.
-fn next_number(last: u32) -> Mem<u32>
+pub fn next_number(last: u32) -> Mem<u32>
     ensures { IfOk result (λ n. n ≡ last + 1) }
 {
     last.checked_add(1).ok_or(AllocError)

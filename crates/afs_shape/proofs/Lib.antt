@@ -3,9 +3,6 @@ pub mod Spellable
 pub mod Codecs
 pub mod Entries
 pub mod FieldLaws
-pub mod RowLaws
 pub mod BodyLaws
 pub mod MadeLaws
 pub mod InterfaceLaws
-pub mod TakenLaws
-pub mod Words

@@ -1,5 +1,5 @@
 -- Tables of shapes, and what fields have a shape.
-use Rattle.std.specs.Prelude.{ℕ, ◌<◌, ◌≤◌, ◌^◌, ◌==◌, List, [], ◌∷◌, length, take, Bool, true, false, Option, find, map, option_map, FitsSigned}
+use Rattle.std.specs.Prelude.{ℕ, ◌<◌, ◌≤◌, ◌^◌, ◌==◌, List, [], ◌∷◌, length, take, Bool, true, false, Option, find, option_map, FitsSigned}
 use Rattle.std.specs.Int.{w32}
 use Rattle.std.specs.List.{prefix_len, list_any, AllByRecursion}
 use Rattle.afs_xdr.specs.Words.{AreWords}
@@ -12,7 +12,6 @@ use Rattle.afs_shape.specs.declared.kinds.Kind.{Kind}
 use Rattle.afs_shape.specs.declared.kinds.Kind.TheVariants as kinds
 use Rattle.afs_shape.specs.declared.kinds.Field.{Field}
 use Rattle.afs_shape.specs.declared.kinds.Field.TheVariants as fields
-use Rattle.afs_shape.specs.declared.tables.Row.{Row}
 
 abbrev pub is_field : Kind → Bool
 is_field kinds.Nothing = false
@@ -21,16 +20,6 @@ is_field _ = true
 -- the kinds before the first Nothing
 abbrev pub kinds_of : List Kind → List Kind
 kinds_of ks = take (prefix_len is_field ks) ks
-
-abbrev pub find_row : {N : ℕ} → ℕ → List (Row N) → Option (Row N)
-find_row n rows = find (λ r. r.opcode == n) rows
-
--- a row, as its opcode and the kinds of its fields
-abbrev pub told_row : {N : ℕ} → Row N → ℕ × List Kind
-told_row r = (r.opcode, kinds_of r.shape.kinds)
-
-abbrev pub rows_of : {N : ℕ} → List (Row N) → List (ℕ × List Kind)
-rows_of rows = map told_row rows
 
 -- the kinds of the row of this opcode
 abbrev pub kinds_in : ℕ → List (ℕ × List Kind) → Option (List Kind)

@@ -4,7 +4,6 @@
 pub mod deed;
 mod doing;
 mod finding;
-mod readying;
 pub mod shelf;
 pub mod shelves;
 pub mod telling;

@@ -4,7 +4,7 @@ ghost use Rattle.std.specs.Prelude.{◌≡◌, ◌++◌, List, [], ℕ, ℤ, Opt
 ghost use Rattle.afs_num.specs.declared.types.Head.{Head};
 ghost use Rattle.afs_num.specs.declared.location_calls.LocCall.{LocCall};
 ghost use Rattle.afs_num.specs.declared.location_calls.LocReply.{LocReply};
-ghost use Rattle.afs_shape.specs.Tables.{rows_of};
+ghost use Rattle.afs_fields.specs.TableRows.{rows_of};
 ghost use Rattle.afs_shape.specs.Rows.{table_rows};
 ghost use Rattle.afs_model.specs.Rpc.{SpellsCall, SpellsReply};
 ghost use Rattle.afs_model.specs.LocRows.{loc_calls, loc_replies};

@@ -3,12 +3,12 @@
 ghost use Rattle.afs_model.specs.LocRows.{loc_calls, loc_replies};
 ghost use Rattle.afs_model.proofs.LocMade.{calls_sound, replies_sound};
 
+use afs_fields::messages::Messages;
+use afs_fields::tables::{Shape, Table};
+use afs_fields::{message_read, room_of, shape_of, table_of, written_of};
 use afs_num::location_calls::{LocCall, LocReply};
 use afs_num::types::Mem;
 use afs_shape::faults::ShapeFault;
-use afs_shape::messages::Messages;
-use afs_shape::tables::{Shape, Table};
-use afs_shape::{message_read, room_of, shape_of, table_of, written_of};
 use afs_xdr::reading::Reader;
 use afs_xdr::writing::Writer;
 use std::alloc::Global;

@@ -9,7 +9,7 @@ ghost use Rattle.afs_voldecisions.specs.Verdicts.{after_of};
 use afs_num::sequences::Octets;
 use afs_num::types::Mem;
 use afs_seats::Seats;
-use afs_sendings::pieces::next_number;
+use afs_server_parts::pumping::next_number;
 use std::alloc::Global;
 use std::marker::Model;
 use std::mem::replace;

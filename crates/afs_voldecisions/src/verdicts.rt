@@ -25,13 +25,13 @@ ghost use Rattle.afs_voldecisions.specs.Verdicts.{after_of, family_in, is_clone,
 
 use crate::transactions::{After, Transaction, Transactions};
 use afs_dump::dump;
+use afs_dump::pieces::{is_last_piece, piece_of};
 use afs_num::records::RecordBody;
 use afs_num::sequences::Octets;
 use afs_num::types::Mem;
 use afs_num::volume_calls::{ListedVolume, ListedVolumes, VolCall, VolReply};
 use afs_restore::{DumpFault, Restorer, restore};
-use afs_sendings::pieces::next_number;
-use afs_sendings::sendings::{is_last_piece, piece_of};
+use afs_server_parts::pumping::next_number;
 use afs_server_parts::words::are_words;
 use afs_volume::Volume;
 use std::alloc::{AllocError, Global};

@@ -8,7 +8,7 @@ use Rattle.afs_records.proofs.Kept.{same_tables}
 use Rattle.afs_volrows.specs.VolRow.{holds_of}
 use Rattle.afs_volrows.specs.VolStates.{Transaction}
 use Rattle.afs_volrows.proofs.VolApart.{behind_found}
-use Rattle.afs_volserv.specs.Seen.{AreAlone, AreFlagged, IsHoldFlag}
+use Rattle.afs_volanswers.specs.Flagged.{AreAlone, AreFlagged, IsHoldFlag}
 
 first_there : (p : ℕ × Transaction) (ps : Table Transaction) → get p.0 (p ∷ ps) ≡ Some p.1
 first_there p ps = rw (eq-eqb p.0 p.0 refl) refl

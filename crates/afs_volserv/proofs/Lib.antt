@@ -4,11 +4,7 @@ pub mod Begun
 pub mod Folded
 pub mod Gone
 pub mod Held
-pub mod Judged
-pub mod Listed
-pub mod Looked
 pub mod Moving
-pub mod Plain
 pub mod Recorded
 pub mod Room
 pub mod Saved

@@ -32,11 +32,12 @@ use Rattle.afs_volrows.specs.VolRow.{holds_of}
 use Rattle.afs_volrows.specs.VolStates.{Sending, VolState}
 use Rattle.afs_volrows.specs.VolSteps.{deed_done, deed_head, deed_lines, deed_record, owes_of, saves, vol_answers, vol_seated, withdraws_from, with_transactions, Deed, VolTurn}
 use Rattle.afs_voldecisions.specs.Numbering.{Numbered}
-use Rattle.afs_volserv.specs.Deciding.{deed_of, CanBeSaved}
+use Rattle.afs_volanswers.specs.Deciding.{deed_of, CanBeSaved}
 use Rattle.afs_volserv.specs.Handling.{backs_then, vol_turn_then, DrawsFew, IsLeftAgain, IsToldAgain, IsVolumeStep, MakesVolumes}
 use Rattle.afs_volserv.specs.Saving.{held_on, held_or_none, sent_now, waits_by, IsPlanned, IsPut, IsTaken, IsWithdrawn}
-use Rattle.afs_volserv.specs.Seen.{vol_seen, AreAsked, AreFlagged, ServesVolumes, StandsBeside, VolMemory}
-use Rattle.afs_volserv.specs.declared.decided.Saving.{Saving}
+use Rattle.afs_volserv.specs.Seen.{vol_seen, AreAsked, ServesVolumes, StandsBeside, VolMemory}
+use Rattle.afs_volanswers.specs.Flagged.{AreFlagged}
+use Rattle.afs_volanswers.specs.declared.decided.Saving.{Saving}
 use Rattle.afs_volserv.specs.declared.saving.Planned.{Planned}
 use Rattle.afs_volstore.specs.Stores.{Store}
 use Rattle.afs_volserv.proofs.Alike.{stamp_volumes, told_like}

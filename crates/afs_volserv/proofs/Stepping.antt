@@ -29,7 +29,8 @@ use Rattle.afs_volrows.specs.VolRow as row_after
 use Rattle.afs_volrows.specs.VolStates.{Transaction, VolState}
 use Rattle.afs_volrows.specs.VolSteps.{held_vol, replies_to, vol_repeats, vol_turn, VolTurn}
 use Rattle.afs_volserv.specs.Handling.{backs_then, DrawsFew, IsStep}
-use Rattle.afs_volserv.specs.Seen.{vol_seen, AreAlone, AreAsked, AreFlagged, CanRelease, ServesVolumes, StandsBeside, VolMemory}
+use Rattle.afs_volserv.specs.Seen.{vol_seen, AreAsked, CanRelease, ServesVolumes, StandsBeside, VolMemory}
+use Rattle.afs_volanswers.specs.Flagged.{AreAlone, AreFlagged}
 use Rattle.afs_volserv.specs.Sending.{again_then, rests_then, sent_then, waits_again, waits_then, IsSent}
 use Rattle.afs_sharing.specs.Lasting.{lasting_of}
 

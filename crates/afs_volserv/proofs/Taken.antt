@@ -26,11 +26,11 @@ use Rattle.afs_server_parts.specs.declared.faults.NodeFault.{NodeFault}
 use Rattle.afs_server_parts.specs.declared.faults.NodeFault.TheVariants as faults
 use Rattle.afs_volrows.specs.VolStates.{PieceCall, VolState}
 use Rattle.afs_volrows.specs.VolSteps.{dispatches, drops, repeats, replies_to, saves, tells_boot, vol_begun_after, vol_called, vol_decides, vol_device_calls, vol_hears, vol_rests, vol_told, vol_told_by, vol_turn, vol_turned, vol_turned_by, VolDecision, VolTurn}
-use Rattle.afs_volserv.specs.Deciding.{decision_of, leaves_disk}
+use Rattle.afs_volanswers.specs.Deciding.{decision_of, leaves_disk}
 use Rattle.afs_volserv.specs.Handling.{vol_record, DoesVolumes, DrawsFew, HandlesVolumes, IsStep, IsToldAgain, IsVolumeStep, StaysInOrder, TookVolumes}
 use Rattle.afs_volserv.specs.Seen.{VolMemory}
-use Rattle.afs_volserv.specs.declared.decided.Decided.{Decided}
-use Rattle.afs_volserv.specs.declared.decided.Decided.TheVariants as decided
+use Rattle.afs_volanswers.specs.declared.decided.Decided.{Decided}
+use Rattle.afs_volanswers.specs.declared.decided.Decided.TheVariants as decided
 use Rattle.afs_volstore.specs.Stores.{Store}
 use Rattle.afs_volstore.specs.VolumeFold.{volume_fold}
 use Rattle.afs_sharing.specs.Stores.{IsDone, SameStore, OnDisk, LeavesPrepared}

@@ -24,11 +24,12 @@ use Rattle.afs_volrows.specs.VolRow as row
 use Rattle.afs_volrows.specs.VolStates.{VolState}
 use Rattle.afs_volrows.specs.VolSteps.{deed_record, not_written, saves, written, VolDecision, VolTurn}
 use Rattle.afs_voldecisions.specs.Numbering.{Numbered}
-use Rattle.afs_volserv.specs.Deciding.{deed_of, full_for, CanBeSaved}
+use Rattle.afs_volanswers.specs.Deciding.{deed_of, full_for, CanBeSaved}
 use Rattle.afs_volserv.specs.Handling.{vol_record, vol_turn_then, DoesVolumes, IsVolumeStep, StepsVolumes, TookVolumes}
 use Rattle.afs_volserv.specs.Saving.{CanPut, IsPlanned, IsPut, Puts}
-use Rattle.afs_volserv.specs.Seen.{durable_seen, vol_seen, AreFlagged, CanDraw, HasRoom, ServesVolumes, StandsBeside, VolMemory}
-use Rattle.afs_volserv.specs.declared.decided.Saving.{Saving}
+use Rattle.afs_volserv.specs.Seen.{durable_seen, vol_seen, CanDraw, HasRoom, ServesVolumes, StandsBeside, VolMemory}
+use Rattle.afs_volanswers.specs.Flagged.{AreFlagged}
+use Rattle.afs_volanswers.specs.declared.decided.Saving.{Saving}
 use Rattle.afs_volserv.specs.declared.saving.Planned.{Planned}
 use Rattle.afs_volstore.specs.Stores.{Store}
 use Rattle.afs_volserv.proofs.Folded.{is_taken}

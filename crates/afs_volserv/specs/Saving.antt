@@ -24,9 +24,10 @@ use Rattle.afs_volstore.specs.Stores.{Store}
 use Rattle.afs_server_parts.specs.declared.faults.NodeFault.{NodeFault}
 use Rattle.afs_server_parts.specs.declared.faults.NodeFault.TheVariants as faults
 use Rattle.afs_voldecisions.specs.Replies.{answer_message}
-use Rattle.afs_volserv.specs.Deciding.{deed_of}
-use Rattle.afs_volserv.specs.Seen.{AreAlone, AreFlagged, CanRelease, HasRoom, VolMemory}
-use Rattle.afs_volserv.specs.declared.decided.Saving.{Saving}
+use Rattle.afs_volanswers.specs.Deciding.{deed_of}
+use Rattle.afs_volserv.specs.Seen.{CanRelease, HasRoom, VolMemory}
+use Rattle.afs_volanswers.specs.Flagged.{AreAlone, AreFlagged}
+use Rattle.afs_volanswers.specs.declared.decided.Saving.{Saving}
 use Rattle.afs_volserv.specs.declared.saving.Planned.{Planned}
 use Rattle.afs_sharing.specs.Callers.{IsToRun}
 use Rattle.afs_sharing.specs.Stores.{stand_of, IsClosed}

@@ -1,11 +1,11 @@
 -- A volume server in memory, and the state of its row that it stands for.
-use Rattle.std.specs.Prelude.{◌≡◌, ◌⊎◌, ◌<◌, ◌≤◌, ◌+◌, ℕ, List, Option, Some, false, length}
+use Rattle.std.specs.Prelude.{◌≡◌, ◌<◌, ◌≤◌, ◌+◌, ℕ, List, Option, false, length}
 use Rattle.std.specs.List.{All, AllByRecursion}
 use Rattle.std.specs.Option.{option_map}
 use Rattle.afs_num.specs.Nodes.{IsNode}
 use Rattle.afs_num.specs.declared.types.Key.{Key}
 use Rattle.afs_num.specs.declared.types.Node.{Node}
-use Rattle.afs_ideal.specs.Tables.{get, AscendsFrom, Table}
+use Rattle.afs_ideal.specs.Tables.{Table}
 use Rattle.afs_model.specs.Heads.{IsSoundHead}
 use Rattle.afs_records.specs.Durable.{Durable}
 use Rattle.afs_rows.specs.States.{durable_of, Held, Seat}
@@ -17,6 +17,7 @@ use Rattle.afs_sendings.specs.Pieces.{calls_in, sendings_in, AreTo, Piece}
 use Rattle.afs_callbacks.specs.States.{CallbackState, IsPromiseToNode, IsToNodes}
 use Rattle.afs_volstore.specs.Stores.{Store}
 use Rattle.afs_sharing.specs.Lasting.{lasting_of, KeepsForNodes}
+use Rattle.afs_volanswers.specs.Flagged.{AreFlagged}
 
 -- its boot number and its callers; its transactions by their numbers, and the last number; the servers to which dumps go; the replies
 -- that wait; and for how many of these there is room, to wait, to go out and to wait on
@@ -60,18 +61,6 @@ pub record IsAsked (x : Sending) : Type 0 where
 
 abbrev pub AreAsked : (Node → Option Piece) → Type 0
 AreAsked calls = (n : Node) → AllByRecursion IsAsked (sendings_in calls n)
-
--- 1 for a volume that is offline, 2 for one that is busy
-abbrev pub IsHoldFlag : ℕ → Type 0
-IsHoldFlag flags = (flags ≡ 1) ⊎ (flags ≡ 2)
-
-abbrev pub AreFlagged : Table Transaction → Type 0
-AreFlagged ts = AllByRecursion (λ (p : ℕ × Transaction). IsHoldFlag p.1.flags) ts
-
--- their numbers ascend, and no two are on one volume
-pub record AreAlone (ts : Table Transaction) : Type 0 where
-  pub ascend : AscendsFrom 1 ts
-  pub alone : (n m : ℕ) (t u : Transaction) → get n ts ≡ Some t → get m ts ≡ Some u → t.volume ≡ u.volume → n ≡ m
 
 -- What a volume server and its store keep together: the boot; that its calls go to servers of the cell, with dumps that Forwards asked for;
 -- that each transaction is on a volume of the disk, no two on one, and that the store holds these volumes.

@@ -8,28 +8,26 @@ ghost use Rattle.afs_disk.specs.Words.{SameDiskBy, LeavesOnlyBy, TellsOn, CallsA
 ghost use Rattle.afs_history.specs.declared.lines.Line.{Line};
 ghost use Rattle.afs_journal.specs.Records.{whole_records};
 ghost use Rattle.afs_journal.specs.Words.{SameCountsBy, LeavesByPickOf, ReachesBy};
-ghost use Rattle.afs_decisions.specs.Deciding.{IsUnder};
+ghost use Rattle.afs_server_parts.specs.Heard.{IsUnder};
 ghost use Rattle.afs_fold.specs.Effects.{effect_of};
 ghost use Rattle.afs_fold.specs.Fold.{folded};
 ghost use Rattle.afs_memory.specs.Telling.{in_words};
 ghost use Rattle.afs_model.specs.Calls.{call_seat, paired};
 ghost use Rattle.afs_model.specs.Heads.{IsSoundHead};
-ghost use Rattle.afs_model.specs.Messages.{received_by, FindsMessages, HasSpelling, IsSoundReceived};
+ghost use Rattle.afs_model.specs.Messages.{received_by, HasSpelling, IsSoundReceived};
 ghost use Rattle.afs_records.specs.Durable.{Durable};
 ghost use Rattle.afs_records.specs.Records.{record_bytes, FitsRecord};
 ghost use Rattle.afs_rows.specs.States.{ServerState};
 ghost use Rattle.afs_volrows.specs.VolSteps.{drops, vol_begun_after, vol_called, vol_device_calls, VolDecision};
 ghost use Rattle.afs_volstore.specs.Stores.{LeftAround};
 ghost use Rattle.afs_server_parts.specs.declared.faults.NodeFault.TheVariants as faults;
-ghost use Rattle.afs_volserv.specs.Deciding.{call_in, decision_of, full_then, leaves_disk, CanBeDone, IsAskedBy, IsOfCaller, Runs};
+ghost use Rattle.afs_volanswers.specs.Deciding.{call_in, decision_of, full_then, leaves_disk, CanBeDone, IsAskedBy, IsOfCaller, Runs};
 ghost use Rattle.afs_volserv.specs.Handling.{vol_answered_then, vol_calls_served, vol_decided, vol_decided_then, vol_noticed_then, vol_record, vol_turn_then, vol_turned_by, vol_turned_then, DrawsFew, HandlesVolumes, StaysInOrder, StepsVolumes, TookVolumes};
 ghost use Rattle.afs_volserv.specs.Seen.{durable_seen, vol_seen, CanDraw, CanStep, HasRoom, ServesVolumes, StandsBeside};
 ghost use Rattle.afs_sharing.specs.Stores.{IsDone, LeavesPrepared};
 ghost use Rattle.afs_saving.specs.Saving.{IsQuiet, IsWritten, Ran};
 ghost use Rattle.afs_sharing.specs.Lasting.{lasting_of};
 
-use crate::decided::Decided;
-use crate::deciding::CALLS;
 use crate::server::VolServer;
 use afs_callbacks::Callbacks;
 use afs_disk::Disk;
@@ -39,6 +37,8 @@ use afs_num::messages::{Call, Carried, Message, Received};
 use afs_num::types::{Code, Head, Mem};
 use afs_num::volume_calls::VolCall;
 use afs_server_parts::faults::NodeFault;
+use afs_volanswers::answers::CALLS;
+use afs_volanswers::decided::Decided;
 use afs_volstore::VolStore;
 
 /// The call of the volume server's interface that was received.
@@ -308,8 +308,7 @@ impl VolServer {
         now: u32,
     ) -> Result<Outs, NodeFault>
         requires can { CanStep self.old callbacks.old store.old }
-        ensures took { TookVolumes D.Disk (vol_decided_then self.old store.old bytes.now) (vol_turned_then self.old callbacks.old store.old now bytes.now) self.old self.new callbacks.old callbacks.new store.old store.new result }
-        ensures found { FindsMessages vol_calls_served bytes.now }
+        ensures { TookVolumes D.Disk (vol_decided_then self.old store.old bytes.now) (vol_turned_then self.old callbacks.old store.old now bytes.now) self.old self.new callbacks.old callbacks.new store.old store.new result }
     {
         let received = read_message(self.alloc, &CALLS, bytes)?;
         self.take(store, callbacks, &received, now)
@@ -332,7 +331,6 @@ impl VolServer {
         requires room { HasRoom self.old store.old }
         requires up { store.old.closed ≡ false }
         ensures step { HandlesVolumes (vol_turned_then self.old callbacks.old store.old now bytes.now) self.old self.new callbacks.old callbacks.new store.old store.new result }
-        ensures found { FindsMessages vol_calls_served bytes.now }
 
         // What both servers of the node keep stays in order, and replies can go out.
         ensures order { OnOk result (StaysInOrder self.old self.new callbacks.new store.new) }

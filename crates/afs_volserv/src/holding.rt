@@ -3,7 +3,7 @@
 ghost use Rattle.std.specs.Prelude.{◌≡◌, ◌≤◌, ◌<◌, ◌+◌, [], length};
 ghost use Rattle.afs_ideal.specs.Tables.{set};
 ghost use Rattle.afs_volrows.specs.VolRow.{holds_of};
-ghost use Rattle.afs_volserv.specs.Seen.{AreAlone, AreFlagged, IsHoldFlag};
+ghost use Rattle.afs_volanswers.specs.Flagged.{AreAlone, AreFlagged, IsHoldFlag};
 
 use afs_disk::Disk;
 use afs_voldecisions::transactions::{Transaction, Transactions};

@@ -3,7 +3,6 @@
 #![tactic(auto)]
 
 mod answering;
-mod decided;
 mod deciding;
 mod ending;
 mod forwarding;

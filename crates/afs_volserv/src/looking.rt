@@ -13,8 +13,8 @@ ghost use Rattle.afs_shelves.specs.Shelving.{is_new_in, stored_as};
 ghost use Rattle.afs_volrows.specs.VolRow as row;
 ghost use Rattle.afs_volrows.specs.VolRow.{list_of};
 ghost use Rattle.afs_voldecisions.specs.Verdicts.{named_in, verdict_of, CanTell, IsHeld, IsShelf};
-ghost use Rattle.afs_volserv.specs.Deciding.{IsMadeInVerdict};
-ghost use Rattle.afs_volserv.specs.Looking.{listed_of, listed_there, with_one};
+ghost use Rattle.afs_volanswers.specs.Deciding.{IsMadeInVerdict};
+ghost use Rattle.afs_volanswers.specs.Looking.{listed_of, listed_there, with_one};
 ghost use Rattle.afs_volserv.specs.Seen.{durable_seen};
 
 use afs_disk::Disk;

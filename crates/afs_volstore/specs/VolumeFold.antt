@@ -7,11 +7,11 @@ use Rattle.afs_records.specs.Changes.{boot_record}
 use Rattle.afs_records.specs.Durable.{noted, nothing_on, Durable}
 use Rattle.afs_fold.specs.Fold.{is_first, body_taken, first_bad, fold_all, folded}
 use Rattle.afs_fold.specs.Effects.{effect_of}
-use Rattle.afs_memory.specs.Preparing.{IsSpelledOut}
+use Rattle.afs_readying.specs.Preparing.{IsSpelledOut}
 use Rattle.afs_memory.specs.Redos.{record_of, Suits}
 use Rattle.afs_memory.specs.States.{parts_of, placed, HasRoomFor}
 use Rattle.afs_memory.specs.Telling.{in_words}
-use Rattle.afs_memory.specs.declared.prepared.Prepared.{Prepared}
+use Rattle.afs_readying.specs.declared.prepared.Prepared.{Prepared}
 use Rattle.afs_store.specs.Folding.{Folding}
 use Rattle.afs_volstore.specs.Opening.{last_effect}
 use Rattle.afs_volstore.specs.declared.held.Held.{Held}

@@ -23,6 +23,7 @@ use afs_num::faults::StoreFault;
 use afs_num::records::{RecordBody, RecordHead, StoreRecord};
 use afs_num::sequences::Octets;
 use afs_num::types::Node;
+use afs_readying::readying::redo_of;
 use afs_record::faults::{RecordFault, Unfit};
 use afs_record::records::decode_record;
 use std::alloc::Global;
@@ -117,7 +118,7 @@ pub(crate) fn take_one(
 {
     let rec = read(alloc, first, bytes)?;
     let StoreRecord { head, body } = rec;
-    let redo = state.redo_of(body)?;
+    let redo = redo_of(state, body)?;
     let lines = if wanted {
         state.lines(server, &head, &redo)?
     } else {

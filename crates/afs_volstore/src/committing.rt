@@ -22,10 +22,10 @@ use crate::store::VolStore;
 use afs_disk::Disk;
 use afs_fold::laws::starts_are_kept;
 use afs_history::lines::Lines;
-use afs_memory::readying::{prepared_change, prepared_restored};
 use afs_num::faults::StoreFault;
 use afs_num::records::StoreRecord;
 use afs_num::types::Mem;
+use afs_readying::readying::{prepared_change, prepared_restored};
 use afs_volume::{ReadyNames, Volume};
 
 impl<D: Disk> VolStore<D> {

@@ -9,9 +9,10 @@ use crate::attaching::take_one;
 use crate::creating::start_record;
 use afs_history::lines::Lines;
 use afs_memory::memory::State;
-use afs_memory::prepared::Prepared;
 use afs_num::records::StoreRecord;
 use afs_num::types::{Mem, Node};
+use afs_readying::prepared::Prepared;
+use afs_readying::readying::ready;
 use afs_record::faults;
 use afs_store::{Fold, Unfit};
 use std::alloc::Global;
@@ -81,7 +82,7 @@ impl Fold<StoreRecord, Part> for Held {
     }
 
     fn ready(&self, _alloc: Global, rec: &StoreRecord) -> Result<Prepared, Unfit> {
-        match self.state.ready(rec) {
+        match ready(&self.state, rec) {
             Ok(ready) => Ok(ready),
             Err(fault) => Err(unfit(fault)),
         }

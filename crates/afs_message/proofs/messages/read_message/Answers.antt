@@ -2,7 +2,7 @@ use Rattle.std.proofs.Common.{◌≡◌, Result, Ok, Err, subst, sym, arith}
 use Rattle.std.specs.Prelude.{IfOk}
 use Rattle.afs_num.specs.declared.messages.Received.{Received}
 use Rattle.afs_model.specs.Messages.{IsSoundReceived}
-use Rattle.afs_model.proofs.Spellings.{read_sound, found_in}
+use Rattle.afs_model.proofs.Spellings.{read_sound}
 use Rattle.afs_message.proofs.messages.read_message.Goals as goal
 
 sound_where_read : {E : Type 0} (result : Result Received E) (x : Received) → IfOk result (λ y. y ≡ x) → IsSoundReceived x → IfOk result IsSoundReceived
@@ -11,6 +11,3 @@ sound_where_read {E} (Err e) x is sound = tt
 
 pub returns-clause-sound : goal.returns-clause-sound
 returns-clause-sound c = sound_where_read c.receive.result _ c.receive.ensures (read_sound c.args.served.now c.args.bytes.now (λ i. omega (arith, c.type_inv.bytes i)))
-
-pub returns-clause-found : goal.returns-clause-found
-returns-clause-found c m e = found_in c.args.served.now c.args.bytes.now m (λ i. omega (arith, c.type_inv.bytes i)) e

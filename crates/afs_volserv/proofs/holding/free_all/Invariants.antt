@@ -1,6 +1,6 @@
 use Rattle.std.proofs.Common.{◌≡◌, ◌≤◌, ◌+◌, drop}
 use Rattle.afs_volrows.specs.VolRow.{holds_of}
-use Rattle.afs_volserv.specs.Seen.{AreAlone}
+use Rattle.afs_volanswers.specs.Flagged.{AreAlone}
 use Rattle.afs_volserv.proofs.holding.free_all.Given as goal
 
 abbrev pub invariant-loop-item : goal.invariant-loop-item

@@ -1,5 +1,5 @@
 use Rattle.afs_volserv.specs.Seen.{durable_seen}
-use Rattle.afs_volserv.proofs.Looked.{made_as_written}
+use Rattle.afs_volanswers.proofs.Looked.{made_as_written}
 use Rattle.afs_volserv.proofs.looking.judge.Goals as goal
 
 pub returns-clause-decides : goal.returns-clause-decides

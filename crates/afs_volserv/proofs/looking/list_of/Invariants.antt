@@ -1,7 +1,7 @@
 use Rattle.std.proofs.Common.{◌≡◌, ◌≤◌, ◌<◌, length}
 use Rattle.std.specs.List.{AllByRecursion}
 use Rattle.afs_shape.specs.Tables.{IsListedVolume}
-use Rattle.afs_volserv.specs.Looking.{listed_before}
+use Rattle.afs_volanswers.specs.Looking.{listed_before}
 use Rattle.afs_volserv.proofs.looking.list_of.Given as goal
 
 abbrev pub invariant-loop-place : goal.invariant-loop-place

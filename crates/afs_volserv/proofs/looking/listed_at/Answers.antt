@@ -1,5 +1,5 @@
 use Rattle.std.proofs.Common.{sym, ap, ◌∙◌}
-use Rattle.afs_volserv.specs.Looking.{listed_there}
+use Rattle.afs_volanswers.specs.Looking.{listed_there}
 use Rattle.afs_volserv.proofs.looking.listed_at.Goals as goal
 
 pub returns-clause-value : goal.returns-clause-value

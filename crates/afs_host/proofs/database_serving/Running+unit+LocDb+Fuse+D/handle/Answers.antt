@@ -1,10 +1,11 @@
 use Rattle.std.specs.Prelude.{◌≡◌, ℕ, ◌*◌, ◌-◌, [], ◌∷◌, Some, Err, Ok, IsErrOf}
-use Rattle.std.proofs.Common.{refl, ap, sym, subst, ◌∙◌}
+use Rattle.std.proofs.Common.{refl, ap, sym, subst, ◌∙◌, arith}
 use Rattle.afs_num.specs.declared.records.Mark.{Mark}
 use Rattle.afs_history.specs.declared.lines.Line.TheVariants as lines
 use Rattle.afs_history.specs.declared.lines.Outs.{Outs}
 use Rattle.afs_disk.specs.Disk.{Setting}
-use Rattle.afs_model.specs.Messages.{received, received_by}
+use Rattle.afs_model.specs.Messages.{received, received_by, FindsMessages}
+use Rattle.afs_model.proofs.Spellings.{found_in}
 use Rattle.afs_records.specs.LocRecords.{LocRecord}
 use Rattle.afs_rows.specs.Hosts.{lowered}
 use Rattle.afs_rows.specs.LocRow.{loc_decides, loc_device_calls}
@@ -37,7 +38,7 @@ returns-in-Ok-clause-handled g c =
     ∙ loc_made_calls (loc_seen inside.store) d inside.store c.handle.new.self e.kept in
     let passed : LocPassed c.args.bytes.now old new c.in-Ok.outs = record {
       step = e.step;
-      found = e.found;
+      found = λ m whole. found_in loc_calls_served c.args.bytes.now m (λ i. omega (arith, c.type_inv.bytes i)) whole;
       serves = e.serves;
       store = e.store;
       armed = c.lowered-self-inside.ensures ∙ ap (λ (n : ℕ). lowered n (armed_seen inside.armed)) made;
@@ -102,6 +103,7 @@ returns-in-Err-Down-clause-handled g c =
     let can = subst LocCanRun (sym c.self.view_is) c.requires.can_run in
     let s = loc_seen inside.store in
     let found = received_by loc_calls_served c.args.bytes.now in
+    let finds : FindsMessages loc_calls_served c.args.bytes.now = λ m whole. found_in loc_calls_served c.args.bytes.now m (λ i. omega (arith, c.type_inv.bytes i)) whole in
     let e = c.in-Err-Down.ensures in
     let is = c.in-Err-Down.field-0-is in
     let closed = subst (λ (f : NodeFault). Handles (loc_row s 0 found) (lines.Given 0 ∷ []) inside.store c.handle.new.self (Err f)) is (e.step 0) in
@@ -129,12 +131,12 @@ returns-in-Err-Down-clause-handled g c =
       armed = refl;
       closed = closed;
       lies = λ m clock b whole told x left.
-          ended_lies loc_keeping loc_fits g.D.Disk g.met.D.Disk.counts_now decided next inside.store.store.durable inside.store.store.count before after ended s m clock (loc_decides_so inside.store clock found m (e.found m whole)) b told x left;
+          ended_lies loc_keeping loc_fits g.D.Disk g.met.D.Disk.counts_now decided next inside.store.store.durable inside.store.store.count before after ended s m clock (loc_decides_so inside.store clock found m (finds m whole)) b told x left;
       reached = e.reached err;
       left = λ m clock b whole told trips pick x left.
-          ended_left loc_keeping loc_fits g.D.Disk g.met.D.Disk.counts_now decided next inside.store.store.durable inside.store.store.count before after ended s m clock (loc_decides_so inside.store clock found m (e.found m whole)) b told
+          ended_left loc_keeping loc_fits g.D.Disk g.met.D.Disk.counts_now decided next inside.store.store.durable inside.store.store.count before after ended s m clock (loc_decides_so inside.store clock found m (finds m whole)) b told
           g.met.D.Disk.leaves (c.handle.new.self.store.disk.calls - inside.store.store.disk.calls) (λ r w bytes seen. e.left err r w bytes seen trips) pick x left;
-      saves = λ m whole. ap (loc_device_calls s) (sym (same_loc_row s m found (e.found m whole)).decision) ∙ loc_saves_calls s (loc_decides s found) some;
+      saves = λ m whole. ap (loc_device_calls s) (sym (same_loc_row s m found (finds m whole)).decision) ∙ loc_saves_calls s (loc_decides s found) some;
       few = e.most.1;
       stop = ap (λ (x : Setting). x.stop) e.setting;
       fail = ap (λ (x : Setting). x.fail) e.setting;

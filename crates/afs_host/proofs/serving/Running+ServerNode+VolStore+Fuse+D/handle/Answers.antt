@@ -1,5 +1,5 @@
 use Rattle.std.specs.Prelude.{◌≡◌, ℕ, ◌*◌, ◌-◌, List, [], ◌∷◌, Option, Some, Err, Ok, IsErrOf}
-use Rattle.std.proofs.Common.{refl, ap, sym, subst, ◌∙◌}
+use Rattle.std.proofs.Common.{refl, ap, sym, subst, ◌∙◌, arith}
 use Rattle.afs_num.specs.declared.messages.Message.{Message}
 use Rattle.afs_num.specs.declared.records.Mark.{Mark}
 use Rattle.afs_num.specs.declared.records.StoreRecord.{StoreRecord}
@@ -15,6 +15,7 @@ use Rattle.afs_server_parts.specs.declared.faults.NodeFault.{NodeFault}
 use Rattle.afs_server_parts.specs.declared.faults.NodeFault.TheVariants as nodes
 use Rattle.afs_node.specs.Handling.{node_record, HandlesNode}
 use Rattle.afs_node.specs.Seen.{node_found, node_seen}
+use Rattle.afs_node.proofs.Sides.{steps_same}
 use Rattle.afs_host.specs.Seats.{CanRun, ServerRunning}
 use Rattle.afs_host.specs.Serving.{IsBroken, IsHandled, RunsRow}
 use Rattle.afs_host.specs.Setting.{armed_seen}
@@ -40,7 +41,7 @@ returns-in-Ok-clause-handled g c =
     ∙ made_calls inside.store.node s c.args.now found inside.store c.handle.new.store e.leaves.leaves.done in
     let passed : Passed c.args.now c.args.bytes.now old new c.in-Ok.given = record {
       step = e.step;
-      same = e.same;
+      same = steps_same inside.store.node s c.args.now c.args.bytes.now (λ i. omega (arith, c.type_inv.bytes i));
       leaves = e.leaves.leaves;
       armed = c.lowered-self-inside.ensures ∙ ap (λ (n : ℕ). lowered n (armed_seen inside.armed)) made;
       calls = e.leaves.called;
@@ -107,6 +108,7 @@ returns-in-Err-Down-clause-handled g c =
     let can = subst CanRun (sym c.self.view_is) c.requires.can_run in
     let s = node_seen inside.memory inside.store in
     let found = node_found c.args.bytes.now in
+    let same = steps_same inside.store.node s c.args.now c.args.bytes.now (λ i. omega (arith, c.type_inv.bytes i)) in
     let e = c.in-Err-Down.ensures in
     let is = c.in-Err-Down.field-0-is in
     let closed = subst (λ (f : NodeFault). HandlesNode (node_row inside.store.node s c.args.now 0 found) (lines.Given 0 ∷ []) inside.memory c.handle.new.self inside.store c.handle.new.store (Err f)) is (e.step 0) in
@@ -133,12 +135,12 @@ returns-in-Err-Down-clause-handled g c =
       armed = refl;
       closed = closed;
       lies = λ m b whole told x left.
-          ended_lies k (server_fits inside.store.node) g.D.Disk g.met.D.Disk.counts_now decided next inside.store.durable inside.store.count inside.store.disk.disk c.handle.new.store.disk.disk ended s m c.args.now (decides_so old c.args.now found m (e.same m whole)) b told x left;
+          ended_lies k (server_fits inside.store.node) g.D.Disk g.met.D.Disk.counts_now decided next inside.store.durable inside.store.count inside.store.disk.disk c.handle.new.store.disk.disk ended s m c.args.now (decides_so old c.args.now found m (same m whole)) b told x left;
       reached = e.leaves.disk.reached err;
       left = λ m b whole told trips pick x left.
-          ended_left k (server_fits inside.store.node) g.D.Disk g.met.D.Disk.counts_now decided next inside.store.durable inside.store.count inside.store.disk.disk c.handle.new.store.disk.disk ended s m c.args.now (decides_so old c.args.now found m (e.same m whole)) b told
+          ended_left k (server_fits inside.store.node) g.D.Disk g.met.D.Disk.counts_now decided next inside.store.durable inside.store.count inside.store.disk.disk c.handle.new.store.disk.disk ended s m c.args.now (decides_so old c.args.now found m (same m whole)) b told
           g.met.D.Disk.leaves (c.handle.new.store.disk.calls - inside.store.disk.calls) (λ r w bytes seen. e.leaves.disk.left err r w bytes seen trips) pick x left;
-      saves = λ m whole. sym (e.same m whole).calls ∙ saves_calls inside.store.node s c.args.now found some;
+      saves = λ m whole. sym (same m whole).calls ∙ saves_calls inside.store.node s c.args.now found some;
       few = e.leaves.disk.most.1;
       stop = ap (λ (x : Setting). x.stop) e.leaves.disk.set;
       fail = ap (λ (x : Setting). x.fail) e.leaves.disk.set;

@@ -1,5 +1,5 @@
 use Rattle.std.specs.Prelude.{Result, IsErrOf}
-use Rattle.std.proofs.Common.{◌≡◌, arith, subst, sym}
+use Rattle.std.proofs.Common.{◌≡◌, subst, sym}
 use Rattle.afs_num.specs.declared.messages.Message.{Message}
 use Rattle.afs_num.specs.declared.messages.Received.TheVariants.{Whole}
 use Rattle.afs_num.specs.declared.types.Parcel.{Parcel}
@@ -14,7 +14,7 @@ use Rattle.afs_volrows.specs.VolSteps.{node_row}
 use Rattle.afs_node.specs.Handling.{HandlesNode, StepsNode}
 use Rattle.afs_node.specs.Seen.{node_found, node_seen}
 use Rattle.afs_node.proofs.Readied.{handles_err, handles_out, handles_wants, readied, ready_serves, steps_err, steps_out, steps_want}
-use Rattle.afs_node.proofs.Sides.{some_message, steps_same}
+use Rattle.afs_node.proofs.Sides.{some_message}
 use Rattle.afs_node.proofs.node.ServerNode.handle.Goals as goal
 
 pub take-requires-clause-serves : goal.take-requires-clause-serves
@@ -34,9 +34,6 @@ returns-clause-step g c = λ place.
     let v = c.ready.new.self in
     let t = c.ready.new.store in
     handles_out m (record m { vol = v }) s t (readied m v s t c.in_ok-ready.ensures.same c.in_ok-ready.ensures.store c.in_ok-ready.ensures.holds) c.args.now place (node_found c.args.bytes.now) c.take.new.self c.release-behind.new.self c.take.new.store c.in_ok-outs.outs c.release-behind.result (c.in_ok-outs.ensures.step place) (record { sent = c.release-behind.ensures.sent; is = c.release-behind.ensures.held })
-
-pub returns-clause-same : goal.returns-clause-same
-returns-clause-same g c = steps_same c.args.store.now.node (node_seen c.args.self.now c.args.store.now) c.args.now c.args.bytes.now (λ i. omega (arith, c.type_inv.bytes i))
 
 pub returns-clause-leaves : goal.returns-clause-leaves
 returns-clause-leaves g c =
@@ -59,9 +56,6 @@ returns-in_err-outs-clause-step g c = λ place.
     let is = handed_up r fault c.from_residual-in_err-outs.ensures.1 in
     subst (λ (x : Result (Outs × List Parcel) NodeFault). HandlesNode (node_row s.node (node_seen m s) c.args.now place (node_found c.args.bytes.now)) (lines.Given place ∷ []) m c.take.new.self s c.take.new.store x) (sym is)
     (handles_err m (record m { vol = v }) s t (readied m v s t c.in_ok-ready.ensures.same c.in_ok-ready.ensures.store c.in_ok-ready.ensures.holds) c.args.now place (node_found c.args.bytes.now) c.take.new.self c.take.new.store fault (c.in_err-outs.ensures.step place))
-
-pub returns-in_err-outs-clause-same : goal.returns-in_err-outs-clause-same
-returns-in_err-outs-clause-same g c = steps_same c.args.store.now.node (node_seen c.args.self.now c.args.store.now) c.args.now c.args.bytes.now (λ i. omega (arith, c.type_inv.bytes i))
 
 pub returns-in_err-outs-clause-leaves : goal.returns-in_err-outs-clause-leaves
 returns-in_err-outs-clause-leaves g c =
@@ -100,9 +94,6 @@ returns-in_err-ready-clause-step g c = λ place.
     let is = out_of_memory r c.from_residual.ensures.1 in
     subst (λ (x : Result (Outs × List Parcel) NodeFault). HandlesNode (node_row s.node (node_seen m s) c.args.now place (node_found c.args.bytes.now)) (lines.Given place ∷ []) m (record m { vol = v }) s t x) (sym is)
     (handles_wants m (record m { vol = v }) s t (readied m v s t c.in_err-ready.ensures.same c.in_err-ready.ensures.store c.in_err-ready.ensures.holds) c.args.now place (node_found c.args.bytes.now))
-
-pub returns-in_err-ready-clause-same : goal.returns-in_err-ready-clause-same
-returns-in_err-ready-clause-same g c = steps_same c.args.store.now.node (node_seen c.args.self.now c.args.store.now) c.args.now c.args.bytes.now (λ i. omega (arith, c.type_inv.bytes i))
 
 pub returns-in_err-ready-clause-leaves : goal.returns-in_err-ready-clause-leaves
 returns-in_err-ready-clause-leaves g c =

@@ -8,16 +8,16 @@ use Rattle.afs_saving.proofs.Still.{out_of_memory}
 use Rattle.afs_server.proofs.Taken.{wants_took}
 use Rattle.afs_server.proofs.server.FileServer.take_bytes.Goals as goal
 
-pub returns-clause-took : goal.returns-clause-took
-returns-clause-took g c =
+pub returns : goal.returns
+returns g c =
     let s = c.args.store.now in
     let old = c.args.self.now in
     let value : c.in_ok-received.received ≡ received_by calls_served c.args.bytes.now = c.in_ok-received.ensures.value in
     subst (λ (m : Received). let d = file_decides s.node (holds_seen s) (server_seen old s) c.args.now m in Took g.D.Disk c.args.now d (turned_then old s c.args.now d m) old c.take.new.self s c.take.new.store c.take.result)
     value c.take.ensures
 
-pub returns-in_err-received-clause-took : goal.returns-in_err-received-clause-took
-returns-in_err-received-clause-took g c =
+pub returns-in_err-received : goal.returns-in_err-received
+returns-in_err-received g c =
     let s = c.args.store.now in
     let old = c.args.self.now in
     let d = decided_then old s c.args.now c.args.bytes.now in

@@ -7,7 +7,7 @@ use Rattle.afs_voldecisions.specs.Replies.{answer_message}
 use Rattle.afs_voldecisions.specs.Verdicts.{after_of}
 use Rattle.afs_volrows.specs.VolRow.{holds_of, last_after, transactions_after}
 use Rattle.afs_volrows.specs.VolStates.{Transaction}
-use Rattle.afs_volserv.specs.Seen.{AreFlagged}
+use Rattle.afs_volanswers.specs.Flagged.{AreFlagged}
 use Rattle.afs_volserv.specs.Sending.{IsSent}
 use Rattle.afs_volserv.proofs.Stepping.{alone_of, answer_step, few_after}
 use Rattle.afs_volserv.proofs.server.VolServer.answer.Goals as goal

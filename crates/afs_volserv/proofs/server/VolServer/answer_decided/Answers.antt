@@ -1,8 +1,8 @@
 use Rattle.std.proofs.Common.{sym, subst}
-use Rattle.afs_volserv.specs.Deciding.{decision_of}
+use Rattle.afs_volanswers.specs.Deciding.{decision_of}
 use Rattle.afs_volserv.specs.Handling.{vol_turn_then, StepsVolumes}
 use Rattle.afs_volserv.specs.Seen.{durable_seen, vol_seen}
-use Rattle.afs_volserv.specs.declared.decided.Decided.{Decided}
+use Rattle.afs_volanswers.specs.declared.decided.Decided.{Decided}
 use Rattle.afs_volserv.proofs.server.VolServer.answer_decided.Goals as goal
 
 pub returns-in-Answers : goal.returns-in-Answers

@@ -2,7 +2,7 @@ use Rattle.std.proofs.Common.{◌≡◌, subst}
 use Rattle.afs_volrows.specs.VolRow.{verdict}
 use Rattle.afs_voldecisions.specs.Verdicts.{verdict_of}
 use Rattle.afs_volserv.specs.Seen.{durable_seen, VolMemory}
-use Rattle.afs_volserv.proofs.Judged.{coded, full_becomes, known}
+use Rattle.afs_volanswers.proofs.Judged.{coded, full_becomes, known}
 use Rattle.afs_volserv.proofs.server.VolServer.judge_full.Goals as goal
 
 pub full-requires : goal.full-requires

@@ -3,10 +3,10 @@ use Rattle.afs_volrows.specs.VolRow.{verdict, without_family}
 use Rattle.afs_volrows.proofs.VolApart.{rest_apart}
 use Rattle.afs_voldecisions.specs.Numbering.{Numbered}
 use Rattle.afs_voldecisions.specs.Verdicts.{verdict_of, CanTell}
-use Rattle.afs_volserv.specs.Deciding.{raised_decided, CanBeDone}
+use Rattle.afs_volanswers.specs.Deciding.{raised_decided, CanBeDone}
 use Rattle.afs_volserv.specs.Seen.{durable_seen, vol_seen}
-use Rattle.afs_volserv.proofs.Judged.{coded, equal_ok, raised_can, rest_known}
-use Rattle.afs_volserv.proofs.Plain.{flagged_rest}
+use Rattle.afs_volanswers.proofs.Judged.{coded, equal_ok, raised_can, rest_known}
+use Rattle.afs_volanswers.proofs.Plain.{flagged_rest}
 use Rattle.afs_volserv.proofs.server.VolServer.judge_raised.Goals as goal
 
 pub raised-requires : goal.raised-requires

@@ -2,9 +2,9 @@ use Rattle.std.proofs.Common.{◌≡◌, ℕ, sym, subst}
 use Rattle.std.specs.Prelude.{IfOk}
 use Rattle.afs_volrows.specs.VolRow.{verdict}
 use Rattle.afs_voldecisions.specs.Verdicts.{verdict_of, CanTell}
-use Rattle.afs_volserv.specs.Deciding.{same_decided, CanBeDone}
+use Rattle.afs_volanswers.specs.Deciding.{same_decided, CanBeDone}
 use Rattle.afs_volserv.specs.Seen.{durable_seen, vol_seen, VolMemory}
-use Rattle.afs_volserv.proofs.Judged.{coded, equal_ok, known, numbered, same_can}
+use Rattle.afs_volanswers.proofs.Judged.{coded, equal_ok, known, numbered, same_can}
 use Rattle.afs_volserv.proofs.server.VolServer.judge_same.Goals as goal
 
 pub same-requires : goal.same-requires

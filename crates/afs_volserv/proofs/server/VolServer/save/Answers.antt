@@ -3,7 +3,7 @@ use Rattle.afs_saving.proofs.Still.{out_of_memory}
 use Rattle.afs_volrows.specs.VolSteps.{written}
 use Rattle.afs_volserv.proofs.Taken.{wants_took}
 use Rattle.afs_volserv.proofs.Written.{can_put, planned_taken, same_prepared, serves_still, took, wanting}
-use Rattle.afs_volserv.specs.Deciding.{deed_of, full_for}
+use Rattle.afs_volanswers.specs.Deciding.{deed_of, full_for}
 use Rattle.afs_volserv.specs.Handling.{vol_turn_then}
 use Rattle.afs_volserv.specs.Seen.{durable_seen, vol_seen}
 use Rattle.afs_volserv.proofs.server.VolServer.save.Goals as goal

@@ -1,10 +1,10 @@
 use Rattle.std.proofs.Common.{◌≡◌, Some, sym, ap, subst, ◌∙◌}
 use Rattle.std.specs.Option.{option_copied}
 use Rattle.afs_volrows.specs.VolSteps.{written, VolDecision}
-use Rattle.afs_volserv.specs.Deciding.{call_in, decision_of, deed_of, full_then}
+use Rattle.afs_volanswers.specs.Deciding.{call_in, decision_of, deed_of, full_then}
 use Rattle.afs_volserv.specs.Handling.{vol_turn_then, TookVolumes}
 use Rattle.afs_volserv.specs.Seen.{durable_seen, vol_seen}
-use Rattle.afs_volserv.specs.declared.decided.Decided.{Decided}
+use Rattle.afs_volanswers.specs.declared.decided.Decided.{Decided}
 use Rattle.afs_volserv.proofs.Asked.{full_is}
 use Rattle.afs_volserv.proofs.server.VolServer.save_decided.Goals as goal
 

@@ -1,5 +1,5 @@
 use Rattle.afs_saving.proofs.Still.{out_of_memory}
-use Rattle.afs_volserv.specs.Deciding.{decision_of}
+use Rattle.afs_volanswers.specs.Deciding.{decision_of}
 use Rattle.afs_volserv.specs.Handling.{vol_turn_then}
 use Rattle.afs_volserv.specs.Seen.{durable_seen, vol_seen}
 use Rattle.afs_volserv.proofs.Taken.{none_recorded, steps_took, wants_took}

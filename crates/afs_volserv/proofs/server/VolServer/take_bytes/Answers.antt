@@ -5,16 +5,16 @@ use Rattle.afs_volserv.specs.Handling.{vol_decided, vol_decided_then, vol_turned
 use Rattle.afs_volserv.proofs.Taken.{wants_took}
 use Rattle.afs_volserv.proofs.server.VolServer.take_bytes.Goals as goal
 
-pub returns-clause-took : goal.returns-clause-took
-returns-clause-took g c =
+pub returns : goal.returns
+returns g c =
     let s = c.args.store.now in
     let k = c.args.callbacks.now in
     let old = c.args.self.now in
     subst (λ (m : Received). TookVolumes g.D.Disk (vol_decided old s m) (vol_turned_by old k s c.args.now m) old c.take.new.self k c.take.new.callbacks s c.take.new.store c.take.result)
     c.in_ok-received.ensures.value c.take.ensures
 
-pub returns-in_err-received-clause-took : goal.returns-in_err-received-clause-took
-returns-in_err-received-clause-took g c =
+pub returns-in_err-received : goal.returns-in_err-received
+returns-in_err-received g c =
     let s = c.args.store.now in
     let k = c.args.callbacks.now in
     let old = c.args.self.now in

@@ -1,4 +1,4 @@
-use Rattle.afs_volserv.specs.Deciding.{full_then}
+use Rattle.afs_volanswers.specs.Deciding.{full_then}
 use Rattle.afs_volserv.specs.Seen.{durable_seen, vol_seen}
 use Rattle.afs_volserv.proofs.server.VolServer.take_decided.Goals as goal
 

@@ -1,6 +1,0 @@
-use Rattle.std.proofs.Common.{◌≡◌, drop}
-use Rattle.afs_shape.specs.Tables.{find_row}
-use Rattle.afs_shape.proofs.tables.row_in.Given as goal
-
-abbrev pub invariant-loop-row : goal.invariant-loop-row
-invariant-loop-row g l = find_row l.opcode (drop l.row-index l.rows) ≡ find_row l.opcode l.fn.rows

@@ -1,0 +1,4 @@
+pub mod Plain
+pub mod Judged
+pub mod Listed
+pub mod Looked
