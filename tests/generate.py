@@ -4,8 +4,10 @@ The kinds of one server: `events`, one client or none, whose messages are lost, 
 and begins again; `disks`, the same with a server and a location database that crash, and whose disks stop or fail; `acts`, every act
 on a tree of directories, files and links with access lists and users; `caches`, up to 16 clients with small caches, and a clock that
 passes the ends of promises. Those of up to eight: `servers`, volumes on several of them, clients, and all these accidents at each
-node; `asks`, acts on volumes that the script doesn't have, or on copies that no volume has, and accidents of the location database.
-About one script in eight of `events`, `acts` and `asks` is spoiled in one place, so that it may be none.
+node; `asks`, acts on volumes that the script doesn't have, or on copies that no volume has, and accidents of the location database;
+`admins`, administrators beside clients, whose acts are on volumes of the script and on new ones, and all these accidents at each
+node. In `admins` no client asks for a read-only volume or a backup. About one script in eight of `events`, `acts`, `asks` and
+`admins` is spoiled in one place, so that it may be none.
 
 PROGRAM is a program that plays scripts, as the built one. It is asked how far a script goes: how many messages were sent, and
 which lines it refuses. What it prints beside that plays no part, and nothing here says what is right: tests/seeds.sh compares.
@@ -26,12 +28,15 @@ ACCESS_LISTS = [
 FIDS = [(1, 1), (2, 2), (4, 3), (3, 2), (6, 4), (8, 5)]
 READERS = ["open"] * 7 + ["list"] * 3 + ["stat"] * 4 + ["statall"] * 3 + ["readlink", "getacl", "giveup"]
 WRITERS = ["close"] * 6 + ["make", "mkdir", "rm", "mv"] * 2 + ["rmdir", "ln", "symlink", "chmod", "setacl"]
+ERRANDS = ["create", "restore", "addsite", "backup", "release", "move", "dump", "recover"] * 2 + ["addsite", "release", "move", "remove"]
+NEW_VOLUMES = ["new1", "new2", "new3"]
+LABELS = ["l1", "l2"]
 
 
 class Kind:
     """What scripts of a kind have, and how many of their acts ask for a volume that isn't there."""
 
-    def __init__(self, clients, caches, disks, trees, spoiled, servers=(1,), asks=0.02):
+    def __init__(self, clients, caches, disks, trees, spoiled, servers=(1,), asks=0.02, admins=()):
         self.clients = clients
         self.caches = caches
         self.disks = disks
@@ -39,6 +44,7 @@ class Kind:
         self.spoiled = spoiled
         self.servers = servers
         self.asks = asks
+        self.admins = admins
 
 
 KINDS = {
@@ -48,6 +54,7 @@ KINDS = {
     "caches": Kind([1, 2, 3, 4, 6, 16], [1, 2, 3, 4, 6, 8, 16, 64], True, 0.5, 0),
     "servers": Kind([1, 2, 3, 4], [64, 16, 3], True, 0.4, 0, (1, 2, 3, 4, 5, 6, 7, 8), 0.05),
     "asks": Kind([1, 1, 2, 3], [64, 3], True, 0.2, 0.125, (1, 1, 2, 3, 8), 0.5),
+    "admins": Kind([0, 1, 1, 2], [64, 3], True, 0.3, 0.125, (1, 2, 2, 3, 3, 8), 0.05, (1, 1, 2, 4)),
 }
 
 
@@ -99,6 +106,9 @@ def head(rng, kind):
     lines = ["cell 1", f"servers {servers}"]
     if clients or rng.random() < 0.5:
         lines.append(f"clients {clients}")
+    admins = rng.choice(kind.admins) if kind.admins else 0
+    if admins:
+        lines.append(f"admins {admins}")
     if rng.random() < 0.7:
         lines.append(f"cache {rng.choice(kind.caches)}")
     if kind.disks and rng.random() < 0.3:
@@ -106,7 +116,7 @@ def head(rng, kind):
     for client in range(1, clients + 1):
         if rng.random() < 0.5 * kind.trees:
             lines.append(f"user c{client} {rng.choice(['amy', 'bob', 'carol', 'guest'])}")
-    return servers, clients, lines
+    return servers, clients, admins, lines
 
 
 def tree(rng, kind, name):
@@ -181,9 +191,13 @@ class Forest:
         self.rng = rng
         self.asks = kind.asks
         self.volumes = volumes
+        self.has_copies = bool(kind.admins)
 
     def unknown(self):
         rng = self.rng
+        if self.has_copies:
+            name = rng.choice(["nosuch", "007", "%FF"])
+            return rng.choice([name, f"{name}/f0", f"@{rng.choice([0, 7, 536870911, 4294967295])}.1.1"])
         known = rng.choice(self.volumes).volume
         names = ["nosuch", f"{known}.readonly", f"{known}.backup", f"{known}.readonly.backup", ".readonly", "007", "n" * 32, "%FF"]
         number = rng.choice([0, 7, 536870911, self.volumes[-1].number + 1, 4294967295])
@@ -223,18 +237,38 @@ def act(rng, paths):
     return word if word == "giveup" else f"{word} {paths.any()}"
 
 
+def errand(rng, names, servers):
+    """An act of an administrator, mostly on a volume of the script or one that another act has made."""
+    word = rng.choice(ERRANDS)
+    name = rng.choice([*names * 4, *NEW_VOLUMES]) if rng.random() < 0.97 else "nosuch"
+    server = f"s{rng.randrange(1, servers + 1)}"
+    if word == "create":
+        return f"create {rng.choice([*NEW_VOLUMES, name])} {server} {rng.choice([1, 12, 1000])}"
+    if word == "restore":
+        return f"restore {rng.choice([*NEW_VOLUMES, name])} {server} {rng.choice(LABELS)}"
+    if word == "dump":
+        return f"dump {name} {rng.choice(LABELS)} {rng.choice([0, 0, 0, 1, 3, 10, 4294967295])}"
+    return f"{word} {name} {server}" if word in ("addsite", "move") else f"{word} {name}"
+
+
 class Nodes:
     """The nodes of a cell, and what no step asks them for."""
 
-    def __init__(self, rng, kind, servers, clients):
+    def __init__(self, rng, kind, servers, clients, admins):
         self.rng = rng
         self.has_disks = kind.disks
         self.asks = kind.asks
         self.servers = [f"s{number}" for number in range(1, servers + 1)]
         self.clients = [f"c{number}" for number in range(1, clients + 1)]
+        self.admins = [f"a{number}" for number in range(1, admins + 1)]
+        self.actors = [*self.clients, *self.admins]
 
     def client(self):
         return self.rng.choice(self.clients)
+
+    def actor(self):
+        """A node that has acts."""
+        return self.rng.choice(self.actors)
 
     def with_disk(self):
         """A server, or the location database, the oftener the more it is asked."""
@@ -249,6 +283,10 @@ class Nodes:
             client = self.client()
             events += [f"crash {client}", f"restart {client}", f"timeout {client} {self.with_disk()}",
                        f"timeout {rng.choice(self.servers)} {client}"]
+        if self.admins:
+            admin = rng.choice(self.admins)
+            events += [f"crash {admin}", f"restart {admin}", f"timeout {admin} {self.with_disk()}",
+                       f"timeout {rng.choice(self.servers)} {rng.choice(self.servers)}"]
         if self.has_disks:
             node = self.with_disk()
             events += [f"crash {node} {rng.randrange(4)}", f"restart {node}", f"stop {node} {rng.randrange(6)} {rng.randrange(4)}",
@@ -258,10 +296,11 @@ class Nodes:
     def timeout(self, called):
         """A call that may wait: mostly the last one of its node."""
         rng = self.rng
-        caller = rng.choice([*self.clients, *self.servers])
+        caller = rng.choice([*self.actors, *self.servers])
         if caller in called and rng.random() < 0.8:
             return f"timeout {caller} {called[caller]}"
-        return rng.choice([f"timeout {self.client()} {self.with_disk()}", f"timeout {rng.choice(self.servers)} {self.client()}"])
+        asked = self.client() if self.clients else rng.choice(self.servers)
+        return rng.choice([f"timeout {self.actor()} {self.with_disk()}", f"timeout {rng.choice(self.servers)} {asked}"])
 
 
 def schedule(rng, kind, nodes, script):
@@ -269,7 +308,7 @@ def schedule(rng, kind, nodes, script):
     named = set()
     wild = rng.choice([0, 0.02, 0.1, 0.3])
     lost = rng.choice([0, 0.05, 0.3])
-    for step in range(rng.choice([20, 60, 150, 300])):
+    for step in range(rng.choice([150, 300, 600]) if nodes.admins else rng.choice([20, 60, 150, 300])):
         if step % 3 == 0:
             script.look()
         flying = [place for place in range(1, script.sent + 1) if place not in named]
@@ -285,19 +324,19 @@ def schedule(rng, kind, nodes, script):
             place = 1 + rng.randrange(script.sent)
             named.add(place)
             script.events.append(f"deliver {place}")
-        elif chance < 0.9 and nodes.clients:
-            script.events.append(f"act {nodes.client()}")
-        elif chance < 0.94 and nodes.clients:
+        elif chance < (0.82 if nodes.admins else 0.9) and nodes.actors:
+            script.events.append(f"act {nodes.actor()}")
+        elif chance < 0.94 and nodes.actors:
             script.events.append(nodes.timeout(script.called))
         elif chance < 0.97 and script.down:
             script.events.append(f"restart {rng.choice(sorted(script.down))}")
-        elif chance < 0.98:
+        elif chance < (0.995 if nodes.admins else 0.98):
             script.events.append("drain")
             script.look()
             named.update(range(1, script.sent + 1))
     if rng.random() < 0.6:
         ends = ["loc", *nodes.servers] if kind.disks else []
-        script.events += [f"restart {node}" for node in [*ends, *nodes.clients]] + ["drain"]
+        script.events += [f"restart {node}" for node in [*ends, *nodes.actors]] + ["drain"]
 
 
 def spoil(rng, text):
@@ -326,13 +365,18 @@ def spoil(rng, text):
 def make(name, seed, program):
     kind = KINDS[name]
     rng = random.Random(f"{name} {seed}")
-    servers, clients, lines = head(rng, kind)
+    servers, clients, admins, lines = head(rng, kind)
     more, volumes = trees(rng, kind, servers)
+    names = [volume.volume for volume in volumes]
+    if admins:
+        volumes += [Paths(rng, name, volumes[0].number, [], []) for name in NEW_VOLUMES]
     paths = Forest(rng, kind, volumes)
-    nodes = Nodes(rng, kind, servers, clients)
+    nodes = Nodes(rng, kind, servers, clients, admins)
     tasks = []
     if clients:
         tasks = [f"do {nodes.client()} {act(rng, paths)}" for _ in range(rng.choice([3, 10, 30, 60]))]
+    if admins:
+        tasks += [f"do {rng.choice(nodes.admins)} {errand(rng, names, servers)}" for _ in range(rng.choice([3, 6, 12, 24]))]
     script = Script(program, [*lines, *more, *tasks])
     script.clean()
     schedule(rng, kind, nodes, script)

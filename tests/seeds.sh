@@ -2,12 +2,12 @@
 # Compares made scripts, played by the built program and by a reference program: tests/seeds.sh REFERENCE COUNT [FIRST [KIND..]].
 # REFERENCE is a command that plays a script as the program does, as 'python3 FOLDER/afscell.py'; COUNT scripts of each kind are
 # made by tests/generate.py, with the seeds from FIRST, or 1, on. Each is played without and with --wire; output, status and the
-# line on standard error have to be the same. Every tenth script of `disks`, `servers` and `asks` is played over disks in a folder
+# line on standard error have to be the same. Every tenth script of `disks`, `servers`, `asks` and `admins` is played over disks in a folder
 # besides, by both, and the disks of the location database and of each server have to have the same bytes then. A reference program
 # that reads a copy of a disk at the end leaves there what a record has written whose second or third device call failed or was
 # stopped, where this one cuts it: such a script differs in that disk alone.
-# It is no part of the gate: the reference program isn't in the repository. One that plays more than this program, as lines of
-# administrators, may differ in a spoiled script that has such a line, and in nothing else.
+# It is no part of the gate: the reference program isn't in the repository. One that plays more than this program, as clients that
+# read read-only volumes, may differ in a spoiled script that asks for such, and in nothing else.
 # The program is the one that ./afscell or the gate built; AFSCELL names another one.
 set -eu
 
@@ -16,7 +16,7 @@ program=${AFSCELL:-crates/afs_top/out/afs_top}
 reference=$1
 count=$2
 first=${3:-1}
-if [ $# -gt 3 ]; then shift 3; kinds=$*; else kinds='events disks acts caches servers asks'; fi
+if [ $# -gt 3 ]; then shift 3; kinds=$*; else kinds='events disks acts caches servers asks admins'; fi
 
 work=$(mktemp -d)
 trap 'rm -rf "$work"' EXIT
@@ -71,7 +71,7 @@ for kind in $kinds; do
         else equal=$((equal + 1)); fi
         if [ "$(cat "$work/want.status")" != 0 ]; then none=$((none + 1)); fi
         case $kind,$((seed % 10)) in
-        disks,0 | servers,0 | asks,0)
+        disks,0 | servers,0 | asks,0 | admins,0)
             disks=$((disks + 1))
             agree_on_disks || differ 'over disks in a folder'
             ;;

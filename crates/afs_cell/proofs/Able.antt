@@ -4,6 +4,7 @@ use Rattle.afs_num.specs.declared.types.Node.TheVariants.{Server}
 use Rattle.afs_history.specs.declared.scripts.Script.{Script}
 use Rattle.afs_host.specs.declared.seats.Seat.TheVariants.{Down, Up}
 use Rattle.afs_cell.specs.SeatSteps.{CanStep, IsSeatOf}
+use Rattle.afs_admins.specs.Ready.{AllReadyAdmins}
 use Rattle.afs_clients.specs.Ready.{AllReady}
 use Rattle.afs_cell.specs.DatabaseSteps.{LocCanStep}
 use Rattle.afs_cell.specs.Ready.{AllCanStep, CanTakeAtLoc}
@@ -47,6 +48,17 @@ all_ready {D} limit s w safe going few n seat found =
     record {
       handed = ready.handed;
       number = (within.0, omega (arith, within.1, safe.client_count, safe.cell_script.clients));
+      last = omega (arith, ready.last, few);
+      epoch = omega (arith, ready.epoch, few);
+    }
+
+pub admins_ready : {D : Type 0} (limit : D → ℕ) (s : Script) (w : WorldState D) → IsSafe limit s w → w.is_lost ≡ false → length w.history < most_entries → AllReadyAdmins s w.admins
+admins_ready {D} limit s w safe going few n seat found =
+    let within = place_within w.admins n seat found in
+    let ready = safe.admins going n seat found in
+    record {
+      seated = ready.seated;
+      number = (within.0, omega (arith, within.1, safe.admin_count, safe.cell_script.admins));
       last = omega (arith, ready.last, few);
       epoch = omega (arith, ready.epoch, few);
     }

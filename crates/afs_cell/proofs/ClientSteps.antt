@@ -7,7 +7,7 @@ use Rattle.afs_num.specs.declared.histories.Actor.TheVariants as actors
 use Rattle.afs_num.specs.declared.messages.Message.{Message}
 use Rattle.afs_num.specs.declared.messages.Received.TheVariants.{Whole}
 use Rattle.afs_num.specs.declared.types.Node.{Node}
-use Rattle.afs_num.specs.declared.types.Node.TheVariants.{Client, Server}
+use Rattle.afs_num.specs.declared.types.Node.TheVariants.{Admin, Client, Server}
 use Rattle.afs_num.specs.declared.types.Parcel.{Parcel}
 use Rattle.afs_history.specs.declared.acts.Act.{Act}
 use Rattle.afs_history.specs.declared.scripts.Task.{Task}
@@ -24,6 +24,7 @@ use Rattle.afs_rows.specs.Going.{ClientState, Going, Seek}
 use Rattle.afs_rows.specs.Runs.{begins, client_starts, client_stops, gives, has_client, message_at, nothing, locations, waits, Entry, Input}
 use Rattle.afs_runs.specs.NodeRuns.{bare_entry, begun_by, client_falls, client_moves, client_rises, given_at, given_to, is_away, node_moved, sought_for, turned, usual, usually_moved, voided, waited_by, CellInput, NodeCell, NodeMoved}
 use Rattle.afs_rows.specs.LocSteps.{LocHost}
+use Rattle.afs_adminrows.specs.AdminRow.{AdminState}
 use Rattle.afs_volrows.specs.NodeHosts.{NodeHost}
 use Rattle.afs_rows.specs.Hosts.{steady}
 use Rattle.afs_rows.specs.Steps.{Step}
@@ -36,6 +37,7 @@ use Rattle.afs_cell.specs.Worlds.{falls, IsClient, WorldState}
 use Rattle.afs_host.specs.LocSeated.{IsLocHost}
 use Rattle.afs_host.specs.Seated.{IsHost}
 use Rattle.afs_clients.specs.declared.clients.ClientSeat.{ClientSeat}
+use Rattle.afs_admins.specs.declared.admins.AdminSeat.{AdminSeat}
 use Rattle.afs_clients.specs.declared.happening.ClientInput.{ClientInput}
 use Rattle.afs_clients.specs.declared.happening.ClientInput.TheVariants as client
 use Rattle.afs_cell.proofs.Counts.{counts_still}
@@ -64,16 +66,18 @@ pub record CellMoved (c : NodeCell) (n : ℕ) (m : NodeMoved) (state : ClientSta
   pub clock : m.cell.clock ≡ c.clock
   pub handed : m.cell.handed ≡ c.handed
   pub admin_count : m.cell.admin_count ≡ c.admin_count
+  pub admins : m.cell.admins ≡ c.admins
+  pub gone : m.cell.gone ≡ c.gone
   pub sent : m.cell.sent ≡ c.sent ++ ms
   pub state_here : m.cell.clients n ≡ state
   pub away_here : m.cell.away n ≡ away
   pub state_there : (j : ℕ) → nat_eq n j ≡ false → m.cell.clients j ≡ c.clients j
   pub away_there : (j : ℕ) → nat_eq n j ≡ false → m.cell.away j ≡ c.away j
 
-put_here : {A : Type 0} (n : ℕ) (x : A) (h : ℕ → A) → put n x h n ≡ x
+pub put_here : {A : Type 0} (n : ℕ) (x : A) (h : ℕ → A) → put n x h n ≡ x
 put_here n x h = ap (λ (b : Bool). cond b x (h n)) (eq-eqb n n refl)
 
-put_there : {A : Type 0} (n : ℕ) (x : A) (h : ℕ → A) (j : ℕ) → nat_eq n j ≡ false → put n x h j ≡ h j
+pub put_there : {A : Type 0} (n : ℕ) (x : A) (h : ℕ → A) (j : ℕ) → nat_eq n j ≡ false → put n x h j ≡ h j
 put_there n x h j e = ap (λ (b : Bool). cond b x (h j)) e
 
 moves_so : (c : NodeCell) (n : ℕ) (s : Step ClientState) → CellMoved c n (client_moves c n s) s.state (c.away n) s.lines s.sent
@@ -86,6 +90,8 @@ moves_so c n s = record {
   clock = refl;
   handed = refl;
   admin_count = refl;
+  admins = refl;
+  gone = refl;
   sent = refl;
   state_here = put_here n s.state c.clients;
   away_here = refl;
@@ -103,6 +109,8 @@ turns_so c n away s = record {
   clock = refl;
   handed = refl;
   admin_count = refl;
+  admins = refl;
+  gone = refl;
   sent = refl;
   state_here = put_here n s.state c.clients;
   away_here = put_here n away c.away;
@@ -123,6 +131,7 @@ pub record ClientLinked (is : CellInput → Type 0) (t : Turn) (n : ℕ) (now : 
   pub read : parcels_read outs.parcels ≡ messages_spelled ms
   pub plan : left_by input t.left (Client n) ≡ now.plan
   pub plans : (j : ℕ) → nat_eq n j ≡ false → left_by input t.left (Client j) ≡ t.left (Client j)
+  pub orders : (j : ℕ) → left_by input t.left (Admin j) ≡ t.left (Admin j)
   pub harmless : falls input ≡ 0
 
 module _ {D : Type 0} (seen : D → Option (List ℕ)) (may_leave : D → List ℕ → Type 0) (faults limit : D → ℕ) where
@@ -144,10 +153,14 @@ module _ {D : Type 0} (seen : D → Option (List ℕ)) (may_leave : D → List �
       clock = link.moves.clock ∙ at.cell.clock;
       handed = link.moves.handed ∙ at.cell.handed;
       admin_count = link.moves.admin_count ∙ at.cell.admin_count;
+      admins = λ j z here.
+          let h = at.cell.admins j z here in
+          record { state_is = h.state_is ∙ sym (ap (λ (f : ℕ → AdminState). f j) link.moves.admins); gone_is = h.gone_is ∙ sym (ap (λ (f : ℕ → Bool). f j) link.moves.gone) };
     };
     acts =
         each_put (λ (j : ℕ) (z : ClientSeat). t.left (Client j) ≡ z.plan) (λ (j : ℕ) (z : ClientSeat). left_by link.input t.left (Client j) ≡ z.plan) n now was w.clients found at.acts
         (λ j z apart h. link.plans j apart ∙ h) link.plan;
+    orders = λ j z here. link.orders j ∙ at.orders j z here;
   }
 
   pub client_plays : (is : CellInput → Type 0) (t : Turn) (w : WorldState D) (n : ℕ) (was now : ClientSeat) (front : List Line) (outs : Outs) → sent_by w.history ≡ length w.wire → at_place w.clients n ≡ Some was
@@ -168,13 +181,13 @@ module _ {D : Type 0} (seen : D → Option (List ℕ)) (may_leave : D → List �
 up_here : (c : NodeCell) (n : ℕ) → has_client c.count n ≡ true → c.away n ≡ false → is_away c n ≡ false
 up_here c n has up = ap₂ (λ (a b : Bool). not a || b) has up
 
-unless : {A : Type 0} (b : Bool) (x y : A) → b ≡ false → cond b x y ≡ y
+pub unless : {A : Type 0} (b : Bool) (x y : A) → b ≡ false → cond b x y ≡ y
 unless b x y e = ap (λ (a : Bool). cond a x y) e
 
 -- a step that leaves the client up, and its acts but for those that the input takes
 makes_linked : (is : CellInput → Type 0) (t : Turn) (n : ℕ) (x : CellInput) (was now : ClientSeat) (front : List Line) (outs : Outs) (s : Step ClientState) → is x → node_moved t.cell x ≡ client_moves t.cell n s → IsClient was (t.cell.clients n) (t.cell.away n)
-    → ClientMakes front s was now outs → left_by x t.left (Client n) ≡ now.plan → ((j : ℕ) → nat_eq n j ≡ false → left_by x t.left (Client j) ≡ t.left (Client j)) → falls x ≡ 0 → ClientLinked is t n now front outs
-makes_linked is t n x was now front outs s one moves here makes plan plans harmless = record {
+    → ClientMakes front s was now outs → left_by x t.left (Client n) ≡ now.plan → ((j : ℕ) → nat_eq n j ≡ false → left_by x t.left (Client j) ≡ t.left (Client j)) → ((j : ℕ) → left_by x t.left (Admin j) ≡ t.left (Admin j)) → falls x ≡ 0 → ClientLinked is t n now front outs
+makes_linked is t n x was now front outs s one moves here makes plan plans orders harmless = record {
   input = x;
   is_one = one;
   away = false;
@@ -188,6 +201,7 @@ makes_linked is t n x was now front outs s one moves here makes plan plans harml
   read = makes.sent;
   plan = plan;
   plans = plans;
+  orders = orders;
   harmless = harmless;
 }
 
@@ -241,7 +255,7 @@ module _ {D : Type 0} (seen : D → Option (List ℕ)) (may_leave : D → List �
       makes_linked (IsInput t (events.Act (Client n))) t n (usual (begins n h.act)) was now [] outs (begin_row (Client n) (t.cell.clients n) t.cell.clock h.act)
       (sym (ap (λ (x : Input). usual x) (ap (act_input t.cell n) next ∙ begins_so t.cell n h.act up idle))) (moved_begun t.cell n h.act up idle) here
       (subst (λ (c : ClientState). ClientMakes [] (begin_row (Client n) c t.cell.clock h.act) was now outs) here.state_is h.makes)
-      (put_here n (drop 1 (t.left (Client n))) (λ (j : ℕ). t.left (Client j)) ∙ (ap (λ (ts : List Task). drop 1 ts) plan ∙ sym h.plan)) (λ j e. put_there n (drop 1 (t.left (Client n))) (λ (k : ℕ). t.left (Client k)) j e) refl
+      (put_here n (drop 1 (t.left (Client n))) (λ (j : ℕ). t.left (Client j)) ∙ (ap (λ (ts : List Task). drop 1 ts) plan ∙ sym h.plan)) (λ j e. put_there n (drop 1 (t.left (Client n))) (λ (k : ℕ). t.left (Client k)) j e) (λ j. refl) refl
 
   pub link_timed_out : (callee : Node) → HasTimedOut n callee was now outs → ClientLinked (IsInput t (events.Timeout (Client n) callee)) t n now [] outs
   link_timed_out callee h =
@@ -251,7 +265,7 @@ module _ {D : Type 0} (seen : D → Option (List ℕ)) (may_leave : D → List �
       makes_linked (IsInput t (events.Timeout (Client n) callee)) t n (usual (waits n)) was now [] outs (times_out (Client n) (t.cell.clients n) (t.cell.clients n).running)
       (sym (ap (λ (b : Bool). usual (if b then waits n else nothing)) same)) (moved_waited t.cell n h.act up runs) here
       (subst (λ (c : ClientState). ClientMakes [] (times_out (Client n) c c.running) was now outs) here.state_is h.makes)
-      (at.acts n was found ∙ sym h.plan) (λ j e. refl) refl
+      (at.acts n was found ∙ sym h.plan) (λ j e. refl) (λ j. refl) refl
 
   pub link_heard : (place : ℕ) (p : Parcel) → at_place w.wire place ≡ Some p → p.head.to ≡ Client n → ClientHears n t.cell.clock place p.bytes was now outs
       → ClientLinked (IsInput t (events.Deliver place)) t n now (lines.Given place ∷ []) outs
@@ -261,7 +275,7 @@ module _ {D : Type 0} (seen : D → Option (List ℕ)) (may_leave : D → List �
       makes_linked (IsInput t (events.Deliver place)) t n (usual (gives place steady)) was now (lines.Given place ∷ []) outs (guest_row (Client n) (t.cell.clients n) t.cell.clock place (Whole f.message))
       (steady, (refl, tt)) (moved_heard t.cell n place f.message f.at (sym (ap (λ x. x.to) f.carries.head) ∙ to) (is_up makes.up)) here
       (subst (λ (c : ClientState). ClientMakes (lines.Given place ∷ []) (guest_row (Client n) c t.cell.clock place (Whole f.message)) was now outs) here.state_is makes)
-      (at.acts n was found ∙ sym h.plan) (λ j e. refl) refl
+      (at.acts n was found ∙ sym h.plan) (λ j e. refl) (λ j. refl) refl
 
   nothing_sent : outs.parcels ≡ [] → parcels_read outs.parcels ≡ messages_spelled []
   nothing_sent e = ap parcels_read e
@@ -281,6 +295,7 @@ module _ {D : Type 0} (seen : D → Option (List ℕ)) (may_leave : D → List �
     read = nothing_sent h.tells.sent;
     plan = at.acts n was found ∙ sym h.plan;
     plans = λ j e. refl;
+    orders = λ j. refl;
     harmless = refl;
   }
 
@@ -300,12 +315,13 @@ module _ {D : Type 0} (seen : D → Option (List ℕ)) (may_leave : D → List �
     read = nothing_sent h.tells.sent;
     plan = at.acts n was found ∙ sym h.plan;
     plans = λ j e. refl;
+    orders = λ j. refl;
     harmless = refl;
   }
 
 -- ---- void
 
-or_true : (a b : Bool) → b ≡ true → a || b ≡ true
+pub or_true : (a b : Bool) → b ≡ true → a || b ≡ true
 or_true true b e = refl
 or_true false b e = e
 

@@ -27,7 +27,7 @@ use Rattle.afs_cell.proofs.ClientSteps.{after_client, client_plays, link_begun, 
 use Rattle.afs_cell.proofs.Links.{message_found, Voided}
 use Rattle.afs_clients.proofs.Numbers.{each_put, length_put, no_client, put_same}
 use Rattle.afs_cell.proofs.Parcels.{sent_by-push}
-use Rattle.afs_cell.proofs.Settled.{client_more, loc_ready_longer, nothing_changes, nothing_happens, one_longer, servers_more, ReadyClients}
+use Rattle.afs_cell.proofs.Settled.{admins_more, client_more, loc_ready_longer, nothing_changes, nothing_happens, one_longer, servers_more, ReadyClients}
 
 -- the world with these clients
 abbrev pub with_clients : {D : Type 0} → WorldState D → List ClientSeat → WorldState D
@@ -61,6 +61,7 @@ module _ {D : Type 0} (seen : D → Option (List ℕ)) (may_leave : D → List �
         subst (λ (k : ℕ). ReadyClients s k (put_place n now w.clients)) (sym (one_longer w.history (entry_of (Client n) (front ++ outs.lines) (length outs.parcels))))
         (each_put (λ (j : ℕ) (z : ClientSeat). IsReadyClient s j (length w.history) z) (λ (j : ℕ) (z : ClientSeat). IsReadyClient s j (length w.history + 1) z) n now was w.clients found (safe.clients going)
         (λ j z apart. client_more s j (length w.history) z) (client_ready s n (length w.history) was now (happened.Step outs) goes (safe.clients going n was found)));
+    admins = λ still. admins_more s w.history (entry_of (Client n) (front ++ outs.lines) (length outs.parcels)) w.admins (safe.admins going);
     disks = safe.disks;
     sent =
         let more = sent_by-push w.history (entry_of (Client n) (front ++ outs.lines) (length outs.parcels)) in
@@ -97,6 +98,7 @@ module _ {D : Type 0} (seen : D → Option (List ℕ)) (may_leave : D → List �
       database = λ going. absurd (true_false going);
       servers = λ going. absurd (true_false going);
       clients = λ going. absurd (true_false going);
+      admins = λ going. absurd (true_false going);
       disks = safe.disks;
       sent = safe.sent;
       entries = safe.entries;

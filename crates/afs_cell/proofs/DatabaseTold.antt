@@ -66,7 +66,7 @@ module _ {D : Type 0} (seen : D → Option (List ℕ)) (may_leave : D → List �
     database_keeps seen may_leave faults limit s w now takes.keeps,
     (
       record { database = takes.goes (length w.history) (safe.database going); servers = safe.servers going },
-      λ c cell. record { loc = takes.happens c.loc cell.loc; host_count = cell.host_count; hosts = cell.hosts; count = cell.count; clients = cell.clients; sent = cell.sent; clock = cell.clock; handed = cell.handed; admin_count = cell.admin_count },
+      λ c cell. record { loc = takes.happens c.loc cell.loc; host_count = cell.host_count; hosts = cell.hosts; count = cell.count; clients = cell.clients; sent = cell.sent; clock = cell.clock; handed = cell.handed; admin_count = cell.admin_count; admins = cell.admins },
     ),
   )
   takes_leaves now happened.Lost safe going takes voids links = database_keeps seen may_leave faults limit s w now takes.keeps

@@ -19,7 +19,7 @@ use Rattle.afs_runs.specs.NodeRuns.{CellInput, NodeCell}
 use Rattle.afs_text.specs.FinalText.{final_text}
 use Rattle.afs_text.specs.HistoryText.{history_text, text}
 use Rattle.afs_text.specs.KeptText.{kept_history_text}
-use Rattle.afs_text.specs.Telling.{told, AreRead}
+use Rattle.afs_text.specs.Telling.{told}
 use Rattle.afs_text.proofs.Kept.{history_told}
 use Rattle.afs_volstore.specs.Stores.{Store}
 use Rattle.afs_cell.specs.Lends as ends
@@ -41,6 +41,7 @@ use Rattle.afs_lending.specs.Parts.{lend_status, returned, TellsLeft}
 use Rattle.afs_cell.specs.Replays.{lends_of, no_other, one_other, AreAllBut, AreOfNodes, AtBankFault, EndsReplay, EndsRun, GivesBack, GivesBackLent, GivesBackThose, HasDisk, IsFew, IsFull, IsLegalRun, IsServerOf, LendingLeaves, MissedByTheBank, NoneIsMissing, NotToItsEnd, ReadingFails, Replays, ReplaysFirst, ReplaysSome, ReplaysUnread, SetUpLeaves, SomeOfIt, ToItsEnd, WritesEntries, WritesRun}
 use Rattle.afs_command.specs.declared.statuses.Status.{Status}
 use Rattle.afs_command.specs.declared.statuses.Status.TheVariants as statuses
+use Rattle.afs_cell.proofs.Bare.{bare_history, told_length}
 use Rattle.afs_cell.proofs.LentCounts.{all_but_one, all_counted, counts_lent, failed_among, failed_at, none_of, none_rose, one_disk_failed, one_rose, rose_at, rose_once, AreCounted, IsAmong, OneFailed}
 use Rattle.afs_cell.proofs.RunEnds.{found_come, found_count, given_so, left_so, legal_run, length_told, lent_come, lent_length, no_others, read_so, Missing, RunLaws}
 
@@ -89,13 +90,15 @@ abbrev Part : {D : Type 0} → (D → Option (List ℕ)) → (D → List ℕ →
 Part {D} seen may_leave faults limit s w = AllTell seen w × HasPlayedSome seen may_leave faults limit s w
 
 -- the text of its history
-written_told : {D : Type 0} (seen : D → Option (List ℕ)) (may_leave : D → List ℕ → Type 0) (faults limit : D → ℕ) (s : Script) (w : WorldState D) (wire : Bool) (o : Outside) → IsWorld seen may_leave faults limit s w → AreRead w.wire → Writes o (kept_history_text wire w.wire w.history) → Writes o (history_text wire (told w.wire w.history))
-written_told {D} seen may_leave faults limit s w wire o is read written = subst (λ (t : List ℕ). Writes o t) (history_told wire w.wire w.history read is.safe.sent) written
+written_told : {D : Type 0} (seen : D → Option (List ℕ)) (may_leave : D → List ℕ → Type 0) (faults limit : D → ℕ) (s : Script) (w : WorldState D) (wire : Bool) (o : Outside) (inputs : List CellInput) (end : NodeCell) → IsWorld seen may_leave faults limit s w → (runs : Runs seen may_leave faults limit s w inputs end) → Writes o (kept_history_text wire w.wire w.history) → Writes o (history_text wire runs.history)
+written_told {D} seen may_leave faults limit s w wire o inputs end is runs written =
+    subst (λ (t : List ℕ). Writes o t) (history_told wire w.wire w.history runs.read is.safe.sent ∙ bare_history wire runs.history (told w.wire w.history) runs.tells) written
 
-whole_text : {D : Type 0} (seen : D → Option (List ℕ)) (may_leave : D → List ℕ → Type 0) (faults limit : D → ℕ) (s : Script) (w : WorldState D) (fs : List (Left (Store D) D)) (wire : Bool) → IsWorld seen may_leave faults limit s w → AreRead w.wire →
-    kept_history_text wire w.wire w.history ++ final_text (map part fs) ≡ text wire (told w.wire w.history) (map part fs)
+whole_text : {D : Type 0} (seen : D → Option (List ℕ)) (may_leave : D → List ℕ → Type 0) (faults limit : D → ℕ) (s : Script) (w : WorldState D) (fs : List (Left (Store D) D)) (wire : Bool) (inputs : List CellInput) (end : NodeCell) → IsWorld seen may_leave faults limit s w → (runs : Runs seen may_leave faults limit s w inputs end) →
+    kept_history_text wire w.wire w.history ++ final_text (map part fs) ≡ text wire runs.history (map part fs)
 unfolding text
-whole_text {D} seen may_leave faults limit s w fs wire is read = ap (λ (t : List ℕ). t ++ final_text (map part fs)) (history_told wire w.wire w.history read is.safe.sent)
+whole_text {D} seen may_leave faults limit s w fs wire inputs end is runs =
+    ap (λ (t : List ℕ). t ++ final_text (map part fs)) (history_told wire w.wire w.history runs.read is.safe.sent ∙ bare_history wire runs.history (told w.wire w.history) runs.tells)
 
 -- that of its entries, whatever the disks tell
 pub entries_of : {D : Type 0} (seen : D → Option (List ℕ)) (may_leave : D → List ℕ → Type 0) (faults limit : D → ℕ) (s : Script) (w : WorldState D) (IsSoMany : ℕ → Type 0) (wire : Bool) (o : Outside) → IsWorld seen may_leave faults limit s w → IsSoMany (length w.history) → Writes o (kept_history_text wire w.wire w.history) → WritesEntries IsSoMany wire o
@@ -150,14 +153,14 @@ replays {D} seen may_leave faults limit s w fs wire Writes MayBeMissing o is fou
     let cell = p.1.runs.cell_is is.going in
     let so = read_so seen may_leave faults limit w p.1.cell fs cell p.0 (is.standing p.0 p.1.cell cell) found none in
     record {
-      history = told w.wire w.history;
+      history = p.1.runs.history;
       end = p.1.cell;
-      run = legal_run seen may_leave faults limit is.law (ToItsEnd s) no_other s w o.disk_faults is.in_cell is.world.safe.admin_count is.world.safe.entries p.1 (found_rose seen may_leave faults limit s w p.1.inputs p.1.cell fs o is.world p.1.runs found back);
+      run = legal_run seen may_leave faults limit is.law (ToItsEnd s) no_other s w o.disk_faults is.in_cell is.world.safe.entries p.1 (found_rose seen may_leave faults limit s w p.1.inputs p.1.cell fs o is.world p.1.runs found back);
       kept = map part fs;
       keep = so.keep;
       loc = so.loc;
       keep_loc = so.keep_loc;
-      written = subst Writes (whole_text seen may_leave faults limit s w fs wire is.world p.1.runs.read) written;
+      written = subst Writes (whole_text seen may_leave faults limit s w fs wire p.1.inputs p.1.cell is.world p.1.runs) written;
       given = given_so MayBeMissing seen p.1.cell (map part fs) (all_kept (loc_seat_disk w.database) fs) o.given.before o.given.after so missing;
     }
 
@@ -175,12 +178,12 @@ reading_fails {D} seen may_leave faults limit s w fs wire o is found failed writ
       rose = one_rose (failed_at 1 fs) (o.disk_faults (failed_at 1 fs)) (rose_by seen faults (λ (j : ℕ). 0 + one_other (failed_at 1 fs) j) s (all_kept (loc_seat_disk w.database) fs) o back count (all_but_one seen faults limit (λ (j : ℕ). 0) (loc_seat_disk w.database) (lent_from 1 w.servers) fs found failed (none_of faults w)) (failed_at 1 fs) has.1);
       written = entries_of seen may_leave faults limit s w IsFew wire o is.world is.world.safe.entries written;
       told = λ p. record {
-        history = told w.wire w.history;
+        history = p.1.runs.history;
         end = p.1.cell;
-        run = legal_run seen may_leave faults limit is.law (ToItsEnd s) (one_other (failed_at 1 fs)) s w o.disk_faults is.in_cell is.world.safe.admin_count is.world.safe.entries p.1
+        run = legal_run seen may_leave faults limit is.law (ToItsEnd s) (one_other (failed_at 1 fs)) s w o.disk_faults is.in_cell is.world.safe.entries p.1
             (rose_by seen faults (λ (j : ℕ). own_falls j p.1.inputs (told w.wire w.history) + one_other (failed_at 1 fs) j) s (all_kept (loc_seat_disk w.database) fs) o back count
             (all_but_one seen faults limit (λ (j : ℕ). own_falls j p.1.inputs (told w.wire w.history)) (loc_seat_disk w.database) (lent_from 1 w.servers) fs found failed (counts_lent faults (λ (j : ℕ). own_falls j p.1.inputs (told w.wire w.history)) w p.1.runs.counts)));
-        written = written_told seen may_leave faults limit s w wire o is.world p.1.runs.read written;
+        written = written_told seen may_leave faults limit s w wire o p.1.inputs p.1.cell is.world p.1.runs written;
         given = found_come (MissedByTheBank o) seen faults limit s.servers w fs o.given.before o.given.after is.world.safe.server_count p.0 found (missed seen faults (all_kept (loc_seat_disk w.database) fs) o back);
       };
     }
@@ -191,10 +194,10 @@ reading_stops : {D : Type 0} (seen : D → Option (List ℕ)) (may_leave : D →
 reading_stops {D} seen may_leave faults limit s w fs wire o is found written back p =
     let some : HasPlayedSome seen may_leave faults limit s w = record { inputs = p.1.inputs; cell = p.1.cell; runs = p.1.runs; played = inl p.1.played } in
     record {
-      history = told w.wire w.history;
+      history = p.1.runs.history;
       end = p.1.cell;
-      run = legal_run seen may_leave faults limit is.law (SomeOfIt s) no_other s w o.disk_faults is.in_cell is.world.safe.admin_count is.world.safe.entries some (found_rose seen may_leave faults limit s w p.1.inputs p.1.cell fs o is.world p.1.runs found back);
-      written = written_told seen may_leave faults limit s w wire o is.world p.1.runs.read written;
+      run = legal_run seen may_leave faults limit is.law (SomeOfIt s) no_other s w o.disk_faults is.in_cell is.world.safe.entries some (found_rose seen may_leave faults limit s w p.1.inputs p.1.cell fs o is.world p.1.runs found back);
+      written = written_told seen may_leave faults limit s w wire o p.1.inputs p.1.cell is.world p.1.runs written;
       given = found_come (MissedByTheBank o) seen faults limit s.servers w fs o.given.before o.given.after is.world.safe.server_count p.0 found (missed seen faults (all_kept (loc_seat_disk w.database) fs) o back);
     }
 
@@ -238,10 +241,10 @@ pub record HasStopped {D : Type 0} (seen : D → Option (List ℕ)) (may_leave :
 pub stopped : {D : Type 0} (seen : D → Option (List ℕ)) (may_leave : D → List ℕ → Type 0) (faults limit : D → ℕ) (s : Script) (w : WorldState D) (wire : Bool) (o : Outside)
     → HasStopped seen may_leave faults limit s w → Writes o (kept_history_text wire w.wire w.history) → GoesBack seen faults (disks_of w) o → Part seen may_leave faults limit s w → ReplaysSome s wire o
 stopped {D} seen may_leave faults limit s w wire o is written back p = record {
-  history = told w.wire w.history;
+  history = p.1.runs.history;
   end = p.1.cell;
-  run = legal_run seen may_leave faults limit is.law (SomeOfIt s) no_other s w o.disk_faults is.in_cell is.world.safe.admin_count is.world.safe.entries p.1 (lent_rose seen may_leave faults limit s w p.1.inputs p.1.cell o is.world p.1.runs back);
-  written = written_told seen may_leave faults limit s w wire o is.world p.1.runs.read written;
+  run = legal_run seen may_leave faults limit is.law (SomeOfIt s) no_other s w o.disk_faults is.in_cell is.world.safe.entries p.1 (lent_rose seen may_leave faults limit s w p.1.inputs p.1.cell o is.world p.1.runs back);
+  written = written_told seen may_leave faults limit s w wire o p.1.inputs p.1.cell is.world p.1.runs written;
   given = lent_come (MissedByTheBank o) seen s.servers w o.given.before o.given.after is.world.safe.server_count p.0 (missed seen faults (disks_of w) o back);
 }
 
@@ -259,15 +262,15 @@ was_cut {D} seen may_leave faults limit s w wire o is full written back = record
       let cell = p.1.0.runs.cell_is is.going in
       let left = left_so seen may_leave limit w p.1.0.cell cell p.0 (is.standing p.0 p.1.0.cell cell) in
       record {
-        history = told w.wire w.history;
+        history = p.1.0.runs.history;
         end = p.1.0.cell;
-        run = legal_run seen may_leave faults limit is.law (NotToItsEnd s) no_other s w o.disk_faults is.in_cell is.world.safe.admin_count is.world.safe.entries p.1.0 (lent_rose seen may_leave faults limit s w p.1.0.inputs p.1.0.cell o is.world p.1.0.runs back);
-        full = length_told w.wire w.history ∙ full;
+        run = legal_run seen may_leave faults limit is.law (NotToItsEnd s) no_other s w o.disk_faults is.in_cell is.world.safe.entries p.1.0 (lent_rose seen may_leave faults limit s w p.1.0.inputs p.1.0.cell o is.world p.1.0.runs back);
+        full = sym (told_length p.1.0.runs.history (told w.wire w.history) p.1.0.runs.tells) ∙ (length_told w.wire w.history ∙ full);
         kept = left.0;
         keep = left.1.keep;
         loc = left.1.loc;
         keep_loc = left.1.keep_loc;
-        written = written_told seen may_leave faults limit s w wire o is.world p.1.0.runs.read written;
+        written = written_told seen may_leave faults limit s w wire o p.1.0.inputs p.1.0.cell is.world p.1.0.runs written;
         given = given_so (MissedByTheBank o) seen p.1.0.cell left.0 (disks_of w) o.given.before o.given.after left.1 (missed seen faults (disks_of w) o back);
       };
 }
@@ -331,6 +334,10 @@ run_as s IsSoFar others history end o earlier since run = record {
   leads = run.leads;
   so_far = run.so_far;
   few = run.few;
+  accepted = run.accepted;
+  stand = run.stand;
+  locked = run.locked;
+  located = run.located;
   legal = run.legal;
   well = run.well;
   failures = λ i has. subst (λ (x : Span ℕ). RoseBy (own_falls i run.inputs history + others i) x) (sym (since.disk_faults i)) (run.failures i has);

@@ -7,14 +7,10 @@ use Rattle.afs_history.specs.declared.scripts.Event.TheVariants as events
 use Rattle.afs_history.specs.declared.scripts.Script.{Script}
 use Rattle.afs_num.specs.Places.{at_place}
 use Rattle.afs_num.specs.declared.messages.Message.{Message}
-use Rattle.afs_num.specs.declared.messages.Received.TheVariants.{Whole}
-use Rattle.afs_num.specs.declared.types.Node.{Node}
-use Rattle.afs_num.specs.declared.types.Node.TheVariants.{Admin}
 use Rattle.afs_num.specs.declared.types.Parcel.{Parcel}
 use Rattle.afs_rows.specs.Runs.{gives, message_at, nothing, ticks}
-use Rattle.afs_runs.specs.NodeRuns.{admin_moves, given_at, given_to, is_gone, node_moved, usual, usually_moved, voided, CellInput, NodeCell}
+use Rattle.afs_runs.specs.NodeRuns.{given_at, node_moved, usual, usually_moved, voided, CellInput, NodeCell}
 use Rattle.afs_rows.specs.Hosts.{steady}
-use Rattle.afs_adminrows.specs.AdminRow.{admin_row}
 use Rattle.afs_schedule.specs.Schedules.{IsInput, Turn}
 use Rattle.afs_text.specs.Telling.{sent_by}
 use Rattle.afs_cell.specs.Happening.{NothingSettles}
@@ -22,12 +18,11 @@ use Rattle.afs_cell.specs.Steps.{IsAt, Plays, Stepped, Steps}
 use Rattle.afs_cell.specs.Worlds.{most_entries, most_ticks, AllTell, IsSafe, WorldState}
 use Rattle.afs_cell.specs.declared.faults.WorldFault.{WorldFault}
 use Rattle.afs_cell.specs.declared.faults.WorldFault.TheVariants as faulty
-use Rattle.afs_clients.proofs.Numbers.{no_client}
 use Rattle.afs_cell.proofs.ClientSteps.{moved_nothing}
 use Rattle.afs_cell.proofs.Counts.{counts_still}
-use Rattle.afs_cell.proofs.Links.{message_found, Voided}
+use Rattle.afs_cell.proofs.Links.{Voided}
 use Rattle.afs_cell.proofs.Parcels.{places_agree, sent_by-push, told-still, AtPlace}
-use Rattle.afs_cell.proofs.Settled.{clients_more, loc_ready_longer, nothing_changes, nothing_happens, one_longer, servers_more}
+use Rattle.afs_cell.proofs.Settled.{admins_more, clients_more, loc_ready_longer, nothing_changes, nothing_happens, one_longer, servers_more}
 
 -- the entry of a tick
 abbrev pub tick_entry : ℕ → kept.Entry
@@ -73,8 +68,9 @@ module _ {D : Type 0} (seen : D → Option (List ℕ)) (may_leave : D → List �
     is_one = refl;
     history = told-still w.wire w.history (tick_entry (suc k)) all refl;
     at = record {
-      cell = record { loc = at.cell.loc; host_count = at.cell.host_count; hosts = at.cell.hosts; count = at.cell.count; clients = at.cell.clients; sent = at.cell.sent; handed = at.cell.handed; admin_count = at.cell.admin_count; clock = ap (λ (c : ℕ). c + suc k) at.cell.clock };
+      cell = record { loc = at.cell.loc; host_count = at.cell.host_count; hosts = at.cell.hosts; count = at.cell.count; clients = at.cell.clients; sent = at.cell.sent; handed = at.cell.handed; admin_count = at.cell.admin_count; admins = at.cell.admins; clock = ap (λ (c : ℕ). c + suc k) at.cell.clock };
       acts = at.acts;
+      orders = at.orders;
     };
     counts = counts_still faults (usual (ticks (suc k))) (node_moved t.cell (usual (ticks (suc k)))).entry w refl;
   }
@@ -95,6 +91,7 @@ module _ {D : Type 0} (seen : D → Option (List ℕ)) (may_leave : D → List �
       database = λ still. loc_ready_longer w.history (tick_entry n) w.database (safe.database still);
       servers = λ still. servers_more w.history (tick_entry n) w.servers (safe.servers still);
       clients = λ still. clients_more s w.history (tick_entry n) w.clients (safe.clients still);
+      admins = λ still. admins_more s w.history (tick_entry n) w.admins (safe.admins still);
       disks = safe.disks;
       sent =
           let more = sent_by-push w.history (tick_entry n) in
@@ -118,17 +115,6 @@ void_none : (c : NodeCell) (place : ℕ) → message_at c.sent place ≡ None �
 unfolding usually_moved
 void_none c place e = ap (given_at c place steady) e
 
-void_to : (c : NodeCell) (place : ℕ) (m : Message) (to : Node) → message_at c.sent place ≡ Some m → m.head.to ≡ to → given_to c place steady m to ≡ voided c → node_moved c (usual (gives place steady)) ≡ voided c
-unfolding usually_moved
-void_to c place m to at is void = ap (given_at c place steady) at ∙ (ap (given_to c place steady m) is ∙ void)
-
--- the cell has no administrators
-all_gone : (c : NodeCell) (k : ℕ) → c.admin_count ≡ 0 → is_gone c k ≡ true
-all_gone c k none = ap (λ (b : Bool). not b || c.gone k) (no_client {A = ℕ} [] k c.admin_count refl none)
-
-admin_void : (c : NodeCell) (place : ℕ) (m : Message) (k : ℕ) → c.admin_count ≡ 0 → given_to c place steady m (Admin k) ≡ voided c
-admin_void c place m k none = ap (λ (b : Bool). cond b (voided c) (admin_moves c k (admin_row (Admin k) (c.admins k) place (Whole m)))) (all_gone c k none)
-
 abbrev gives_void : (t : Turn) (place : ℕ) → node_moved t.cell (usual (gives place steady)) ≡ voided t.cell → Voided (IsInput t (events.Deliver place)) t
 gives_void t place e = record { input = usual (gives place steady); is_one = (steady, (refl, tt)); moves = e; left = refl; harmless = refl }
 
@@ -138,9 +124,3 @@ module _ {D : Type 0} (seen : D → Option (List ℕ)) (may_leave : D → List �
   no_message t at e =
       gives_void t place (void_none t.cell place (none_at t.cell.sent place (at_place t.cell.sent place) refl
       (subst (λ (o : Option Parcel). AtPlace o (at_place t.cell.sent place)) e (places_agree w.wire t.cell.sent at.cell.sent place))))
-
-  -- it is to an administrator
-  pub to_admin : (t : Turn) (p : Parcel) (k : ℕ) → IsAt seen may_leave limit w t.cell t.left → at_place w.wire place ≡ Some p → p.head.to ≡ Admin k → Voided (IsInput t (events.Deliver place)) t
-  to_admin t p k at e to =
-      let f = message_found seen may_leave faults limit w t.cell place p at.cell e in
-      gives_void t place (void_to t.cell place f.message (Admin k) f.at (sym (ap (λ h. h.to) f.carries.head) ∙ to) (admin_void t.cell place f.message k at.cell.admin_count))

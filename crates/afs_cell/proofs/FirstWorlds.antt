@@ -2,13 +2,14 @@
 use Rattle.std.proofs.Common.{refl, arith, ap, ap₂, sym, subst, ◌∙◌, ◌≡◌, ◌+◌, ℕ, zero, suc, List, [], ◌∷◌, ◌++◌, length, false, Option, Some}
 use Rattle.std.specs.Prelude.{IsSome, ◌↔◌}
 use Rattle.afs_num.specs.Places.{at_place}
-use Rattle.afs_num.specs.declared.types.Node.TheVariants.{Client, Server}
+use Rattle.afs_num.specs.declared.types.Node.TheVariants.{Admin, Client, Server}
 use Rattle.afs_num.specs.declared.types.Parcel.{Parcel}
 use Rattle.afs_history.specs.declared.lines.Entry as kept
 use Rattle.afs_history.specs.declared.scripts.Script.{Script}
 use Rattle.afs_disk.specs.declared.disks.Lent.{Lent}
 use Rattle.afs_grammar.specs.CellScripts.{IsCellScript}
 use Rattle.afs_rows.specs.Going.{ClientState}
+use Rattle.afs_adminrows.specs.AdminRow.{new_admin, AdminState}
 use Rattle.afs_rows.specs.Runs.{first_client}
 use Rattle.afs_runs.specs.NodeRuns.{first_node, node_start}
 use Rattle.afs_host.specs.declared.seats.Seat.TheVariants.{Down, Up}
@@ -20,8 +21,10 @@ use Rattle.afs_cell.specs.Steps.{IsFirst}
 use Rattle.afs_cell.specs.Lends.{AreLent, LentTell}
 use Rattle.afs_host.specs.LocSeats.{DatabaseRunning}
 use Rattle.afs_host.specs.Seated.{seat_disk, IsHost, IsReadySeat, ServerSeat}
-use Rattle.afs_cell.specs.Worlds.{none_gone, AllTell, IsCell, IsClient, IsReadyClient, IsSafe, IsWorld, LetGo, WorldState}
+use Rattle.afs_cell.specs.Worlds.{none_gone, AllTell, IsAdmin, IsCell, IsClient, IsReadyAdmin, IsReadyClient, IsSafe, IsWorld, LetGo, WorldState}
 use Rattle.afs_clients.specs.declared.clients.ClientSeat.{ClientSeat}
+use Rattle.afs_admins.specs.Seating.{AreFirstAdmins, IsFirstAdmin}
+use Rattle.afs_admins.specs.declared.admins.AdminSeat.{AdminSeat}
 use Rattle.afs_cell.proofs.FirstSeated.{count_seats}
 use Rattle.afs_clients.proofs.Numbers.{none_some, some_is}
 use Rattle.afs_cell.proofs.UnderWay.{runs_none}
@@ -75,6 +78,21 @@ ready_client s n c h =
     let last : c.client.state.last ≡ 0 = ap (λ (x : ClientState). x.last) h.state in
     record { handed = h.handed; epoch = omega (arith, epoch); last = omega (arith, last) }
 
+-- ---- administrators
+
+admins_from : (s : Script) (Q : ℕ → AdminSeat → Type 0) (i : ℕ) (seats : List AdminSeat) → ((n : ℕ) (a : AdminSeat) → IsFirstAdmin s n a → Q n a) → AreFirstAdmins s i seats → EachFrom Q i seats
+admins_from s Q i [] f h = tt
+admins_from s Q i (a ∷ seats) f h = (f i a h.0, admins_from s Q (i + 1) seats f h.1)
+
+each_admin : (s : Script) (Q : ℕ → AdminSeat → Type 0) (seats : List AdminSeat) → ((n : ℕ) (a : AdminSeat) → IsFirstAdmin s n a → Q n a) → AreFirstAdmins s 1 seats → Each Q seats
+each_admin s Q seats f h = each_from Q seats (admins_from s Q 1 seats f h)
+
+ready_admin : (s : Script) (n : ℕ) (a : AdminSeat) → IsFirstAdmin s n a → IsReadyAdmin s n 0 a
+ready_admin s n a h =
+    let epoch = h.epoch in
+    let last : a.mover.state.last ≡ 0 = ap (λ (x : AdminState). x.last) h.state in
+    record { seated = h.seated; epoch = omega (arith, epoch); last = omega (arith, last) }
+
 no_more : {A : Type 0} (x : A) (xs : List A) → x ∷ xs ≡ [] → ⊥
 no_more x xs e = absurd cc
 
@@ -104,11 +122,11 @@ module _ {D : Type 0} (seen : D → Option (List ℕ)) (may_leave : D → List �
   told_seat n old (Down r) h = absurd h
 
   -- the world as set-up makes it
-  abbrev first_world : DatabaseRunning D → List (ServerSeat D) → List ClientSeat → WorldState D
-  first_world database ss cs = record { script = s; database = Up database; servers = ss; clients = cs; wire = []; history = []; gone = none_gone; clock = 0; is_lost = false }
+  abbrev first_world : DatabaseRunning D → List (ServerSeat D) → List ClientSeat → List AdminSeat → WorldState D
+  first_world database ss cs seats = record { script = s; database = Up database; servers = ss; clients = cs; admins = seats; wire = []; history = []; gone = none_gone; clock = 0; is_lost = false }
 
-  module _ (h : IsCellScript s) (admins : s.admins ≡ 0) (one : Lent D) (ls : List (Lent D)) (database : DatabaseRunning D) (ss : List (ServerSeat D)) (cs : List ClientSeat) (lent : AreLent limit s.capacity 0 (one ∷ ls)) (all : length (one ∷ ls) ≡ s.servers + 1)
-      (hosts : AreFirstHosts seen may_leave faults limit s (one ∷ ls) database ss) (clients : AreFirstClients s 1 cs) (count : length cs ≡ s.clients) where
+  module _ (h : IsCellScript s) (one : Lent D) (ls : List (Lent D)) (database : DatabaseRunning D) (ss : List (ServerSeat D)) (cs : List ClientSeat) (seats : List AdminSeat) (lent : AreLent limit s.capacity 0 (one ∷ ls)) (all : length (one ∷ ls) ≡ s.servers + 1)
+      (hosts : AreFirstHosts seen may_leave faults limit s (one ∷ ls) database ss) (clients : AreFirstClients s 1 cs) (count : length cs ≡ s.clients) (admins : AreFirstAdmins s 1 seats) (admin_count : length seats ≡ s.admins) where
     seats_are : length ss ≡ s.servers
     seats_are =
         let counted = count_seats seen may_leave faults limit s 1 ls ss [] hosts.1 in
@@ -117,7 +135,7 @@ module _ {D : Type 0} (seen : D → Option (List ℕ)) (may_leave : D → List �
     each_seat : (Q : ℕ → ServerSeat D → Type 0) → ((n : ℕ) (l : Lent D) (seat : ServerSeat D) → limit l.disk ≡ s.capacity → IsFirstSeat seen may_leave faults limit s n l.disk seat → Q n seat) → Each Q ss
     each_seat Q f = each_from Q ss (seats_from Q s.capacity 1 ls ss [] f lent.1.1 hosts.1)
 
-    is_cell : IsCell seen may_leave limit (first_world database ss cs) (node_start s)
+    is_cell : IsCell seen may_leave limit (first_world database ss cs seats) (node_start s)
     is_cell = record {
       loc = hosts.0.host;
       host_count = sym seats_are;
@@ -127,10 +145,11 @@ module _ {D : Type 0} (seen : D → Option (List ℕ)) (may_leave : D → List �
       sent = refl;
       clock = refl;
       handed = refl;
-      admin_count = admins;
+      admin_count = sym admin_count;
+      admins = each_admin s (λ (n : ℕ) (a : AdminSeat). IsAdmin a (new_admin s.servers 1) false) seats (λ n a first. record { state_is = first.state; gone_is = first.up }) admins;
     }
 
-    pub is_first : IsFirst seen may_leave limit s (first_world database ss cs)
+    pub is_first : IsFirst seen may_leave limit s (first_world database ss cs seats)
     is_first = record {
       history = refl;
       wire = refl;
@@ -138,50 +157,53 @@ module _ {D : Type 0} (seen : D → Option (List ℕ)) (may_leave : D → List �
       clock = refl;
       going = refl;
       acts = each_client s (λ (n : ℕ) (c : ClientSeat). tasks_of (Client n) s.tasks ≡ c.plan) cs (λ n c first. sym first.plan) clients;
+      orders = each_admin s (λ (n : ℕ) (a : AdminSeat). tasks_of (Admin n) s.tasks ≡ a.plan) seats (λ n a first. sym first.plan) admins;
       cell = λ tell. is_cell;
     }
 
-    is_safe : IsSafe limit s (first_world database ss cs)
+    is_safe : IsSafe limit s (first_world database ss cs seats)
     is_safe = record {
       script = refl;
       cell_script = h;
-      admin_count = admins;
+      admin_count = admin_count;
       server_count = seats_are;
       client_count = count;
       database = λ still. hosts.0.ready;
       servers = λ still. each_seat (λ (i : ℕ) (seat : ServerSeat D). IsReadySeat (Server i) 0 seat) (ready_seat s.capacity);
       clients = λ still. each_client s (λ (n : ℕ) (c : ClientSeat). IsReadyClient s n 0 c) cs (ready_client s) clients;
+      admins = λ still. each_admin s (λ (n : ℕ) (a : AdminSeat). IsReadyAdmin s n 0 a) seats (ready_admin s) admins;
       disks = (hosts.0.same_limit ∙ lent.1.0, each_seat (λ (i : ℕ) (seat : ServerSeat D). limit (seat_disk seat) ≡ s.capacity) (held_seat s.capacity));
       sent = refl;
       entries = omega arith;
       ticks = omega arith;
     }
 
-    pub is_world_first : IsWorld seen may_leave faults limit s (first_world database ss cs)
+    pub is_world_first : IsWorld seen may_leave faults limit s (first_world database ss cs seats)
     is_world_first = record {
       safe = is_safe;
-      run = λ tell. record { inputs = []; cell = node_start s; runs = runs_none seen may_leave faults limit s (first_world database ss cs) is_first tell };
+      run = λ tell. record { inputs = []; cell = node_start s; runs = runs_none seen may_leave faults limit s (first_world database ss cs seats) is_first tell };
     }
 
   -- as the program makes it
-  module _ (h : IsCellScript s) (admins : s.admins ≡ 0) (database : DatabaseRunning D) (ss : List (ServerSeat D)) (cs : List ClientSeat) (clients : AreFirstClients s 1 cs) (count : length cs ≡ s.clients)
-      (ts : List (ServerSeat D)) (ds : List ClientSeat) (wire : List Parcel) (history : List kept.Entry) (gone : LetGo) (servers_are : ts ≡ ss) (clients_are : ds ≡ cs) (no_wire : wire ≡ []) (no_history : history ≡ []) (not_gone : gone ≡ none_gone) where
+  module _ (h : IsCellScript s) (database : DatabaseRunning D) (ss : List (ServerSeat D)) (cs : List ClientSeat) (seats : List AdminSeat) (clients : AreFirstClients s 1 cs) (count : length cs ≡ s.clients) (admins : AreFirstAdmins s 1 seats) (admin_count : length seats ≡ s.admins)
+      (ts : List (ServerSeat D)) (ds : List ClientSeat) (more : List AdminSeat) (wire : List Parcel) (history : List kept.Entry) (gone : LetGo) (servers_are : ts ≡ ss) (clients_are : ds ≡ cs) (admins_are : more ≡ seats) (no_wire : wire ≡ []) (no_history : history ≡ []) (not_gone : gone ≡ none_gone) where
     abbrev made_world : WorldState D
-    made_world = record { script = s; database = Up database; servers = ts; clients = ds; wire = wire; history = history; gone = gone; clock = 0; is_lost = false }
+    made_world = record { script = s; database = Up database; servers = ts; clients = ds; admins = more; wire = wire; history = history; gone = gone; clock = 0; is_lost = false }
 
-    made_is : made_world ≡ first_world database ss cs
+    made_is : made_world ≡ first_world database ss cs seats
     made_is =
-        ap₂ (λ (a : List (ServerSeat D)) (b : List ClientSeat). record (first_world database a b) { wire = wire; history = history; gone = gone }) servers_are clients_are
-        ∙ (ap₂ (λ (a : List Parcel) (b : List kept.Entry). record (first_world database ss cs) { wire = a; history = b; gone = gone }) no_wire no_history
-        ∙ ap (λ (g : LetGo). record (first_world database ss cs) { gone = g }) not_gone)
+        ap₂ (λ (a : List (ServerSeat D)) (b : List ClientSeat). record (first_world database a b more) { wire = wire; history = history; gone = gone }) servers_are clients_are
+        ∙ (ap (λ (a : List AdminSeat). record (first_world database ss cs a) { wire = wire; history = history; gone = gone }) admins_are
+        ∙ (ap₂ (λ (a : List Parcel) (b : List kept.Entry). record (first_world database ss cs seats) { wire = a; history = b; gone = gone }) no_wire no_history
+        ∙ ap (λ (g : LetGo). record (first_world database ss cs seats) { gone = g }) not_gone))
 
     pub world_made : (ls : List (Lent D)) → AreLent limit s.capacity 0 ls → length ls ≡ s.servers + 1 → AreFirstHosts seen may_leave faults limit s ls database ss → IsWorld seen may_leave faults limit s made_world
     world_made [] lent all hosts = absurd hosts
-    world_made (one ∷ ls) lent all hosts = subst (λ (w : WorldState D). IsWorld seen may_leave faults limit s w) (sym made_is) (is_world_first h admins one ls database ss cs lent all hosts clients count)
+    world_made (one ∷ ls) lent all hosts = subst (λ (w : WorldState D). IsWorld seen may_leave faults limit s w) (sym made_is) (is_world_first h one ls database ss cs seats lent all hosts clients count admins admin_count)
 
     pub first_made : (ls : List (Lent D)) → AreLent limit s.capacity 0 ls → length ls ≡ s.servers + 1 → AreFirstHosts seen may_leave faults limit s ls database ss → IsFirst seen may_leave limit s made_world
     first_made [] lent all hosts = absurd hosts
-    first_made (one ∷ ls) lent all hosts = subst (λ (w : WorldState D). IsFirst seen may_leave limit s w) (sym made_is) (is_first h admins one ls database ss cs lent all hosts clients count)
+    first_made (one ∷ ls) lent all hosts = subst (λ (w : WorldState D). IsFirst seen may_leave limit s w) (sym made_is) (is_first h one ls database ss cs seats lent all hosts clients count admins admin_count)
 
   -- ---- which disks tell
 
@@ -233,10 +255,10 @@ module _ {D : Type 0} (seen : D → Option (List ℕ)) (may_leave : D → List �
   both_tell one ls first tell (suc (suc n)) l e = tell (suc n) l e
 
   -- each disk tells after set-up as before it
-  pub tell_so : (ls : List (Lent D)) (database : DatabaseRunning D) (ss : List (ServerSeat D)) (cs : List ClientSeat) → AreFirstHosts seen may_leave faults limit s ls database ss → LentTell seen ls ↔ AllTell seen (first_world database ss cs)
-  tell_so [] database ss cs hosts = absurd hosts
-  tell_so (one ∷ ls) database ss cs hosts =
-      let seats = seats_tell ls ss hosts.1 in (
-        λ tell. (hosts.0.left.told.1 (tell 1 one refl), seats.0 (others_tell one ls tell)),
-        λ tell. both_tell one ls (hosts.0.left.told.0 tell.0) (seats.1 tell.1),
+  pub tell_so : (ls : List (Lent D)) (database : DatabaseRunning D) (ss : List (ServerSeat D)) (cs : List ClientSeat) (seats : List AdminSeat) → AreFirstHosts seen may_leave faults limit s ls database ss → LentTell seen ls ↔ AllTell seen (first_world database ss cs seats)
+  tell_so [] database ss cs seats hosts = absurd hosts
+  tell_so (one ∷ ls) database ss cs seats hosts =
+      let all = seats_tell ls ss hosts.1 in (
+        λ tell. (hosts.0.left.told.1 (tell 1 one refl), all.0 (others_tell one ls tell)),
+        λ tell. both_tell one ls (hosts.0.left.told.0 tell.0) (all.1 tell.1),
       )

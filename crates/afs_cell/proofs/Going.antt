@@ -3,7 +3,7 @@ use Rattle.std.proofs.Common.{refl, arith, ap, ap₂, sym, subst, length, ◌∙
 use Rattle.std.proofs.lemmas.List.{length-map, map-append}
 use Rattle.afs_num.specs.Places.{at_place}
 use Rattle.afs_num.specs.declared.types.Node.{Node}
-use Rattle.afs_num.specs.declared.types.Node.TheVariants.{Client}
+use Rattle.afs_num.specs.declared.types.Node.TheVariants.{Admin, Client}
 use Rattle.afs_num.specs.declared.types.Parcel.{Parcel}
 use Rattle.afs_history.specs.declared.scripts.Task.{Task}
 use Rattle.afs_history.specs.declared.scripts.Script.{Script}
@@ -14,6 +14,7 @@ use Rattle.afs_text.specs.Telling.{told, AreRead}
 use Rattle.afs_cell.specs.Steps.{IsAt, Plays, StandsStill, Stays, Stepped, TellsNothing}
 use Rattle.afs_cell.specs.Worlds.{falls_at, own_falls, AllTell, Counts, HasRun, IsCell, IsWorld, Runs, WorldState}
 use Rattle.afs_clients.specs.declared.clients.ClientSeat.{ClientSeat}
+use Rattle.afs_admins.specs.declared.admins.AdminSeat.{AdminSeat}
 use Rattle.afs_cell.specs.declared.faults.WorldFault.{WorldFault}
 use Rattle.afs_cell.specs.declared.faults.WorldFault.TheVariants as faulty
 use Rattle.afs_cell.proofs.Counts.{counts_as, falls_behind}
@@ -37,17 +38,22 @@ abbrev plan_or : Option ClientSeat → List Task
 plan_or None = []
 plan_or (Some s) = s.plan
 
-abbrev plans_of : List ClientSeat → Node → List Task
-plans_of cs (Client n) = plan_or (at_place cs n)
-plans_of cs n = []
+abbrev orders_or : Option AdminSeat → List Task
+orders_or None = []
+orders_or (Some s) = s.plan
+
+abbrev plans_of : List ClientSeat → List AdminSeat → Node → List Task
+plans_of cs seats (Client n) = plan_or (at_place cs n)
+plans_of cs seats (Admin n) = orders_or (at_place seats n)
+plans_of cs seats n = []
 
 true_false : true ≡ false → ⊥
 true_false e = absurd cc
 
 module _ {D : Type 0} (seen : D → Option (List ℕ)) (may_leave : D → List ℕ → Type 0) (faults limit : D → ℕ) (s : Script) where
   -- the world stands for the cell to which its inputs lead
-  stands : (w : WorldState D) (inputs : List CellInput) (c : NodeCell) → Runs seen may_leave faults limit s w inputs c → w.is_lost ≡ false → IsAt seen may_leave limit w c (plans_of w.clients)
-  stands w inputs c runs going = record { cell = runs.cell_is going; acts = λ n seat found. ap plan_or found }
+  stands : (w : WorldState D) (inputs : List CellInput) (c : NodeCell) → Runs seen may_leave faults limit s w inputs c → w.is_lost ≡ false → IsAt seen may_leave limit w c (plans_of w.clients w.admins)
+  stands w inputs c runs going = record { cell = runs.cell_is going; acts = λ n seat found. ap plan_or found; orders = λ n seat found. ap orders_or found }
 
   -- as many inputs as entries
   as_many : (w : WorldState D) (inputs : List CellInput) (c : NodeCell) → Runs seen may_leave faults limit s w inputs c → length inputs ≡ length (told w.wire w.history)
@@ -77,7 +83,7 @@ module _ {D : Type 0} (seen : D → Option (List ℕ)) (may_leave : D → List �
 
   stays_cell : (old new : WorldState D) (inputs : List CellInput) (c : NodeCell) → Runs seen may_leave faults limit s old inputs c → (new.is_lost ≡ true) ⊎ StandsStill seen may_leave limit old new → new.is_lost ≡ false → IsCell seen may_leave limit new c
   stays_cell old new inputs c runs (inl lost) going = absurd (true_false (sym lost ∙ going))
-  stays_cell old new inputs c runs (inr still) going = (still.at c (plans_of old.clients) (stands old inputs c runs (sym still.lost_as ∙ going))).cell
+  stays_cell old new inputs c runs (inr still) going = (still.at c (plans_of old.clients old.admins) (stands old inputs c runs (sym still.lost_as ∙ going))).cell
 
   -- and where memory was wanting
   pub runs_still : (old new : WorldState D) (inputs : List CellInput) (c : NodeCell) → Runs seen may_leave faults limit s old inputs c → Stays seen may_leave limit old new faulty.OutOfMemory
@@ -95,7 +101,7 @@ module _ {D : Type 0} (seen : D → Option (List ℕ)) (may_leave : D → List �
 
   world_by : (is : Turn → CellInput → Type 0) (old new : WorldState D) (result : Result (Unit {0}) WorldFault) → old.is_lost ≡ false → HasRun seen may_leave faults limit s old → AllTell seen old → Stepped seen may_leave faults limit s is old new result → HasRun seen may_leave faults limit s new
   world_by is old new (Ok done) going run tell stepped =
-      let t : Turn = record { cell = run.cell; left = plans_of old.clients; named = [] } in
+      let t : Turn = record { cell = run.cell; left = plans_of old.clients old.admins; named = [] } in
       let p = stepped.steps.plays tell t (stands old run.inputs run.cell run.runs going) in
       record { inputs = run.inputs ++ p.input ∷ []; cell = (node_moved run.cell p.input).cell; runs = runs_on (is t) t old new run.inputs run.runs p }
   world_by is old new (Err faulty.OutOfMemory) going run tell stepped = record { inputs = run.inputs; cell = run.cell; runs = runs_still old new run.inputs run.cell run.runs stepped.steps stepped.counts }

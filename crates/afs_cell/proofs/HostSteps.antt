@@ -68,8 +68,10 @@ module _ {D : Type 0} (seen : D → Option (List ℕ)) (may_leave : D → List �
       clock = at.cell.clock;
       handed = at.cell.handed;
       admin_count = at.cell.admin_count;
+      admins = at.cell.admins;
     };
     acts = at.acts;
+    orders = at.orders;
   }
 
   -- and after one of the location database
@@ -86,8 +88,10 @@ module _ {D : Type 0} (seen : D → Option (List ℕ)) (may_leave : D → List �
       clock = at.cell.clock;
       handed = at.cell.handed;
       admin_count = at.cell.admin_count;
+      admins = at.cell.admins;
     };
     acts = at.acts;
+    orders = at.orders;
   }
 
   -- a step that an input gives to a node, which so has its place in the cell

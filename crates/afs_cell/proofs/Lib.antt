@@ -21,6 +21,8 @@ mod Settled
 mod ServersTold
 mod ClientSteps
 mod ClientsTold
+mod AdminSteps
+mod AdminsTold
 mod Going
 mod Able
 mod Eventful
@@ -38,6 +40,7 @@ mod GivenBack
 pub mod Whole
 mod Since
 mod NextSince
+mod Bare
 mod RunEnds
 mod LentCounts
 mod Ended

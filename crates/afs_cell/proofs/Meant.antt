@@ -5,7 +5,7 @@ use Rattle.afs_history.specs.declared.scripts.Event.TheVariants as events
 use Rattle.afs_grammar.specs.CellScripts.{counts_of, FitsEvent}
 use Rattle.afs_grammar.specs.Lines.{ticks_of}
 use Rattle.afs_schedule.specs.Schedules.{IsInput, Turn}
-use Rattle.afs_clients.specs.Happening.{IsAsked, IsGiven, IsGivenToLoc}
+use Rattle.afs_clients.specs.Happening.{IsAsked, IsAskedOfAdmin, IsGiven, IsGivenToLoc}
 use Rattle.afs_cell.specs.Happening.{NothingSettles}
 use Rattle.afs_clients.specs.Meaning.{IsMeant}
 use Rattle.afs_cell.specs.Steps.{Stays, Stepped}
@@ -13,6 +13,7 @@ use Rattle.afs_cell.specs.Worlds.{most_entries, most_ticks, IsSafe, WorldState}
 use Rattle.afs_clients.specs.declared.events.Given.TheVariants as given
 use Rattle.afs_cell.specs.declared.faults.WorldFault.{WorldFault}
 use Rattle.afs_cell.specs.declared.faults.WorldFault.TheVariants as faulty
+use Rattle.afs_clients.specs.declared.happening.AdminInput.{AdminInput}
 use Rattle.afs_clients.specs.declared.happening.ClientInput.{ClientInput}
 use Rattle.afs_clients.specs.declared.happening.DatabaseInput.{DatabaseInput}
 use Rattle.afs_clients.specs.declared.happening.ServerInput.{ServerInput}
@@ -22,11 +23,14 @@ module _ {D : Type 0} (seen : D → Option (List ℕ)) (may_leave : D → List �
   abbrev pub Played : Type 0
   Played = Stepped seen may_leave faults limit w.script (λ (t : Turn). IsInput t event) w new result
 
-  pub as_nothing : IsSafe limit w.script w → w.is_lost ≡ false → length w.history < most_entries → FitsEvent (counts_of w.script) event → IsMeant event given.Nothing → NothingSettles w new result → Played
-  as_nothing safe going few fits meant settles = skip_steps seen may_leave faults limit w.script (λ (t : Turn). IsInput t event) w new result safe going few (meant (counts_of w.script) fits safe.admin_count) settles
+  pub as_nothing : IsSafe limit w.script w → w.is_lost ≡ false → length w.history < most_entries → IsMeant event given.Nothing → NothingSettles w new result → Played
+  as_nothing safe going few meant settles = skip_steps seen may_leave faults limit w.script (λ (t : Turn). IsInput t event) w new result safe going few meant settles
 
   pub as_client : (n : ℕ) (what : ClientInput) → IsMeant event (given.Client n what) → Stepped seen may_leave faults limit w.script (IsAsked what n) w new result → Played
   as_client n what meant stepped = stepped_as seen may_leave faults limit w.script (IsAsked what n) (λ (t : Turn). IsInput t event) w new result meant.input stepped
+
+  pub as_admin : (n : ℕ) (what : AdminInput) → IsMeant event (given.Admin n what) → Stepped seen may_leave faults limit w.script (IsAskedOfAdmin what n) w new result → Played
+  as_admin n what meant stepped = stepped_as seen may_leave faults limit w.script (IsAskedOfAdmin what n) (λ (t : Turn). IsInput t event) w new result meant.input stepped
 
   pub as_server : (i : ℕ) (what : ServerInput) → IsMeant event (given.Server i what) → Stepped seen may_leave faults limit w.script (λ (t : Turn). IsGiven i what t) w new result → Played
   as_server i what meant stepped = stepped_as seen may_leave faults limit w.script (λ (t : Turn). IsGiven i what t) (λ (t : Turn). IsInput t event) w new result meant.input stepped

@@ -55,7 +55,7 @@ stays_wanting : {D : Type 0} (seen : D → Option (List ℕ)) (may_leave : D →
 stays_wanting {D} seen may_leave limit old new fault is stays = subst (λ (f : WorldFault). Stays seen may_leave limit old new f) is stays
 
 stays_so : {D : Type 0} (seen : D → Option (List ℕ)) (may_leave : D → List ℕ → Type 0) (limit : D → ℕ) (w : WorldState D) → Stays seen may_leave limit w w faulty.OutOfMemory
-stays_so {D} seen may_leave limit w = (record { script = refl; history = refl; wire = refl; clock = refl }, inr (record { lost_as = refl; clients = refl; at = λ c left at. at }))
+stays_so {D} seen may_leave limit w = (record { script = refl; history = refl; wire = refl; clock = refl }, inr (record { lost_as = refl; clients = refl; admins = refl; at = λ c left at. at }))
 
 module _ {D : Type 0} (seen : D → Option (List ℕ)) (may_leave : D → List ℕ → Type 0) (faults limit : D → ℕ) (w : WorldState D) (old left : Schedule) (sent : ℕ) (counted : sent ≡ w.gone.messages + length w.wire) where
   taken_none : (b : HistoryTold) → IsBefore b w → (o : Option Event) → o ≡ None → Takes sent old left o → Takes (length (b.wire ++ w.wire)) old left None

@@ -7,7 +7,9 @@ use Rattle.afs_history.specs.declared.lines.Line.TheVariants as lines
 use Rattle.afs_history.specs.declared.scripts.Event.TheVariants as events
 use Rattle.afs_grammar.specs.CellScripts.{IsCellScript}
 use Rattle.afs_schedule.specs.Schedules.{IsInput, Turn}
-use Rattle.afs_clients.specs.Happening.{ClientHears, ClientsHappened, ClientTakes, IsAsked, IsGiven, IsGivenToLoc, IsVoidClient}
+use Rattle.afs_clients.specs.Happening.{ClientHears, ClientsHappened, ClientTakes, IsAsked, IsAskedOfAdmin, IsGiven, IsGivenToLoc, IsVoidClient}
+use Rattle.afs_admins.specs.Happening.{AdminHears, AdminsHappened, AdminTakes, IsVoidAdmin}
+use Rattle.afs_admins.specs.Ready.{AllReadyAdmins}
 use Rattle.afs_cell.specs.Happening.{NothingSettles, Settles}
 use Rattle.afs_cell.specs.SeatSteps.{HasHeard, HasStep, IsFallen, IsVoidServer, ServersHappened}
 use Rattle.afs_clients.specs.Ready.{AllReady}
@@ -18,15 +20,18 @@ use Rattle.afs_host.specs.LocSeated.{DatabaseSeat}
 use Rattle.afs_host.specs.Seated.{ServerSeat}
 use Rattle.afs_cell.specs.Worlds.{most_entries, IsSafe, WorldState}
 use Rattle.afs_clients.specs.declared.clients.ClientSeat.{ClientSeat}
+use Rattle.afs_admins.specs.declared.admins.AdminSeat.{AdminSeat}
 use Rattle.afs_cell.specs.declared.faults.WorldFault.{WorldFault}
+use Rattle.afs_clients.specs.declared.happening.AdminInput.{AdminInput}
 use Rattle.afs_clients.specs.declared.happening.ClientInput.{ClientInput}
 use Rattle.afs_clients.specs.declared.happening.DatabaseInput.{DatabaseInput}
 use Rattle.afs_clients.specs.declared.happening.Happened.{Happened}
 use Rattle.afs_clients.specs.declared.happening.ServerInput.{ServerInput}
-use Rattle.afs_cell.proofs.Able.{all_can, all_ready, loc_can}
+use Rattle.afs_cell.proofs.Able.{admins_ready, all_can, all_ready, loc_can}
+use Rattle.afs_cell.proofs.AdminsTold.{admin_heard_settles, ordered_settles}
 use Rattle.afs_cell.proofs.ClientsTold.{asked_settles, heard_settles}
 use Rattle.afs_cell.proofs.DatabaseTold.{loc_input_settles, loc_message_settles}
-use Rattle.afs_cell.proofs.Eventful.{no_message, skip_as, to_admin}
+use Rattle.afs_cell.proofs.Eventful.{no_message, skip_as}
 use Rattle.afs_cell.proofs.ServersTold.{input_settles, message_settles}
 
 none_inside : {A : Type 0} (xs : List A) (n : ℕ) → at_place xs n ≡ None → 1 ≤ n → n ≤ length xs → ⊥
@@ -55,6 +60,12 @@ module _ {D : Type 0} (limit : D → ℕ) (parts w : WorldState D) (same : parts
       let here : at_place w.clients n ≡ None = subst (λ (v : WorldState D). at_place v.clients n ≡ None) same none in
       none_inside w.clients n here inside.0 (omega (arith, inside.1, safe.client_count))
 
+  -- and an administrator of these
+  pub inside_admins : (n : ℕ) → (1 ≤ n) × (n ≤ w.script.admins) → at_place parts.admins n ≡ None → ⊥
+  inside_admins n inside none =
+      let here : at_place w.admins n ≡ None = subst (λ (v : WorldState D). at_place v.admins n ≡ None) same none in
+      none_inside w.admins n here inside.0 (omega (arith, inside.1, safe.admin_count))
+
   pub can_all : w.is_lost ≡ false → length w.history < most_entries → AllCanStep limit parts.servers
   can_all going few = subst (λ (v : WorldState D). AllCanStep limit v.servers) (sym same) (all_can limit w.script w safe going few)
 
@@ -63,6 +74,9 @@ module _ {D : Type 0} (limit : D → ℕ) (parts w : WorldState D) (same : parts
 
   pub ready_all : w.is_lost ≡ false → length w.history < most_entries → AllReady parts.script parts.clients
   ready_all going few = subst (λ (v : WorldState D). AllReady v.script v.clients) (sym same) (all_ready limit w.script w safe going few)
+
+  pub ready_admins : w.is_lost ≡ false → length w.history < most_entries → AllReadyAdmins parts.script parts.admins
+  ready_admins going few = subst (λ (v : WorldState D). AllReadyAdmins v.script v.admins) (sym same) (admins_ready limit w.script w safe going few)
 
 module _ {D : Type 0} (seen : D → Option (List ℕ)) (may_leave : D → List ℕ → Type 0) (faults limit : D → ℕ) (parts w : WorldState D) (same : parts ≡ w) (safe : IsSafe limit w.script w) (going : w.is_lost ≡ false) (few : length w.history < most_entries)
     (new : WorldState D) (result : Result (Unit {0}) WorldFault) where
@@ -91,6 +105,15 @@ module _ {D : Type 0} (seen : D → Option (List ℕ)) (may_leave : D → List �
   asked n input clients what inside happened settled =
       subst (λ (v : WorldState D). IsSafe limit v.script v → v.is_lost ≡ false → length v.history < most_entries → Stepped seen may_leave faults limit v.script (IsAsked input n) v new result) same
       (λ safe going few. asked_settles seen may_leave faults limit parts.script parts n input clients what new result safe going few inside happened settled)
+      safe going few
+
+  -- an administrator
+  pub ordered : (n : ℕ) (input : AdminInput) (admins : List AdminSeat) (what : Happened) → (at_place parts.admins n ≡ None → ⊥)
+      → AdminsHappened parts.script n (IsVoidAdmin input) (AdminTakes n input) parts.admins admins what → Settles (Admin n) None what (record parts { admins = admins }) new result
+      → Stepped seen may_leave faults limit w.script (IsAskedOfAdmin input n) w new result
+  ordered n input admins what inside happened settled =
+      subst (λ (v : WorldState D). IsSafe limit v.script v → v.is_lost ≡ false → length v.history < most_entries → Stepped seen may_leave faults limit v.script (IsAskedOfAdmin input n) v new result) same
+      (λ safe going few. ordered_settles seen may_leave faults limit parts.script parts n input admins what new result safe going few inside happened settled)
       safe going few
 
   -- a server was given the message of this place
@@ -126,11 +149,18 @@ module _ {D : Type 0} (seen : D → Option (List ℕ)) (may_leave : D → List �
       (subst (λ (b : List ℕ). ClientsHappened parts.script n (λ (seat : ClientSeat). seat.is_away ≡ true) (ClientHears n parts.clock place b) parts.clients clients what) spelled happened) settled)
       safe going few
 
-  -- no node was: nothing was sent there, or it is to an administrator
+  -- an administrator
+  pub admin_heard : (place : ℕ) (p : Parcel) (n : ℕ) (bytes : List ℕ) (admins : List AdminSeat) (what : Happened) → at_place parts.wire place ≡ Some p → p.head.to ≡ Admin n → bytes ≡ p.bytes
+      → AdminsHappened parts.script n (λ (seat : AdminSeat). seat.is_away ≡ true) (AdminHears n place bytes) parts.admins admins what
+      → Settles (Admin n) (Some (lines.Given place)) what (record parts { admins = admins }) new result
+      → Stepped seen may_leave faults limit w.script (λ (t : Turn). IsInput t (events.Deliver place)) w new result
+  admin_heard place p n bytes admins what found to spelled happened settled =
+      subst (λ (v : WorldState D). IsSafe limit v.script v → v.is_lost ≡ false → length v.history < most_entries → Stepped seen may_leave faults limit v.script (λ (t : Turn). IsInput t (events.Deliver place)) v new result) same
+      (λ safe going few. admin_heard_settles seen may_leave faults limit parts.script parts n place p admins what new result safe going few found to
+      (subst (λ (b : List ℕ). AdminsHappened parts.script n (λ (seat : AdminSeat). seat.is_away ≡ true) (AdminHears n place b) parts.admins admins what) spelled happened) settled)
+      safe going few
+
+  -- no node was: nothing was sent there
   pub nobody_heard : (place : ℕ) → at_place parts.wire place ≡ None → NothingSettles w new result → Stepped seen may_leave faults limit w.script (λ (t : Turn). IsInput t (events.Deliver place)) w new result
   nobody_heard place none settled =
       skip_as seen may_leave faults limit w.script (λ (t : Turn). IsInput t (events.Deliver place)) w new result safe going few (λ tell t at. no_message seen may_leave faults limit w place t at (subst (λ (v : WorldState D). at_place v.wire place ≡ None) same none)) settled
-
-  pub admin_heard : (place : ℕ) (p : Parcel) (k : ℕ) → at_place parts.wire place ≡ Some p → p.head.to ≡ Admin k → NothingSettles w new result → Stepped seen may_leave faults limit w.script (λ (t : Turn). IsInput t (events.Deliver place)) w new result
-  admin_heard place p k found to settled =
-      skip_as seen may_leave faults limit w.script (λ (t : Turn). IsInput t (events.Deliver place)) w new result safe going few (λ tell t at. to_admin seen may_leave faults limit w place t p k at (subst (λ (v : WorldState D). at_place v.wire place ≡ Some p) same found) to) settled

@@ -17,9 +17,11 @@ use Rattle.afs_records.specs.LocDurable.{LocDurable}
 use Rattle.afs_volstore.specs.Stands.{Stands}
 use Rattle.afs_records.proofs.Forms.{some_is}
 use Rattle.afs_rows.specs.Runs.{Entry}
-use Rattle.afs_runs.specs.NodeRuns.{node_start, CellInput, NodeCell, NodeLeads}
+use Rattle.afs_runs.specs.NodeRuns.{CellInput, NodeCell}
 use Rattle.afs_law.specs.Cells.{IsOfCell}
-use Rattle.afs_runs.specs.PlainRuns.{NodeRunsAreLegal, NodeRunsEndWell, PlainRunsBringNothing}
+use Rattle.afs_moves.proofs.Walk.{accepted_as_told, lines_stand_well}
+use Rattle.afs_stamps.proofs.ToldWalk.{entries_are_told}
+use Rattle.afs_runs.specs.PlainRuns.{NodeRunsAreLegal, NodeRunsEndWell}
 use Rattle.afs_text.specs.Telling.{told}
 use Rattle.afs_volstore.specs.Stores.{Store}
 use Rattle.afs_clients.specs.Places.{Each}
@@ -27,13 +29,14 @@ use Rattle.afs_cell.specs.Steps.{AreStanding, HasPlayed, IsStanding, IsStandingA
 use Rattle.afs_cell.specs.Lends.{disks_of, lent_from}
 use Rattle.afs_host.specs.LocSeated.{loc_seat_disk}
 use Rattle.afs_host.specs.Seated.{seat_disk, ServerSeat}
-use Rattle.afs_cell.specs.Worlds.{most_entries, own_falls, AllTell, IsCell, Runs, WorldState}
+use Rattle.afs_cell.specs.Worlds.{most_entries, own_falls, AllTell, IsCell, WorldState}
 use Rattle.afs_final.specs.Reading.{fault_in, kept_disk, part, AreFound, IsRead}
 use Rattle.afs_final.specs.declared.reading.Left.{Left}
 use Rattle.afs_final.specs.declared.reading.Left.TheVariants as left
 use Rattle.afs_lending.specs.Lending.{all_kept, kept_disks, GivesBackBut}
 use Rattle.afs_command.specs.Spans.{RoseBy, Span}
 use Rattle.afs_cell.specs.Replays.{no_other, AreAllKept, AreKept, AreOf, GivesBack, GivesBackThose, HasDisk, IsLegalRun, MayKeep}
+use Rattle.afs_cell.proofs.Bare.{told_falls, told_length}
 
 some_of : {A : Type 0} (o : Option A) → IsSome o → (x : A) × (o ≡ Some x)
 some_of {A} None some = absurd cc
@@ -304,25 +307,25 @@ pub length_told : (ps : List Parcel) (es : List kept.Entry) → length (told ps 
 length_told ps [] = refl
 length_told ps (e ∷ es) = ap suc (length_told (drop e.sent ps) es)
 
--- what is known of runs: they are legal, they end well, and no step brings a volume, as long as the cell has no administrators
+-- what is known of runs: they are legal, and they end well, where the script names no administrators
 abbrev pub RunLaws : Type 0
-RunLaws = NodeRunsAreLegal × (NodeRunsEndWell × PlainRunsBringNothing)
+RunLaws = NodeRunsAreLegal × NodeRunsEndWell
 
--- as long as the cell has no administrators, no step brings a volume: what the world tells is the whole history
-told_leads : {D : Type 0} (seen : D → Option (List ℕ)) (may_leave : D → List ℕ → Type 0) (faults limit : D → ℕ) (law : RunLaws) (s : Script) (w : WorldState D) → s.admins ≡ 0 → (inputs : List CellInput) (c : NodeCell) → Runs seen may_leave faults limit s w inputs c → NodeLeads (node_start s) inputs (told w.wire w.history) c
-told_leads {D} seen may_leave faults limit law s w admins inputs c runs = subst (λ (h : List Entry). NodeLeads (node_start s) inputs h c) (sym (law.1.1 s inputs runs.history c admins runs.leads) ∙ runs.tells) runs.leads
-
--- what a world tells is a legal run of its script, as far as it was played
-pub legal_run : {D : Type 0} (seen : D → Option (List ℕ)) (may_leave : D → List ℕ → Type 0) (faults limit : D → ℕ) (law : RunLaws) (IsSoFar : List CellInput → Type 0) (others : ℕ → ℕ) (s : Script) (w : WorldState D) (counts : ℕ → Span ℕ) → IsOfCell s → s.admins ≡ 0 → length w.history ≤ most_entries → (p : HasPlayed seen may_leave faults limit IsSoFar s w) → ((i : ℕ) → HasDisk s i → RoseBy (own_falls i p.inputs (told w.wire w.history) + others i) (counts i))
-    → IsLegalRun s IsSoFar others counts (told w.wire w.history) p.cell
-legal_run {D} seen may_leave faults limit law IsSoFar others s w counts in_cell admins few p failures = record {
+-- what a world has played is a run of its script, as far as it was played
+pub legal_run : {D : Type 0} (seen : D → Option (List ℕ)) (may_leave : D → List ℕ → Type 0) (faults limit : D → ℕ) (law : RunLaws) (IsSoFar : List CellInput → Type 0) (others : ℕ → ℕ) (s : Script) (w : WorldState D) (counts : ℕ → Span ℕ) → IsOfCell s → length w.history ≤ most_entries → (p : HasPlayed seen may_leave faults limit IsSoFar s w) → ((i : ℕ) → HasDisk s i → RoseBy (own_falls i p.inputs (told w.wire w.history) + others i) (counts i))
+    → IsLegalRun s IsSoFar others counts p.runs.history p.cell
+legal_run {D} seen may_leave faults limit law IsSoFar others s w counts in_cell few p failures = record {
   inputs = p.inputs;
-  leads = told_leads seen may_leave faults limit law s w admins p.inputs p.cell p.runs;
+  leads = p.runs.leads;
   so_far = p.played;
-  few = omega (arith, length_told w.wire w.history, few);
-  legal = law.0 s (told w.wire w.history) p.cell in_cell admins (record { inputs = p.inputs; leads = told_leads seen may_leave faults limit law s w admins p.inputs p.cell p.runs });
-  well = law.1.0 s (told w.wire w.history) p.cell in_cell admins (record { inputs = p.inputs; leads = told_leads seen may_leave faults limit law s w admins p.inputs p.cell p.runs });
-  failures = failures;
+  few = omega (arith, told_length p.runs.history (told w.wire w.history) p.runs.tells, length_told w.wire w.history, few);
+  accepted = accepted_as_told s p.inputs p.runs.history p.cell p.runs.leads;
+  stand = lines_stand_well s p.inputs p.runs.history p.cell p.runs.leads;
+  locked = entries_are_told.locks s p.inputs p.runs.history p.cell p.runs.leads;
+  located = entries_are_told.sites s p.inputs p.runs.history p.cell p.runs.leads;
+  legal = λ none. law.0 s p.runs.history p.cell in_cell none (record { inputs = p.inputs; leads = p.runs.leads });
+  well = λ none. law.1 s p.runs.history p.cell in_cell none (record { inputs = p.inputs; leads = p.runs.leads });
+  failures = λ i has. subst (λ (n : ℕ). RoseBy (n + others i) (counts i)) (told_falls i p.inputs p.runs.history (told w.wire w.history) p.runs.tells) (failures i has);
 }
 
 -- its failures are all

@@ -90,6 +90,7 @@ module _ {D : Type 0} (seen : D → Option (List ℕ)) (may_leave : D → List �
         clock = cell.clock;
         handed = cell.handed;
         admin_count = cell.admin_count;
+        admins = cell.admins;
       },
     ),
   )

@@ -20,10 +20,11 @@ use Rattle.afs_cell.specs.Happening.{Settles}
 use Rattle.afs_cell.specs.SeatSteps.{DiskKeeps}
 use Rattle.afs_clients.specs.Places.{put_place, Each}
 use Rattle.afs_cell.specs.Steps.{IsAt, Plays, Stepped}
-use Rattle.afs_cell.specs.Worlds.{most_entries, AllHold, AllTell, Counts, IsCell, IsReadyClient, IsSafe, WorldState}
+use Rattle.afs_cell.specs.Worlds.{most_entries, AllHold, AllTell, Counts, IsCell, IsReadyAdmin, IsReadyClient, IsSafe, WorldState}
 use Rattle.afs_host.specs.LocSeated.{loc_seat_disk, DatabaseSeat, IsLocReadySeat}
 use Rattle.afs_host.specs.Seated.{seat_disk, IsReadySeat, ServerSeat}
 use Rattle.afs_clients.specs.declared.clients.ClientSeat.{ClientSeat}
+use Rattle.afs_admins.specs.declared.admins.AdminSeat.{AdminSeat}
 use Rattle.afs_cell.specs.declared.faults.WorldFault.{WorldFault}
 use Rattle.afs_cell.specs.declared.faults.WorldFault.TheVariants as faulty
 use Rattle.afs_clients.specs.declared.happening.Happened.{Happened}
@@ -54,6 +55,9 @@ loc_ready_more {D} n (Down s) h = tt
 pub client_more : (s : Script) (j n : ℕ) (z : ClientSeat) → IsReadyClient s j n z → IsReadyClient s j (n + 1) z
 client_more s j n z h = record { handed = h.handed; epoch = omega (arith, h.epoch); last = omega (arith, h.last) }
 
+pub admin_more : (s : Script) (j n : ℕ) (z : AdminSeat) → IsReadyAdmin s j n z → IsReadyAdmin s j (n + 1) z
+admin_more s j n z h = record { seated = h.seated; epoch = omega (arith, h.epoch); last = omega (arith, h.last) }
+
 pub one_longer : (es : List kept.Entry) (e : kept.Entry) → length (es ++ e ∷ []) ≡ length es + 1
 one_longer es e = length-append es (e ∷ [])
 
@@ -66,6 +70,9 @@ ReadyServers {D} n ss = Each (λ (j : ℕ) (z : ServerSeat D). IsReadySeat (Serv
 abbrev pub ReadyClients : Script → ℕ → List ClientSeat → Type 0
 ReadyClients s n cs = Each (λ (j : ℕ) (z : ClientSeat). IsReadyClient s j n z) cs
 
+abbrev pub ReadyAdmins : Script → ℕ → List AdminSeat → Type 0
+ReadyAdmins s n seats = Each (λ (j : ℕ) (z : AdminSeat). IsReadyAdmin s j n z) seats
+
 pub servers_more : {D : Type 0} (es : List kept.Entry) (e : kept.Entry) (ss : List (ServerSeat D)) → ReadyServers (length es) ss → ReadyServers (length (es ++ e ∷ [])) ss
 servers_more {D} es e ss h =
     subst (λ (n : ℕ). ReadyServers n ss) (sym (one_longer es e))
@@ -75,6 +82,11 @@ pub clients_more : (s : Script) (es : List kept.Entry) (e : kept.Entry) (cs : Li
 clients_more s es e cs h =
     subst (λ (n : ℕ). ReadyClients s n cs) (sym (one_longer es e))
     (each_map (λ (j : ℕ) (z : ClientSeat). IsReadyClient s j (length es) z) (λ (j : ℕ) (z : ClientSeat). IsReadyClient s j (length es + 1) z) cs (λ j z. client_more s j (length es) z) h)
+
+pub admins_more : (s : Script) (es : List kept.Entry) (e : kept.Entry) (seats : List AdminSeat) → ReadyAdmins s (length es) seats → ReadyAdmins s (length (es ++ e ∷ [])) seats
+admins_more s es e seats h =
+    subst (λ (n : ℕ). ReadyAdmins s n seats) (sym (one_longer es e))
+    (each_map (λ (j : ℕ) (z : AdminSeat). IsReadyAdmin s j (length es) z) (λ (j : ℕ) (z : AdminSeat). IsReadyAdmin s j (length es + 1) z) seats (λ j z. admin_more s j (length es) z) h)
 
 module _ {D : Type 0} (seen : D → Option (List ℕ)) (may_leave : D → List ℕ → Type 0) (faults limit : D → ℕ) where
   -- ---- nothing
@@ -92,6 +104,7 @@ module _ {D : Type 0} (seen : D → Option (List ℕ)) (may_leave : D → List �
     database = λ going. loc_ready_longer w.history void_entry w.database (safe.database going);
     servers = λ going. servers_more w.history void_entry w.servers (safe.servers going);
     clients = λ going. clients_more s w.history void_entry w.clients (safe.clients going);
+    admins = λ going. admins_more s w.history void_entry w.admins (safe.admins going);
     disks = safe.disks;
     sent =
         let more = sent_by-push w.history void_entry in
@@ -116,8 +129,9 @@ module _ {D : Type 0} (seen : D → Option (List ℕ)) (may_leave : D → List �
         subst (λ (left : Node → List Task). IsAt seen may_leave limit (after_nothing w) (node_moved t.cell v.input).cell left) (sym v.left)
         (subst (λ (m : NodeMoved). IsAt seen may_leave limit (after_nothing w) m.cell t.left) (sym v.moves)
         (record {
-          cell = record { loc = at.cell.loc; host_count = at.cell.host_count; hosts = at.cell.hosts; count = at.cell.count; clients = at.cell.clients; sent = at.cell.sent; clock = at.cell.clock; handed = at.cell.handed; admin_count = at.cell.admin_count };
+          cell = record { loc = at.cell.loc; host_count = at.cell.host_count; hosts = at.cell.hosts; count = at.cell.count; clients = at.cell.clients; sent = at.cell.sent; clock = at.cell.clock; handed = at.cell.handed; admin_count = at.cell.admin_count; admins = at.cell.admins };
           acts = at.acts;
+          orders = at.orders;
         }));
     counts = counts_still faults v.input (node_moved t.cell v.input).entry w v.harmless;
   }
@@ -138,7 +152,7 @@ module _ {D : Type 0} (seen : D → Option (List ℕ)) (may_leave : D → List �
   -- memory was wanting, and nothing changed
   pub nothing_changes : (s : Script) (is : Turn → CellInput → Type 0) (w : WorldState D) → IsSafe limit s w → Stepped seen may_leave faults limit s is w w (Err faulty.OutOfMemory)
   nothing_changes s is w safe = record {
-    steps = (record { script = refl; history = refl; wire = refl; clock = refl }, inr (record { lost_as = refl; clients = refl; at = λ c left at. at }));
+    steps = (record { script = refl; history = refl; wire = refl; clock = refl }, inr (record { lost_as = refl; clients = refl; admins = refl; at = λ c left at. at }));
     safe = safe;
     tells = (λ h. h, λ h. h);
     counts = λ n h. h;
@@ -199,6 +213,7 @@ module _ {D : Type 0} (seen : D → Option (List ℕ)) (may_leave : D → List �
     database = λ still. subst (λ (n : ℕ). IsLocReadySeat n d) (sym (one_longer w.history (entry_of node (front ++ outs.lines) (length outs.parcels)))) ready.database;
     servers = λ still. subst (λ (n : ℕ). ReadyServers n ss) (sym (one_longer w.history (entry_of node (front ++ outs.lines) (length outs.parcels)))) ready.servers;
     clients = λ still. clients_more s w.history (entry_of node (front ++ outs.lines) (length outs.parcels)) w.clients (safe.clients going);
+    admins = λ still. admins_more s w.history (entry_of node (front ++ outs.lines) (length outs.parcels)) w.admins (safe.admins going);
     disks = keep.disks safe.disks;
     sent =
         let more = sent_by-push w.history (entry_of node (front ++ outs.lines) (length outs.parcels)) in
@@ -225,7 +240,7 @@ module _ {D : Type 0} (seen : D → Option (List ℕ)) (may_leave : D → List �
   step_wants s is w d ss safe going keep ready same = record {
     steps = (
       record { script = refl; history = refl; wire = refl; clock = refl },
-      inr (record { lost_as = refl; clients = refl; at = λ c left at. record { cell = same c at.cell; acts = at.acts } }),
+      inr (record { lost_as = refl; clients = refl; admins = refl; at = λ c left at. record { cell = same c at.cell; acts = at.acts; orders = at.orders } }),
     );
     safe = record {
       script = safe.script;
@@ -236,6 +251,7 @@ module _ {D : Type 0} (seen : D → Option (List ℕ)) (may_leave : D → List �
       database = λ still. ready.database;
       servers = λ still. ready.servers;
       clients = safe.clients;
+      admins = safe.admins;
       disks = keep.disks safe.disks;
       sent = safe.sent;
       entries = safe.entries;
@@ -263,6 +279,7 @@ module _ {D : Type 0} (seen : D → Option (List ℕ)) (may_leave : D → List �
       database = λ going. absurd (true_false going);
       servers = λ going. absurd (true_false going);
       clients = λ going. absurd (true_false going);
+      admins = λ going. absurd (true_false going);
       disks = keep.disks safe.disks;
       sent = safe.sent;
       entries = safe.entries;

@@ -16,7 +16,9 @@ use Rattle.afs_grammar.specs.CellScripts.{counts_of, FitsEvent}
 use Rattle.afs_wire.specs.Sent as wire
 use Rattle.afs_wire.specs.Sent.{Sent}
 use Rattle.afs_schedule.specs.Schedules.{IsInput, Turn}
-use Rattle.afs_clients.specs.Happening.{ClientHears, ClientsHappened, ClientTakes, IsAsked, IsGiven, IsGivenToLoc, IsVoidClient}
+use Rattle.afs_clients.specs.Happening.{ClientHears, ClientsHappened, ClientTakes, IsAsked, IsAskedOfAdmin, IsGiven, IsGivenToLoc, IsVoidClient}
+use Rattle.afs_admins.specs.Happening.{AdminHears, AdminsHappened, AdminTakes, IsVoidAdmin}
+use Rattle.afs_admins.specs.Ready.{AllReadyAdmins}
 use Rattle.afs_cell.specs.Happening.{NothingSettles, Settles}
 use Rattle.afs_cell.specs.SeatSteps.{HasHeard, HasStep, IsFallen, IsVoidServer, ServersHappened}
 use Rattle.afs_cell.specs.Noting.{Notes}
@@ -29,14 +31,16 @@ use Rattle.afs_host.specs.LocSeated.{DatabaseSeat}
 use Rattle.afs_host.specs.Seated.{ServerSeat}
 use Rattle.afs_cell.specs.Worlds.{most_entries, most_ticks, HistoryTold, LetGo, WorldState}
 use Rattle.afs_clients.specs.declared.clients.ClientSeat.{ClientSeat}
+use Rattle.afs_admins.specs.declared.admins.AdminSeat.{AdminSeat}
 use Rattle.afs_clients.specs.declared.events.Given.TheVariants as given
 use Rattle.afs_cell.specs.declared.faults.WorldFault.{WorldFault}
+use Rattle.afs_clients.specs.declared.happening.AdminInput.{AdminInput}
 use Rattle.afs_clients.specs.declared.happening.ClientInput.{ClientInput}
 use Rattle.afs_clients.specs.declared.happening.DatabaseInput.{DatabaseInput}
 use Rattle.afs_clients.specs.declared.happening.Happened.{Happened}
 use Rattle.afs_clients.specs.declared.happening.Happened.TheVariants as happened
 use Rattle.afs_clients.specs.declared.happening.ServerInput.{ServerInput}
-use Rattle.afs_cell.proofs.Parts.{admin_heard, asked, can_all, can_manage, inside_clients, managed, message_heard, message_managed, message_served, nobody_heard, ready_all, served}
+use Rattle.afs_cell.proofs.Parts.{admin_heard, asked, can_all, can_manage, inside_admins, inside_clients, managed, message_heard, message_managed, message_served, nobody_heard, ordered, ready_admins, ready_all, served}
 use Rattle.afs_cell.proofs.Meant.{as_nothing}
 use Rattle.afs_cell.proofs.Ticked.{not_ticked, ticked}
 use Rattle.afs_cell.proofs.Whole.{at_behind, few_whole, nothing_whole, notes_whole, settles_whole}
@@ -94,11 +98,17 @@ keeps_managed {D} parts w new database node front what result same settled = kee
 pub keeps_heard : {D : Type 0} (parts w new : WorldState D) (clients : List ClientSeat) (node : Node) (front : Option Line) (what : Happened) (result : Result (Unit {0}) WorldFault) → parts ≡ w → Settles node front what (record parts { clients = clients }) new result → Keeps w new
 keeps_heard {D} parts w new clients node front what result same settled = keeps_as parts w new same (keeps_parts node front what parts (record parts { clients = clients }) refl refl refl new result settled)
 
+pub keeps_ordered : {D : Type 0} (parts w new : WorldState D) (admins : List AdminSeat) (node : Node) (front : Option Line) (what : Happened) (result : Result (Unit {0}) WorldFault) → parts ≡ w → Settles node front what (record parts { admins = admins }) new result → Keeps w new
+keeps_ordered {D} parts w new admins node front what result same settled = keeps_as parts w new same (keeps_parts node front what parts (record parts { admins = admins }) refl refl refl new result settled)
+
 -- ---- these parts are those of the world
 
 module _ {D : Type 0} (limit : D → ℕ) (parts w : WorldState D) (same : parts ≡ w) (safe : IsSafeSince limit w) where
   pub inside_since : (n : ℕ) → (1 ≤ n) × (n ≤ w.script.clients) → at_place parts.clients n ≡ None → ⊥
   inside_since = inside_clients limit (whole safe.before parts) (whole safe.before w) (ap (whole safe.before) same) safe.safe
+
+  pub inside_admins_since : (n : ℕ) → (1 ≤ n) × (n ≤ w.script.admins) → at_place parts.admins n ≡ None → ⊥
+  inside_admins_since = inside_admins limit (whole safe.before parts) (whole safe.before w) (ap (whole safe.before) same) safe.safe
 
   pub can_since : w.is_lost ≡ false → w.gone.entries + length w.history < most_entries → AllCanStep limit parts.servers
   can_since going few = can_all limit (whole safe.before parts) (whole safe.before w) (ap (whole safe.before) same) safe.safe going (few_whole safe.before w safe.is few)
@@ -108,6 +118,9 @@ module _ {D : Type 0} (limit : D → ℕ) (parts w : WorldState D) (same : parts
 
   pub ready_since : w.is_lost ≡ false → w.gone.entries + length w.history < most_entries → AllReady parts.script parts.clients
   ready_since going few = ready_all limit (whole safe.before parts) (whole safe.before w) (ap (whole safe.before) same) safe.safe going (few_whole safe.before w safe.is few)
+
+  pub admins_ready_since : w.is_lost ≡ false → w.gone.entries + length w.history < most_entries → AllReadyAdmins parts.script parts.admins
+  admins_ready_since going few = ready_admins limit (whole safe.before parts) (whole safe.before w) (ap (whole safe.before) same) safe.safe going (few_whole safe.before w safe.is few)
 
 -- the message at a place of the whole world is the one that is kept
 found_whole : {D : Type 0} (b : HistoryTold) (parts w : WorldState D) (same : parts ≡ w) (place : ℕ) (o : Option Parcel) → IsBefore b w → w.gone.messages < place → o ≡ at_place parts.wire (place - parts.gone.messages) → at_place (b.wire ++ parts.wire) place ≡ o
@@ -139,6 +152,13 @@ module _ {D : Type 0} (seen : D → Option (List ℕ)) (may_leave : D → List �
       asked seen may_leave faults limit (whole b parts) (whole b w) (ap (whole b) same) safe going (few_whole b w before few) (whole b new) result n input clients what inside happened
       (settles_whole b (Client n) None what (record parts { clients = clients }) new result settled)
 
+  pub ordered_since : (n : ℕ) (input : AdminInput) (admins : List AdminSeat) (what : Happened) → (at_place parts.admins n ≡ None → ⊥)
+      → AdminsHappened parts.script n (IsVoidAdmin input) (AdminTakes n input) parts.admins admins what → Settles (Admin n) None what (record parts { admins = admins }) new result
+      → SteppedSince seen may_leave faults limit (IsAskedOfAdmin input n) w new result
+  ordered_since n input admins what inside happened settled b before safe =
+      ordered seen may_leave faults limit (whole b parts) (whole b w) (ap (whole b) same) safe going (few_whole b w before few) (whole b new) result n input admins what inside happened
+      (settles_whole b (Admin n) None what (record parts { admins = admins }) new result settled)
+
   pub message_served_since : (place : ℕ) (p : Parcel) (i : ℕ) (bytes : List ℕ) (servers : List (ServerSeat D)) (what : Happened) → w.gone.messages < place → Some p ≡ at_place parts.wire (place - parts.gone.messages) → p.head.to ≡ Server i → bytes ≡ p.bytes
       → ServersHappened seen may_leave faults limit i (lines.Given place ∷ []) IsFallen (HasHeard (Server i) parts.clock place bytes) parts.servers servers what
       → Settles (Server i) (Some (lines.Given place)) what (record parts { servers = servers }) new result
@@ -167,9 +187,13 @@ module _ {D : Type 0} (seen : D → Option (List ℕ)) (may_leave : D → List �
   nobody_since place kept none settled b before safe =
       nobody_heard seen may_leave faults limit (whole b parts) (whole b w) (ap (whole b) same) safe going (few_whole b w before few) (whole b new) result place (found_whole b parts w same place None before kept none) (nothing_whole b w new result settled)
 
-  pub admin_since : (place : ℕ) (p : Parcel) (k : ℕ) → w.gone.messages < place → Some p ≡ at_place parts.wire (place - parts.gone.messages) → p.head.to ≡ Admin k → NothingSettles w new result → SteppedSince seen may_leave faults limit (λ (t : Turn). IsInput t (events.Deliver place)) w new result
-  admin_since place p k kept found to settled b before safe =
-      admin_heard seen may_leave faults limit (whole b parts) (whole b w) (ap (whole b) same) safe going (few_whole b w before few) (whole b new) result place p k (found_whole b parts w same place (Some p) before kept found) to (nothing_whole b w new result settled)
+  pub admin_heard_since : (place : ℕ) (p : Parcel) (n : ℕ) (bytes : List ℕ) (admins : List AdminSeat) (what : Happened) → w.gone.messages < place → Some p ≡ at_place parts.wire (place - parts.gone.messages) → p.head.to ≡ Admin n → bytes ≡ p.bytes
+      → AdminsHappened parts.script n (λ (seat : AdminSeat). seat.is_away ≡ true) (AdminHears n place bytes) parts.admins admins what
+      → Settles (Admin n) (Some (lines.Given place)) what (record parts { admins = admins }) new result
+      → SteppedSince seen may_leave faults limit (λ (t : Turn). IsInput t (events.Deliver place)) w new result
+  admin_heard_since place p n bytes admins what kept found to spelled happened settled b before safe =
+      admin_heard seen may_leave faults limit (whole b parts) (whole b w) (ap (whole b) same) safe going (few_whole b w before few) (whole b new) result place p n bytes admins what
+      (found_whole b parts w same place (Some p) before kept found) to spelled happened (settles_whole b (Admin n) (Some (lines.Given place)) what (record parts { admins = admins }) new result settled)
 
 -- ---- the clock rises
 
@@ -184,10 +208,10 @@ module _ {D : Type 0} (seen : D → Option (List ℕ)) (may_leave : D → List �
 
 -- ---- one event
 
-pub as_nothing_since : {D : Type 0} (seen : D → Option (List ℕ)) (may_leave : D → List ℕ → Type 0) (faults limit : D → ℕ) (w new : WorldState D) (result : Result (Unit {0}) WorldFault) (event : Event) → w.is_lost ≡ false → w.gone.entries + length w.history < most_entries → FitsEvent (counts_of w.script) event → IsMeant event given.Nothing → NothingSettles w new result
+pub as_nothing_since : {D : Type 0} (seen : D → Option (List ℕ)) (may_leave : D → List ℕ → Type 0) (faults limit : D → ℕ) (w new : WorldState D) (result : Result (Unit {0}) WorldFault) (event : Event) → w.is_lost ≡ false → w.gone.entries + length w.history < most_entries → IsMeant event given.Nothing → NothingSettles w new result
     → SteppedSince seen may_leave faults limit (λ (t : Turn). IsInput t event) w new result
-as_nothing_since {D} seen may_leave faults limit w new result event going few fits meant settled b before safe =
-    as_nothing seen may_leave faults limit (whole b w) (whole b new) result event safe going (few_whole b w before few) fits meant (nothing_whole b w new result settled)
+as_nothing_since {D} seen may_leave faults limit w new result event going few meant settled b before safe =
+    as_nothing seen may_leave faults limit (whole b w) (whole b new) result event safe going (few_whole b w before few) meant (nothing_whole b w new result settled)
 
 pub kept_place : {D : Type 0} (w : WorldState D) (event : Event) (place : ℕ) → IsMeant event (given.Message place) → DeliversKept w event → w.gone.messages < place
 kept_place {D} w event place meant kept = subst (λ (e : Event). DeliversKept w e) meant kept

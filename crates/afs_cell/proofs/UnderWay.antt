@@ -69,7 +69,7 @@ module _ {D : Type 0} (seen : D → Option (List ℕ)) (may_leave : D → List �
       inputs = [];
       turn = first_turn s;
       runs = runs_none w first tell;
-      at = record { cell = first.cell tell; acts = first.acts };
+      at = record { cell = first.cell tell; acts = first.acts; orders = first.orders };
       named_so = refl;
       far = none_yet s;
     };

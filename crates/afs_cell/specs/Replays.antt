@@ -1,5 +1,5 @@
--- What a replay of a script promises: what it writes is the text of a legal history of that, and the disks that it gives back stand
--- for what that history leaves.
+-- What a replay of a script promises: what it writes is the text of a history of that, which is legal where the script names no
+-- administrators, and the disks that it gives back stand for what that history leaves.
 use Rattle.std.specs.Prelude.{◌≡◌, ◌≤◌, ◌<◌, ◌⊎◌, ℕ, zero, suc, ◌+◌, List, [], ◌∷◌, ◌++◌, length, Bool, false, nat_eq, if◌then◌else◌, Option, Some, None}
 use Rattle.std.specs.Option.{option_map}
 use Rattle.afs_num.specs.declared.types.Parcel.{Parcel}
@@ -10,6 +10,9 @@ use Rattle.afs_disk.specs.declared.bank.Place.{Place}
 use Rattle.afs_disk.specs.declared.disks.Lent.{Lent}
 use Rattle.afs_law.specs.Laws.{EndsWell}
 use Rattle.afs_law.specs.Legal.{Legal}
+use Rattle.afs_moves.specs.Accepting.{AreAcceptedAsTold}
+use Rattle.afs_moves.specs.Standing.{StandWell}
+use Rattle.afs_stamps.specs.Told.{AreLocatedAsTold, AreLockedAsTold}
 use Rattle.afs_outside.specs.Outside.{AppendsFront}
 use Rattle.afs_records.specs.Durable.{Durable}
 use Rattle.afs_records.specs.LocDurable.{LocDurable}
@@ -119,16 +122,22 @@ no_other i = 0
 abbrev pub one_other : ℕ → ℕ → ℕ
 one_other server i = if nat_eq server i then 1 else 0
 
--- A legal run of the script: inputs lead from its set-up through this history to this cell, and the schedule was played so far by them.
--- The history has no more entries than one may have, and it is legal. At its end the servers hold the ideal volumes, with all that was
--- acknowledged. The count of each disk rose by each failure of that disk in it, and by its others.
+-- A run of the script: inputs lead from its set-up through this history to this cell, and the schedule was played so far by them. The history
+-- has no more entries than one may have. Behind each entry a server has a volume in service exactly where the history tells that it accepts
+-- stores, and each change is told by a server that accepts stores of its volume. The location database's entries are locked as was told, and
+-- name the servers that were told. Where the script names no administrators, it is legal, and at its end the servers hold the ideal volumes,
+-- with all that was acknowledged. The count of each disk rose by each failure of that disk in it, and by its others.
 pub record IsLegalRun (s : Script) (IsSoFar : List CellInput → Type 0) (others : ℕ → ℕ) (disk_faults : ℕ → Span ℕ) (history : List Entry) (end : NodeCell) : Type 0 where
   pub inputs : List CellInput
   pub leads : NodeLeads (node_start s) inputs history end
   pub so_far : IsSoFar inputs
   pub few : length history ≤ most_entries
-  pub legal : Legal history s
-  pub well : EndsWell s history (file_cell end)
+  pub accepted : AreAcceptedAsTold s inputs history
+  pub stand : StandWell s history
+  pub locked : AreLockedAsTold s inputs history
+  pub located : AreLocatedAsTold s inputs history
+  pub legal : s.admins ≡ 0 → Legal history s
+  pub well : s.admins ≡ 0 → EndsWell s history (file_cell end)
   pub failures : (i : ℕ) → HasDisk s i → RoseBy (own_falls i inputs history + others i) (disk_faults i)
 
 -- The inputs are the events of the script's schedule, one for one, with each drain as its deliveries.

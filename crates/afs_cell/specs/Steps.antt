@@ -4,7 +4,7 @@ use Rattle.afs_history.specs.declared.scripts.Task.{Task}
 use Rattle.afs_history.specs.declared.scripts.Script.{Script}
 use Rattle.afs_disk.specs.declared.disks.Lent.{Lent}
 use Rattle.afs_num.specs.declared.types.Node.{Node}
-use Rattle.afs_num.specs.declared.types.Node.TheVariants.{Client, Server}
+use Rattle.afs_num.specs.declared.types.Node.TheVariants.{Admin, Client, Server}
 use Rattle.afs_runs.specs.NodeRuns.{bare_entry, node_moved, node_start, CellInput, NodeCell}
 use Rattle.afs_rows.specs.Hosts.{begun_from, Fall, MayBegin}
 use Rattle.afs_rows.specs.LocRow.{LocState}
@@ -23,6 +23,7 @@ use Rattle.afs_text.specs.Telling.{told}
 use Rattle.afs_cell.specs.Worlds.{falls_at, most_entries, none_gone, AllTell, Counts, IsCell, IsSafe, Runs, WorldState}
 use Rattle.afs_host.specs.Seated.{seat_disk, ServerSeat}
 use Rattle.afs_clients.specs.declared.clients.ClientSeat.{ClientSeat}
+use Rattle.afs_admins.specs.declared.admins.AdminSeat.{AdminSeat}
 use Rattle.afs_cell.specs.declared.faults.WorldFault.{WorldFault}
 use Rattle.afs_cell.specs.declared.faults.WorldFault.TheVariants as faults
 
@@ -36,6 +37,7 @@ pub record IsFirst {D : Type 0} (seen : D → Option (List ℕ)) (may_leave : D 
   pub clock : w.clock ≡ 0
   pub going : w.is_lost ≡ false
   pub acts : Each (λ (n : ℕ) (seat : ClientSeat). tasks_of (Client n) s.tasks ≡ seat.plan) w.clients
+  pub orders : Each (λ (n : ℕ) (seat : AdminSeat). tasks_of (Admin n) s.tasks ≡ seat.plan) w.admins
   pub cell : AllTell seen w → IsCell seen may_leave limit w (node_start s)
 
 -- ---- one event
@@ -44,6 +46,7 @@ pub record IsFirst {D : Type 0} (seen : D → Option (List ℕ)) (may_leave : D 
 pub record IsAt {D : Type 0} (seen : D → Option (List ℕ)) (may_leave : D → List ℕ → Type 0) (limit : D → ℕ) (w : WorldState D) (c : NodeCell) (left : Node → List Task) : Type 0 where
   pub cell : IsCell seen may_leave limit w c
   pub acts : Each (λ (n : ℕ) (s : ClientSeat). left (Client n) ≡ s.plan) w.clients
+  pub orders : Each (λ (n : ℕ) (s : AdminSeat). left (Admin n) ≡ s.plan) w.admins
 
 -- One entry more, that of such an input; the world stands for what comes of it. Where a disk fails by itself, that disk counts it.
 pub record Plays {D : Type 0} (seen : D → Option (List ℕ)) (may_leave : D → List ℕ → Type 0) (faults limit : D → ℕ) (is : CellInput → Type 0) (t : Turn) (old new : WorldState D) : Type 0 where
@@ -70,6 +73,7 @@ pub record TellsNothing {D : Type 0} (old new : WorldState D) : Type 0 where
 pub record StandsStill {D : Type 0} (seen : D → Option (List ℕ)) (may_leave : D → List ℕ → Type 0) (limit : D → ℕ) (old new : WorldState D) : Type 0 where
   pub lost_as : new.is_lost ≡ old.is_lost
   pub clients : new.clients ≡ old.clients
+  pub admins : new.admins ≡ old.admins
   pub at : (c : NodeCell) (left : Node → List Task) → IsAt seen may_leave limit old c left → IsAt seen may_leave limit new c left
 
 -- Memory was wanting: the world can't go on, or is what it was. Its last entry was made: nothing changes.

@@ -9,6 +9,7 @@ use Rattle.afs_history.specs.declared.scripts.Script.{Script}
 use Rattle.afs_grammar.specs.CellScripts.{IsCellScript}
 use Rattle.afs_model.specs.Messages.{messages_spelled, parcels_read}
 use Rattle.afs_rows.specs.Going.{ClientState}
+use Rattle.afs_adminrows.specs.AdminRow.{AdminState}
 use Rattle.afs_rows.specs.Runs.{gives, starts_again, Entry, locations}
 use Rattle.afs_runs.specs.NodeRuns.{bare_entry, node_start, usual, CellInput, NodeCell, NodeLeads}
 use Rattle.afs_rows.specs.Hosts.{fails_early, fails_midway, gives_out}
@@ -18,6 +19,8 @@ use Rattle.afs_clients.specs.Places.{Each}
 use Rattle.afs_text.specs.Telling.{told, sent_by, AreRead}
 use Rattle.afs_clients.specs.declared.clients.ClientSeat.{ClientSeat}
 use Rattle.afs_clients.specs.Seating.{IsHanded}
+use Rattle.afs_admins.specs.Seating.{IsSeated}
+use Rattle.afs_admins.specs.declared.admins.AdminSeat.{AdminSeat}
 
 -- What was told and let go: so many entries, which sent so many messages; and of the messages so many, as nothing delivers them any more.
 pub record LetGo : Type 0 where
@@ -28,13 +31,14 @@ pub record LetGo : Type 0 where
 abbrev pub none_gone : LetGo
 none_gone = record { entries = 0; sent = 0; messages = 0 }
 
--- The script; the location database; the servers and the clients in order of number; the messages that were sent and the entries of the history, but for those
--- that were let go; the clock; and whether memory was wanting behind a node's step, so that the cell can't go on.
+-- The script; the location database; the servers, the clients and the administrators in order of number; the messages that were sent and
+-- the entries of the history, but for those that were let go; the clock; and whether memory was wanting behind a node's step, so that the cell can't go on.
 pub record WorldState (D : Type 0) : Type 0 where
   pub script : Script
   pub database : DatabaseSeat D
   pub servers : List (ServerSeat D)
   pub clients : List ClientSeat
+  pub admins : List AdminSeat
   pub wire : List Parcel
   pub history : List kept.Entry
   pub gone : LetGo
@@ -53,7 +57,12 @@ pub record IsClient (s : ClientSeat) (state : ClientState) (away : Bool) : Type 
   pub state_is : s.client.state ≡ state
   pub away_is : s.is_away ≡ away
 
--- The cell that the world stands for. It has no administrators.
+-- and an administrator's
+pub record IsAdmin (s : AdminSeat) (state : AdminState) (gone : Bool) : Type 0 where
+  pub state_is : s.mover.state ≡ state
+  pub gone_is : s.is_away ≡ gone
+
+-- The cell that the world stands for.
 pub record IsCell {D : Type 0} (seen : D → Option (List ℕ)) (may_leave : D → List ℕ → Type 0) (limit : D → ℕ) (w : WorldState D) (c : NodeCell) : Type 0 where
   pub loc : IsLocHost seen may_leave limit w.database c.loc
   pub host_count : c.host_count ≡ length w.servers
@@ -63,7 +72,8 @@ pub record IsCell {D : Type 0} (seen : D → Option (List ℕ)) (may_leave : D �
   pub sent : parcels_read w.wire ≡ messages_spelled c.sent
   pub clock : c.clock ≡ w.clock
   pub handed : c.handed ≡ locations w.script
-  pub admin_count : c.admin_count ≡ 0
+  pub admin_count : c.admin_count ≡ length w.admins
+  pub admins : Each (λ (n : ℕ) (s : AdminSeat). IsAdmin s (c.admins n) (c.gone n)) w.admins
 
 -- ---- what the next input may rely on
 
@@ -72,6 +82,12 @@ pub record IsReadyClient (s : Script) (n entries : ℕ) (seat : ClientSeat) : Ty
   pub handed : IsHanded s n seat
   pub epoch : seat.epoch ≤ entries + 1
   pub last : seat.client.state.last ≤ entries
+
+-- and an administrator
+pub record IsReadyAdmin (s : Script) (n entries : ℕ) (seat : AdminSeat) : Type 0 where
+  pub seated : IsSeated s n seat
+  pub epoch : seat.epoch ≤ entries + 1
+  pub last : seat.mover.state.last ≤ entries
 
 -- ---- disks
 
@@ -126,12 +142,13 @@ most_ticks = 1000000000
 pub record IsSafe {D : Type 0} (limit : D → ℕ) (s : Script) (w : WorldState D) : Type 0 where
   pub script : w.script ≡ s
   pub cell_script : IsCellScript s
-  pub admin_count : s.admins ≡ 0
+  pub admin_count : length w.admins ≡ s.admins
   pub server_count : length w.servers ≡ s.servers
   pub client_count : length w.clients ≡ s.clients
   pub database : w.is_lost ≡ false → IsLocReadySeat (length w.history) w.database
   pub servers : w.is_lost ≡ false → Each (λ (i : ℕ) (seat : ServerSeat D). IsReadySeat (Server i) (length w.history) seat) w.servers
   pub clients : w.is_lost ≡ false → Each (λ (n : ℕ) (seat : ClientSeat). IsReadyClient s n (length w.history) seat) w.clients
+  pub admins : w.is_lost ≡ false → Each (λ (n : ℕ) (seat : AdminSeat). IsReadyAdmin s n (length w.history) seat) w.admins
   pub disks : AllHold limit s.capacity w
   pub sent : sent_by w.history ≡ length w.wire
   pub entries : length w.history ≤ most_entries

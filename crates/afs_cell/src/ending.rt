@@ -36,6 +36,7 @@ impl<'a, D: Disk + Drop> World<'a, D> {
             database,
             servers,
             clients: _,
+            admins: _,
             wire: _,
             history: _,
             gone: _,

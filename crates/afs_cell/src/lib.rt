@@ -1,4 +1,4 @@
-//! The cell in one thread: its location database and its servers with their disks, its clients and the messages under way; and how a script is played there, and
+//! The cell in one thread: its location database and its servers with their disks, its clients, its administrators and the messages under way; and how a script is played there, and
 //! told.
 #![tactic(auto)]
 

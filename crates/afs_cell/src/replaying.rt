@@ -22,7 +22,7 @@ use afs_history::scripts::Script;
 use afs_lending::telling::{give_up, put_no_more, returned, status_of_lend, tell_left, tell_none};
 use afs_lending::{give_back, lend_all};
 use afs_outside::outside::{Failed, Sink};
-use afs_runs::laws::{node_runs_are_legal, node_runs_end_well, plain_runs_bring_nothing};
+use afs_runs::laws::{node_runs_are_legal, node_runs_end_well};
 use afs_scripts::laws::volumes_are_in_cell;
 use std::alloc::Global;
 
@@ -52,7 +52,6 @@ fn end<K: Sink, B: Bank<D: Drop>>(
 {
     node_runs_are_legal();
     node_runs_end_well();
-    plain_runs_bring_nothing();
     volumes_are_in_cell();
     let (database, left) = match world.read_at_end() {
         Ok(read) => read,
@@ -82,7 +81,6 @@ fn cut<K: Sink, B: Bank<D: Drop>>(
 {
     node_runs_are_legal();
     node_runs_end_well();
-    plain_runs_bring_nothing();
     volumes_are_in_cell();
     let disks = world.end();
     // The status stands already; that the sink failed is counted.
@@ -104,7 +102,6 @@ fn give_in<K: Sink, B: Bank<D: Drop>>(
 {
     node_runs_are_legal();
     node_runs_end_well();
-    plain_runs_bring_nothing();
     volumes_are_in_cell();
     let disks = world.end();
     // The status stands already; that the sink failed is counted.
@@ -122,7 +119,6 @@ fn replay_over<K: Sink, B: Bank<D: Drop>>(
     bank: &mut B,
 ) -> Status
     requires script { IsCellScript script.now }
-    requires admins { script.now.admins ≡ 0 }
     requires lent { AreLent B.D.limit script.now.capacity 0 disks }
     requires all { length disks ≡ script.now.servers + 1 }
     requires unused { AreUnused B.D.faults disks }
@@ -146,8 +142,7 @@ fn replay_over<K: Sink, B: Bank<D: Drop>>(
     }
 }
 
-/// Plays the script, which names no administrators, over disks of this place, and writes its text, with the bytes of each message where `wire`
-/// asks for them.
+/// Plays the script over disks of this place, and writes its text, with the bytes of each message where `wire` asks for them.
 pub fn replay<K: Sink, B: Bank<D: Drop>>(
     alloc: Global,
     script: &Script,
@@ -157,7 +152,6 @@ pub fn replay<K: Sink, B: Bank<D: Drop>>(
     bank: &mut B,
 ) -> Status
     requires script { IsCellScript script.now }
-    requires admins { script.now.admins ≡ 0 }
     ensures { EndsReplay script.now wire place.now (B.tells bank.old place.now) (SetUpLeaves B.D.seen B.D.may_leave B.D.faults script.now (record { sink = span (K.held sink.old) (K.held sink.new); passed = K.passed sink.new; lends = span (B.lends bank.old) (B.lends bank.new); given = span (B.given bank.old) (B.given bank.new); sink_faults = span (K.faults sink.old) (K.faults sink.new); bank_faults = span (B.faults bank.old) (B.faults bank.new); disk_faults = λ (n : ℕ). span (B.lent_faults bank.old n) (B.lent_faults bank.new n) })) (LendingLeaves B.D.seen B.D.faults B.D.limit script.now (record { sink = span (K.held sink.old) (K.held sink.new); passed = K.passed sink.new; lends = span (B.lends bank.old) (B.lends bank.new); given = span (B.given bank.old) (B.given bank.new); sink_faults = span (K.faults sink.old) (K.faults sink.new); bank_faults = span (B.faults bank.old) (B.faults bank.new); disk_faults = λ (n : ℕ). span (B.lent_faults bank.old n) (B.lent_faults bank.new n) })) (record { sink = span (K.held sink.old) (K.held sink.new); passed = K.passed sink.new; lends = span (B.lends bank.old) (B.lends bank.new); given = span (B.given bank.old) (B.given bank.new); sink_faults = span (K.faults sink.old) (K.faults sink.new); bank_faults = span (B.faults bank.old) (B.faults bank.new); disk_faults = λ (n : ℕ). span (B.lent_faults bank.old n) (B.lent_faults bank.new n) }) result }
 {
     match lend_all(alloc, bank, place, 0, script.servers + 1, script.capacity) {

@@ -10,6 +10,7 @@ ghost use Rattle.afs_cell.specs.Worlds.{AllTell, IsWorld};
 use crate::faults::SetupFault;
 use crate::seating::{Rooms, hosts_at_first};
 use crate::world::{Gone, World};
+use afs_admins::setup::admins_at_first;
 use afs_clients::places::Places;
 use afs_clients::setup::clients_at_first;
 use afs_disk::{Disk, Disks};
@@ -19,14 +20,13 @@ use afs_wire::Wire;
 use std::alloc::Global;
 
 /// The cell of a script over these disks, the location database's and one for each server, in order of number. A refusal hands all disks
-/// back, in order. The cell has no administrators yet, so the script names none.
+/// back, in order.
 pub fn set_up<'a, D: Disk + Drop>(
     alloc: Global,
     script: &'a Script,
     disks: Disks<D>,
 ) -> Result<World<'a, D>, (SetupFault, Disks<D>)>
     requires script { IsCellScript script.now }
-    requires admins { script.now.admins ≡ 0 }
     requires disks { AreLent D.limit script.now.capacity 0 disks }
     requires all { length disks ≡ script.now.servers + 1 }
     ensures world { IfOk result (IsWorld D.seen D.may_leave D.faults D.limit script.now) }
@@ -37,6 +37,9 @@ pub fn set_up<'a, D: Disk + Drop>(
     ensures left { IfErr result (λ e. AreAllLeft D.seen D.may_leave script.now disks e.1) }
 {
     let Ok(clients) = clients_at_first(alloc, script) else {
+        return Err((SetupFault::OutOfMemory, disks));
+    };
+    let Ok(admins) = admins_at_first(alloc, script) else {
         return Err((SetupFault::OutOfMemory, disks));
     };
     let Ok(rooms) = Rooms::with_room(alloc, script.servers as usize) else {
@@ -50,6 +53,7 @@ pub fn set_up<'a, D: Disk + Drop>(
         database: Seat::Up(database),
         servers: Places::of(seats),
         clients: Places::of(clients),
+        admins: Places::of(admins),
         wire: Wire::new(alloc),
         history: Vec::new(alloc),
         gone: Gone {

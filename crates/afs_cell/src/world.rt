@@ -6,7 +6,7 @@ ghost use Rattle.afs_history.specs.declared.scripts.Event.TheVariants as events;
 ghost use Rattle.afs_grammar.specs.CellScripts.{counts_of, FitsEvent};
 ghost use Rattle.afs_grammar.specs.Lines.{ticks_of};
 ghost use Rattle.afs_schedule.specs.Schedules.{IsInput};
-ghost use Rattle.afs_clients.specs.Happening.{IsAsked, IsDue, IsDueAtLoc, IsGiven, IsGivenToLoc};
+ghost use Rattle.afs_clients.specs.Happening.{IsAsked, IsAskedOfAdmin, IsDue, IsDueAtLoc, IsGiven, IsGivenToLoc};
 ghost use Rattle.afs_cell.specs.DatabaseHearing.{IsPickedAtLoc};
 ghost use Rattle.afs_cell.specs.Happening.{NothingSettles, Settles};
 ghost use Rattle.afs_cell.specs.Noting.{given_line, Notes};
@@ -20,10 +20,12 @@ ghost use Rattle.afs_clients.specs.declared.happening.ServerInput.TheVariants as
 
 use crate::faults::WorldFault;
 use crate::giving::{database_hears, database_takes, server_hears, server_takes};
+use afs_admins::admins::AdminSeat;
+use afs_admins::giving::{admin_hears, admin_takes};
 use afs_clients::clients::ClientSeat;
 use afs_clients::events::{Given, meaning_of};
 use afs_clients::giving::{client_hears, client_takes};
-use afs_clients::happening::{ClientInput, DatabaseInput, Happened, ServerInput};
+use afs_clients::happening::{AdminInput, ClientInput, DatabaseInput, Happened, ServerInput};
 use afs_clients::places::Places;
 use afs_clients::telling::{one_line, tell};
 use afs_disk::{Disk, Lent};
@@ -56,8 +58,8 @@ pub(crate) struct Gone {
     pub(crate) sent: u64,
 }
 
-/// The location database of a cell, its servers and its clients in order of number, the messages that were sent, the history so far and the clock. The first
-/// entries of the history may be let go, and the first messages. Where memory was wanting behind the step of a node, the cell is
+/// The location database of a cell, its servers, its clients and its administrators in order of number, the messages that were sent, the
+/// history so far and the clock. The first entries of the history may be let go, and the first messages. Where memory was wanting behind the step of a node, the cell is
 /// lost: it tells nothing any more, and its history is that from before the step.
 #[derive(Drop)]
 pub struct World<'a, D: Disk> {
@@ -66,6 +68,7 @@ pub struct World<'a, D: Disk> {
     pub(crate) database: DatabaseSeat<D>,
     pub(crate) servers: Places<ServerSeat<D>>,
     pub(crate) clients: Places<ClientSeat<'a>>,
+    pub(crate) admins: Places<AdminSeat<'a>>,
     pub(crate) wire: Wire,
     pub(crate) history: Vec<Entry>,
     pub(crate) gone: Gone,
@@ -82,7 +85,7 @@ impl<'a, D: Disk> Model for World<'a, D> {
 
     ghost Value = { WorldState D };
 
-    ghost view = { λ w. record { script = w.script.now; database = w.database; servers = w.servers.items; clients = w.clients.items; wire = w.wire.messages; history = w.history.items; gone = record { entries = w.gone.entries; sent = w.gone.sent; messages = w.wire.gone }; clock = w.clock; is_lost = w.is_lost } };
+    ghost view = { λ w. record { script = w.script.now; database = w.database; servers = w.servers.items; clients = w.clients.items; admins = w.admins.items; wire = w.wire.messages; history = w.history.items; gone = record { entries = w.gone.entries; sent = w.gone.sent; messages = w.wire.gone }; clock = w.clock; is_lost = w.is_lost } };
 
     ghost invariant = { λ w. record { empty : w.back.items ≡ []; room : w.script.now.servers + 1 ≤ vec_capacity w.back; behind : w.wire.gone ≤ w.gone.sent; ahead : w.gone.sent ≤ w.wire.gone + length w.wire.messages } };
 }
@@ -213,6 +216,20 @@ impl<'a, D: Disk> World<'a, D> {
         self.settle(Node::Client(client), None, happened)
     }
 
+    /// An administrator is given something that is no message.
+    fn order(&mut self, admin: u8, given: AdminInput) -> Result<(), WorldFault>
+        requires safe { IsSafeSince D.limit self.old }
+        requires going { self.old.is_lost ≡ false }
+        requires few { self.old.gone.entries + length self.old.history < most_entries }
+        requires inside { (1 ≤ admin) × (admin ≤ self.old.script.admins) }
+        ensures stepped { SteppedSince D.seen D.may_leave D.faults D.limit (IsAskedOfAdmin given admin) self.old self.new result }
+        ensures keeps { Keeps self.old self.new }
+        ensures clock { self.new.clock ≡ self.old.clock }
+    {
+        let happened = admin_takes(self.alloc, &mut self.admins, self.script, admin, given);
+        self.settle(Node::Admin(admin), None, happened)
+    }
+
     /// The message of this place is given to its receiver.
     fn deliver(&mut self, place: u64) -> Result<(), WorldFault>
         requires kept { self.old.gone.messages < place }
@@ -252,7 +269,10 @@ impl<'a, D: Disk> World<'a, D> {
                 let happened = database_hears(self.alloc, &mut self.database, bytes);
                 self.settle(Node::Loc, Some(place), happened)
             }
-            Node::Admin(_) => self.skip(),
+            Node::Admin(admin) => {
+                let happened = admin_hears(&mut self.admins, self.script, admin, bytes);
+                self.settle(Node::Admin(admin), Some(place), happened)
+            }
         }
     }
 
@@ -290,6 +310,7 @@ impl<'a, D: Disk> World<'a, D> {
         match meaning_of(event) {
             Given::Nothing => self.skip(),
             Given::Client(client, what) => self.ask(client, what),
+            Given::Admin(admin, what) => self.order(admin, what),
             Given::Server(server, what) => self.serve(server, what),
             Given::Database(what) => self.serve_database(what),
             Given::Message(place) => self.deliver(place),

@@ -6,7 +6,7 @@ use Rattle.afs_num.specs.declared.histories.Actor.TheVariants as actors
 use Rattle.afs_num.specs.declared.messages.Message.{Message}
 use Rattle.afs_num.specs.declared.messages.Received.TheVariants.{Whole}
 use Rattle.afs_num.specs.declared.types.Node.{Node}
-use Rattle.afs_num.specs.declared.types.Node.TheVariants.{Client}
+use Rattle.afs_num.specs.declared.types.Node.TheVariants.{Admin, Client}
 use Rattle.afs_history.specs.declared.acts.Act.{Act}
 use Rattle.afs_history.specs.declared.lines.Entry as kept
 use Rattle.afs_history.specs.declared.lines.Line.{Line}
@@ -25,6 +25,8 @@ pub use Rattle.afs_cache.specs.Managing.{seek_times_out, times_out}
 use Rattle.afs_clients.specs.Places.{put_place}
 use Rattle.afs_clients.specs.Seating.{IsHanded}
 use Rattle.afs_clients.specs.declared.clients.ClientSeat.{ClientSeat}
+use Rattle.afs_clients.specs.declared.happening.AdminInput.{AdminInput}
+use Rattle.afs_clients.specs.declared.happening.AdminInput.TheVariants as admin
 use Rattle.afs_clients.specs.declared.happening.ClientInput.{ClientInput}
 use Rattle.afs_clients.specs.declared.happening.ClientInput.TheVariants as client
 use Rattle.afs_clients.specs.declared.happening.DatabaseInput.{DatabaseInput}
@@ -127,6 +129,13 @@ IsAsked (client.TimeOut callee) n t x = IsInput t (events.Timeout (Client n) cal
 IsAsked client.Crash n t x = IsInput t (events.Crash (Client n)) x
 IsAsked client.Restart n t x = IsInput t (events.Restart (Client n)) x
 
+-- the event that gives an administrator this
+abbrev pub IsAskedOfAdmin : AdminInput → ℕ → Turn → CellInput → Type 0
+IsAskedOfAdmin admin.Act n t x = IsInput t (events.Act (Admin n)) x
+IsAskedOfAdmin (admin.TimeOut callee) n t x = IsInput t (events.Timeout (Admin n) callee) x
+IsAskedOfAdmin admin.Crash n t x = IsInput t (events.Crash (Admin n)) x
+IsAskedOfAdmin admin.Restart n t x = IsInput t (events.Restart (Admin n)) x
+
 -- nothing comes of this at the client
 abbrev pub IsBusy : ClientState → Type 0
 IsBusy c = (act : Going) × (act_of c ≡ Some act)
@@ -137,11 +146,15 @@ IsVoidClient (client.TimeOut callee) seat = (seat.is_away ≡ true) ⊎ ((act_of
 IsVoidClient client.Crash seat = seat.is_away ≡ true
 IsVoidClient client.Restart seat = seat.is_away ≡ false
 
+-- at the seat of a node without a disk: nothing comes of it, it takes a step, or memory was wanting, and the seat is as it was
+abbrev pub DisklessHappens : {A : Type 0} → (A → Type 0) → (A → A → Outs → Type 0) → A → A → Happened → Type 0
+DisklessHappens IsVoid Takes old new happened.Nothing = (new ≡ old) × IsVoid old
+DisklessHappens IsVoid Takes old new (happened.Step outs) = Takes old new outs
+DisklessHappens IsVoid Takes old new happened.Unchanged = new ≡ old
+DisklessHappens IsVoid Takes old new happened.Lost = ⊥
+
 abbrev pub ClientHappens : (ClientSeat → Type 0) → (ClientSeat → ClientSeat → Outs → Type 0) → ClientSeat → ClientSeat → Happened → Type 0
-ClientHappens IsVoid Takes old new happened.Nothing = (new ≡ old) × IsVoid old
-ClientHappens IsVoid Takes old new (happened.Step outs) = Takes old new outs
-ClientHappens IsVoid Takes old new happened.Unchanged = new ≡ old
-ClientHappens IsVoid Takes old new happened.Lost = ⊥
+ClientHappens IsVoid Takes old new what = DisklessHappens IsVoid Takes old new what
 
 -- what it was handed stays; its call and its epoch are the next ones at most
 pub record ClientGoes (s : Script) (n : ℕ) (old new : ClientSeat) (what : Happened) : Type 0 where

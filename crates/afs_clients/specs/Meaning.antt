@@ -7,9 +7,10 @@ use Rattle.afs_grammar.specs.CellScripts.{FitsEvent}
 use Rattle.afs_rows.specs.Runs.{nothing}
 use Rattle.afs_runs.specs.NodeRuns.{usual, CellInput}
 use Rattle.afs_schedule.specs.Schedules.{IsInput, Turn}
-use Rattle.afs_clients.specs.Happening.{IsAsked, IsDue, IsDueAtLoc, IsGiven, IsGivenToLoc}
+use Rattle.afs_clients.specs.Happening.{IsAsked, IsAskedOfAdmin, IsDue, IsDueAtLoc, IsGiven, IsGivenToLoc}
 use Rattle.afs_clients.specs.declared.events.Given.{Given}
 use Rattle.afs_clients.specs.declared.events.Given.TheVariants as given
+use Rattle.afs_clients.specs.declared.happening.AdminInput.{AdminInput}
 use Rattle.afs_clients.specs.declared.happening.ClientInput.{ClientInput}
 use Rattle.afs_clients.specs.declared.happening.DatabaseInput.{DatabaseInput}
 use Rattle.afs_clients.specs.declared.happening.ServerInput.{ServerInput}
@@ -18,6 +19,11 @@ use Rattle.afs_clients.specs.declared.happening.ServerInput.{ServerInput}
 pub record IsForClient (event : Event) (n : ℕ) (what : ClientInput) : Type 0 where
   pub input : (t : Turn) (x : CellInput) → IsAsked what n t x → IsInput t event x
   pub inside : (c : Counts) → FitsEvent c event → (1 ≤ n) × (n ≤ c.clients)
+
+-- and of an administrator's
+pub record IsForAdmin (event : Event) (n : ℕ) (what : AdminInput) : Type 0 where
+  pub input : (t : Turn) (x : CellInput) → IsAskedOfAdmin what n t x → IsInput t event x
+  pub inside : (c : Counts) → FitsEvent c event → (1 ≤ n) × (n ≤ c.admins)
 
 -- and of a server's, whose failure is due at a call to come
 pub record IsForServer (event : Event) (i : ℕ) (what : ServerInput) : Type 0 where
@@ -29,13 +35,14 @@ pub record IsForLoc (event : Event) (what : DatabaseInput) : Type 0 where
   pub input : (t : Turn) (x : CellInput) → IsGivenToLoc what t x → IsInput t event x
   pub due : (c : Counts) → FitsEvent c event → IsDueAtLoc what
 
--- nothing is the event, where it fits a cell without administrators
+-- nothing is the event
 abbrev pub IsForNone : Event → Type 0
-IsForNone event = (c : Counts) → FitsEvent c event → c.admins ≡ 0 → (t : Turn) → IsInput t event (usual nothing)
+IsForNone event = (t : Turn) → IsInput t event (usual nothing)
 
 abbrev pub IsMeant : Event → Given → Type 0
 IsMeant event given.Nothing = IsForNone event
 IsMeant event (given.Client n what) = IsForClient event n what
+IsMeant event (given.Admin n what) = IsForAdmin event n what
 IsMeant event (given.Server i what) = IsForServer event i what
 IsMeant event (given.Database what) = IsForLoc event what
 IsMeant event (given.Message place) = event ≡ events.Deliver place

@@ -8,16 +8,17 @@ ghost use Rattle.afs_clients.specs.declared.events.Given.TheVariants as given;
 ghost use Rattle.afs_clients.specs.declared.happening.DatabaseInput.TheVariants as database;
 ghost use Rattle.afs_clients.specs.declared.happening.ServerInput.TheVariants as server;
 
-use crate::happening::{ClientInput, DatabaseInput, ServerInput};
+use crate::happening::{AdminInput, ClientInput, DatabaseInput, ServerInput};
 use afs_history::scripts::Event;
 use afs_num::types::Node;
 
-/// What an event is: nothing; something for a client or a server of this number, or for the location database; the message of a place;
-/// or that the clock rises.
+/// What an event is: nothing; something for a client, an administrator or a server of this number, or for the location database; the
+/// message of a place; or that the clock rises.
 #[derive(Clone, Copy, Debug)]
 pub enum Given {
     Nothing,
     Client(u8, ClientInput),
+    Admin(u8, AdminInput),
     Server(u8, ServerInput),
     Database(DatabaseInput),
     Message(u64),
@@ -32,7 +33,7 @@ fn act(node: Node) -> Given
         Node::Client(client) => Given::Client(client, ClientInput::Act),
         Node::Loc => Given::Nothing,
         Node::Server(_) => Given::Nothing,
-        Node::Admin(_) => Given::Nothing,
+        Node::Admin(admin) => Given::Admin(admin, AdminInput::Act),
     }
 }
 
@@ -44,7 +45,7 @@ fn time_out(node: Node, callee: Node) -> Given
         Node::Client(client) => Given::Client(client, ClientInput::TimeOut(callee)),
         Node::Server(server) => Given::Server(server, ServerInput::TimeOut(callee)),
         Node::Loc => Given::Nothing,
-        Node::Admin(_) => Given::Nothing,
+        Node::Admin(admin) => Given::Admin(admin, AdminInput::TimeOut(callee)),
     }
 }
 
@@ -56,7 +57,7 @@ fn crash(node: Node) -> Given
         Node::Client(client) => Given::Client(client, ClientInput::Crash),
         Node::Loc => Given::Nothing,
         Node::Server(_) => Given::Nothing,
-        Node::Admin(_) => Given::Nothing,
+        Node::Admin(admin) => Given::Admin(admin, AdminInput::Crash),
     }
 }
 
@@ -82,7 +83,7 @@ fn restart(node: Node) -> Given
         Node::Client(client) => Given::Client(client, ClientInput::Restart),
         Node::Server(server) => Given::Server(server, ServerInput::Restart),
         Node::Loc => Given::Database(DatabaseInput::Restart),
-        Node::Admin(_) => Given::Nothing,
+        Node::Admin(admin) => Given::Admin(admin, AdminInput::Restart),
     }
 }
 

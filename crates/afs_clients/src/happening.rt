@@ -42,6 +42,17 @@ pub enum ClientInput {
     Restart,
 }
 
+/// What an administrator is given beside messages.
+#[derive(Clone, Copy, Debug)]
+pub enum AdminInput {
+    /// It begins its next act.
+    Act,
+    /// Its unanswered call to this node times out.
+    TimeOut(Node),
+    Crash,
+    Restart,
+}
+
 /// What came of it: nothing; a step that gave this out; or memory was wanting, and the node is what it was, or what it did can't
 /// be told.
 #[derive(Drop)]

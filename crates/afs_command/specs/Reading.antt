@@ -11,10 +11,10 @@ use Rattle.afs_command.specs.declared.statuses.Status.TheVariants as statuses
 use Rattle.afs_command.specs.declared.scripts.Refusal.{Refusal}
 use Rattle.afs_command.specs.declared.scripts.Refusal.TheVariants as refusals
 
--- how far the grammar is built: disks that stop, every act on paths, several clients and breaks, several servers and the location
--- database
+-- how far the grammar is built: disks that stop, every act on paths, several clients and breaks, several servers, the location database
+-- and administrators
 abbrev pub level : ℕ
-level = 7
+level = 9
 
 -- the input is none: this is its first bad line, and the reason
 abbrev pub IsBad : ℕ → Reason → List ℕ → Type 0

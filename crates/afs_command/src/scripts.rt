@@ -19,7 +19,7 @@ use std::alloc::Global;
 const MOST_BYTES: u32 = 16_777_216;
 
 /// How far the grammar is built.
-const FORM: Form = Form { level: 7 };
+const FORM: Form = Form { level: 9 };
 
 /// Why an input can't be played: it is no script, by its first bad line, or memory ran out.
 #[derive(Drop)]

@@ -2,10 +2,10 @@
 
 ghost use Rattle.std.specs.Prelude.{◌≡◌, drop, length, map, slice_get, IfOk};
 ghost use Rattle.std.specs.Option.{option_copied};
-ghost use Rattle.afs_schedule.specs.Schedules.{client_act, doer, tasks_of};
+ghost use Rattle.afs_schedule.specs.Schedules.{admin_act, client_act, doer, tasks_of};
 
 use afs_history::acts::Act;
-use afs_history::scripts::Task;
+use afs_history::scripts::{AdminAct, Task};
 use afs_num::types::{Mem, Node};
 use std::alloc::Global;
 use std::marker::Model;
@@ -77,6 +77,16 @@ impl<'a> Plan<'a> {
     {
         match self.next() {
             Some(Task::Client { act, .. }) => Some(act),
+            _ => None,
+        }
+    }
+
+    /// The act that an administrator begins next; none where each has begun.
+    pub fn next_admin_act(&self) -> Option<&'a AdminAct>
+        ensures { option_copied result ≡ admin_act (slice_get self.now 0) }
+    {
+        match self.next() {
+            Some(Task::Admin { act, .. }) => Some(act),
             _ => None,
         }
     }

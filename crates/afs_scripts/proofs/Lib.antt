@@ -1,5 +1,4 @@
 mod Few
 mod Listing
-mod NoAdmins
 mod Scripts
 mod SetUps

@@ -1,6 +1,5 @@
 //! Laws that join a script to the cell. Each is the contract of a function that does nothing.
 
-ghost use Rattle.afs_scripts.specs.Narrow.{NarrowFormsHaveNoAdmins};
 ghost use Rattle.afs_scripts.specs.SetUps.{LocSetUpsAreAccepted, NamesAreShort, NumbersAscend, SetUpsAreAccepted, VolumesAreInCell};
 
 /// Each server's volumes can be set up on a disk of the script's capacity.
@@ -26,9 +25,4 @@ pub fn numbers_ascend()
 /// Each volume of a script is at one of the cell's servers, of which there are eight at most.
 pub fn volumes_are_in_cell()
     ensures { VolumesAreInCell }
-{}
-
-/// Below the level of administrators a script names none.
-pub fn narrow_forms_have_no_admins()
-    ensures { NarrowFormsHaveNoAdmins }
 {}

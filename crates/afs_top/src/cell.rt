@@ -15,7 +15,6 @@ use afs_command::statuses::{Form, Status};
 use afs_disk::Bank;
 use afs_grammar::laws::scripts_are_of_cells;
 use afs_outside::outside::{Sink, Source};
-use afs_scripts::laws::narrow_forms_have_no_admins;
 use std::alloc::Global;
 
 /// Plays the script that the source holds and writes its text to the sink, over disks that the bank lends. The words are those
@@ -48,7 +47,6 @@ pub fn cell_main<S: Source, K: Sink, B: Bank<D: Drop>>(
         Err(_) => return Status::OutOfMemory,
     };
     scripts_are_of_cells();
-    narrow_forms_have_no_admins();
     match script_in(alloc, source) {
         Ok(script) => replay(alloc, &script, wire, &place, sink, bank),
         Err(status) => status,

@@ -1,5 +1,5 @@
 use Rattle.std.specs.Prelude.{◌≡◌, Some, IsSome}
-use Rattle.std.proofs.Common.{rules, map, string_bytes, refl, inl, sym, ap, ◌∙◌, arith}
+use Rattle.std.proofs.Common.{rules, map, string_bytes, refl, inl, sym, ap, ◌∙◌}
 use Rattle.afs_command.specs.Forms.{form_in, HaveForm}
 use Rattle.afs_command.specs.Reading.{level}
 use Rattle.afs_command.specs.Spans.{span}
@@ -17,7 +17,6 @@ returns-in-Err-clause-no_form g c = λ none. absurd (none (have_form (map string
 pub replay-requires : goal.replay-requires
 replay-requires g c = record {
   script = c.scripts_are_of_cells.ensures level c.in-Ok.ensures.script.input c.in-Ok.script c.in-Ok.ensures.script.read;
-  admins = c.narrow_forms_have_no_admins.ensures level c.in-Ok.ensures.script.input c.in-Ok.script c.in-Ok.ensures.script.read (omega arith);
 }
 
 pub returns-in-Ok-clause-ends : goal.returns-in-Ok-clause-ends

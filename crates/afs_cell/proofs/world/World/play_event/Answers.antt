@@ -4,13 +4,13 @@ use Rattle.afs_cell.proofs.Clocks.{nothing_clock}
 use Rattle.afs_cell.specs.Since.{whole}
 use Rattle.afs_cell.proofs.DatabasePicked.{loc_picked_as}
 use Rattle.afs_cell.proofs.Picked.{picked_as}
-use Rattle.afs_cell.proofs.Meant.{as_client, as_database, as_message, as_server, as_ticks, clock_ticks, some_ticks, ticks_within}
+use Rattle.afs_cell.proofs.Meant.{as_admin, as_client, as_database, as_message, as_server, as_ticks, clock_ticks, some_ticks, ticks_within}
 use Rattle.afs_cell.proofs.Since.{as_nothing_since, keeps_skipped, kept_place}
 use Rattle.afs_cell.proofs.world.World.play_event.Goals as goal
 
 pub returns-in-Nothing-clause-plays : goal.returns-in-Nothing-clause-plays
 returns-in-Nothing-clause-plays g c = record {
-  stepped = as_nothing_since g.D.Disk.seen g.D.Disk.may_leave g.D.Disk.faults g.D.Disk.limit c.args.self.now c.skip.new.self c.skip.result c.args.event c.requires.going c.requires.few c.requires.fits c.in-Nothing.ensures.meant c.skip.ensures;
+  stepped = as_nothing_since g.D.Disk.seen g.D.Disk.may_leave g.D.Disk.faults g.D.Disk.limit c.args.self.now c.skip.new.self c.skip.result c.args.event c.requires.going c.requires.few c.in-Nothing.ensures.meant c.skip.ensures;
   keeps = keeps_skipped c.args.self.now c.skip.new.self c.skip.result c.skip.ensures;
   clock = omega (arith, nothing_clock c.args.self.now c.skip.new.self c.skip.result c.skip.ensures);
 }
@@ -23,6 +23,16 @@ returns-in-Client-clause-plays g c = record {
   stepped = λ before is safe. as_client g.D.Disk.seen g.D.Disk.may_leave g.D.Disk.faults g.D.Disk.limit (whole before c.args.self.now) (whole before c.ask.new.self) c.ask.result c.args.event c.in-Client.client c.in-Client.what c.in-Client.ensures.meant (c.ask.ensures.stepped before is safe);
   keeps = c.ask.ensures.keeps;
   clock = omega (arith, c.ask.ensures.clock);
+}
+
+pub order-requires-clause-inside : goal.order-requires-clause-inside
+order-requires-clause-inside g c = c.in-Admin.ensures.meant.inside (counts_of c.args.self.now.script) c.requires.fits
+
+pub returns-in-Admin-clause-plays : goal.returns-in-Admin-clause-plays
+returns-in-Admin-clause-plays g c = record {
+  stepped = λ before is safe. as_admin g.D.Disk.seen g.D.Disk.may_leave g.D.Disk.faults g.D.Disk.limit (whole before c.args.self.now) (whole before c.order.new.self) c.order.result c.args.event c.in-Admin.admin c.in-Admin.what c.in-Admin.ensures.meant (c.order.ensures.stepped before is safe);
+  keeps = c.order.ensures.keeps;
+  clock = omega (arith, c.order.ensures.clock);
 }
 
 pub serve-requires-clause-due : goal.serve-requires-clause-due
@@ -64,6 +74,9 @@ returns-in-Nothing-clause-picked g c = λ i pick e. absurd (cc (c.in-Nothing.is,
 pub returns-in-Client-clause-picked : goal.returns-in-Client-clause-picked
 returns-in-Client-clause-picked g c = λ i pick e. absurd (cc (c.in-Client.is, c.meaning_of.ensures.picked i pick e))
 
+pub returns-in-Admin-clause-picked : goal.returns-in-Admin-clause-picked
+returns-in-Admin-clause-picked g c = λ i pick e. absurd (cc (c.in-Admin.is, c.meaning_of.ensures.picked i pick e))
+
 pub returns-in-Message-clause-picked : goal.returns-in-Message-clause-picked
 returns-in-Message-clause-picked g c = λ i pick e. absurd (cc (c.in-Message.is, c.meaning_of.ensures.picked i pick e))
 
@@ -92,6 +105,9 @@ returns-in-Nothing-clause-picked_at_loc g c = λ pick e. absurd (cc (c.in-Nothin
 
 pub returns-in-Client-clause-picked_at_loc : goal.returns-in-Client-clause-picked_at_loc
 returns-in-Client-clause-picked_at_loc g c = λ pick e. absurd (cc (c.in-Client.is, c.meaning_of.ensures.picked_at_loc pick e))
+
+pub returns-in-Admin-clause-picked_at_loc : goal.returns-in-Admin-clause-picked_at_loc
+returns-in-Admin-clause-picked_at_loc g c = λ pick e. absurd (cc (c.in-Admin.is, c.meaning_of.ensures.picked_at_loc pick e))
 
 pub returns-in-Server-clause-picked_at_loc : goal.returns-in-Server-clause-picked_at_loc
 returns-in-Server-clause-picked_at_loc g c = λ pick e. absurd (cc (c.in-Server.is, c.meaning_of.ensures.picked_at_loc pick e))

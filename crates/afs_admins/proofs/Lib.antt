@@ -1,0 +1,4 @@
+pub mod Seated
+mod Waits
+mod Heard
+mod Lifted

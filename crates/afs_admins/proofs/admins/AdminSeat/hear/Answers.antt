@@ -1,0 +1,12 @@
+use Rattle.std.proofs.Common.{refl, [], arith}
+use Rattle.afs_model.specs.Messages.{received_by}
+use Rattle.afs_model.proofs.Spellings.{found_in}
+use Rattle.afs_admins.proofs.Heard.{hears_message}
+use Rattle.afs_admins.proofs.admins.AdminSeat.hear.Goals as goal
+
+pub returns-in-Ok-clause-happens : goal.returns-in-Ok-clause-happens
+returns-in-Ok-clause-happens c = λ place. record {
+  makes = λ m whole.
+      hears_message c.args.admin place c.args.self.now.mover.node (received_by [] c.args.bytes.now) m c.args.self.now _ c.in-Ok.outs c.requires.node (found_in [] c.args.bytes.now m (λ i. omega (arith, c.type_inv.bytes i)) whole) c.if-self.false refl (c.in-Ok.ensures.step.1 place);
+  plan = refl;
+}
