@@ -95,7 +95,7 @@ wire_text() {
     sed -e '1,/^---- wire$/d' "tests/rows/$1.row"
 }
 
-for example in break_overtakes stopped_inside_a_write out_of_order; do
+for example in break_overtakes stopped_inside_a_write out_of_order move_under_a_store mover_dies release_with_a_site_down dump_since_a_counter; do
     same "$example" "$texts/$example.drawing" "$texts/$example.text"
     plain_text "example_$example" > "$work/text"
     if cmp -s "$texts/$example.text" "$work/text"; then pass; else fail "$example" 'its text is not that of the row'; fi
