@@ -99,7 +99,7 @@ def places():
         yield path, os.path.dirname(os.path.dirname(path))
     for path in sorted(glob.glob(f"{ROOT}/tests/wrong_programs/*/*.edit")):
         yield path, f"{ROOT}/crates/{os.path.basename(os.path.dirname(path))}"
-    for kind, folder in (("disks", "crates"), ("law", "crates"), ("operations", "crates/afs_ideal"), ("dumps", "crates/afs_dumps"), ("fold", "crates/afs_fold"), ("volrows", "crates/afs_volrows"), ("adminrows", "crates/afs_adminrows"), ("copyrows", "crates/afs_copyrows")):
+    for kind, folder in (("disks", "crates"), ("law", "crates"), ("operations", "crates/afs_ideal"), ("dumps", "crates/afs_dumps"), ("fold", "crates/afs_fold"), ("volrows", "crates/afs_volrows"), ("adminrows", "crates/afs_adminrows"), ("copyrows", "crates/afs_copyrows"), ("moves", "crates/afs_moves"), ("stamps", "crates/afs_stamps")):
         for path in sorted(glob.glob(f"{ROOT}/tests/wrong_{kind}/*.edit")):
             yield path, f"{ROOT}/{folder}"
 

@@ -5,6 +5,8 @@
 # crate afs_dumps in the same way, by tests/wrong_dumps; WRONG=fold and WRONG=volrows try the records and the rows of a volume server
 # (crates afs_fold and afs_volrows), by tests/wrong_fold and tests/wrong_volrows; WRONG=adminrows tries the acts of administrators (crate
 # afs_adminrows) by tests/wrong_adminrows, and WRONG=copyrows clients of read-only volumes (crate afs_copyrows) by tests/wrong_copyrows.
+# WRONG=moves and WRONG=stamps try laws on runs with administrators (crates afs_moves and afs_stamps), by tests/wrong_moves and
+# tests/wrong_stamps.
 # Run it when the definitions or the rows have changed. It takes some 15 s an edit, so it is no part of the gate. With NAMEs it
 # tries these alone. All is done in a copy: the repository stays as it is.
 #
@@ -25,7 +27,9 @@ case ${WRONG:-operations} in
     volrows) changed_crate=afs_volrows edits=tests/wrong_volrows law=deeds_are_told ;;
     adminrows) changed_crate=afs_adminrows edits=tests/wrong_adminrows law=copy ;;
     copyrows) changed_crate=afs_copyrows edits=tests/wrong_copyrows law=copies_are_plain ;;
-    *) echo 'WRONG is operations, dumps, fold, volrows, adminrows or copyrows'; exit 1 ;;
+    moves) changed_crate=afs_moves edits=tests/wrong_moves law=lines_stand_well ;;
+    stamps) changed_crate=afs_stamps edits=tests/wrong_stamps law=entries_are_told ;;
+    *) echo 'WRONG is operations, dumps, fold, volrows, adminrows, copyrows, moves or stamps'; exit 1 ;;
 esac
 
 work=$(mktemp -d)

@@ -11,7 +11,7 @@ use Rattle.afs_vnode.specs.Stores.{Held}
 use Rattle.afs_volume.specs.Assembling.{make_volume}
 use Rattle.afs_volume.specs.Seen.{FitsHead}
 use Rattle.afs_setup.proofs.Laid.{are_told, is_stored, volume_fits, AreTold}
-use Rattle.afs_memory.proofs.Readied.{made_again, told_again}
+use Rattle.afs_readying.proofs.Readied.{made_again, told_again}
 use Rattle.afs_setup.proofs.laying.volume_told.Goals as goal
 
 pub images_told-requires-clause-fits : goal.images_told-requires-clause-fits
