@@ -43,13 +43,17 @@ impl Model for Restorer {
     ghost invariant = { λ r. IsFed r.step r.parts r.pending.items r.length r.short r.refused };
 }
 
-/// Takes all bytes away but so many at the end.
-fn keep_last(bytes: &mut Vec<u8>, left: usize)
+/// Takes all bytes away but so many at the end. Where none is left, their room is given back.
+fn keep_last(alloc: Global, bytes: &mut Vec<u8>, left: usize)
     requires { left ≤ length bytes.old.items }
     ensures { bytes.new.items ≡ drop (length bytes.old.items - left) bytes.old.items }
 {
-    let count = bytes.len() - left;
-    bytes.drain(..count);
+    if left == 0 {
+        *bytes = Vec::new(alloc);
+    } else {
+        let count = bytes.len() - left;
+        bytes.drain(..count);
+    }
 }
 
 impl Restorer {
@@ -89,7 +93,7 @@ impl Restorer {
                 self.step = step;
                 self.length = length;
                 self.short = short;
-                keep_last(&mut self.pending, left);
+                keep_last(alloc, &mut self.pending, left);
                 Ok(())
             }
             Ok(Read::Refused(step, left, short)) => {
@@ -97,7 +101,7 @@ impl Restorer {
                 self.step = step;
                 self.length = length;
                 self.refused = Some(offset);
-                keep_last(&mut self.pending, left);
+                keep_last(alloc, &mut self.pending, left);
                 Err(DumpFault::Bad(offset))
             }
             Err(_) => {

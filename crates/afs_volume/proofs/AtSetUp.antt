@@ -3,7 +3,6 @@ use Rattle.std.proofs.Common.{◌≡◌, ℕ, [], ◌∷◌, map, refl, sym, ap,
 use Rattle.afs_num.specs.declared.vnodes.Vnode as image
 use Rattle.afs_num.specs.declared.volumes.VolumeHead.{VolumeHead}
 use Rattle.afs_ideal.specs.Tables.{Table}
-use Rattle.afs_ideal.specs.Volumes.{Vnode, Volume}
 use Rattle.afs_records.specs.Changes.{at_set_up}
 use Rattle.afs_records.specs.Durable.{Stored}
 use Rattle.afs_volume.specs.Seen.{all_seen, volume_seen}

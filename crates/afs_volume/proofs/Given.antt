@@ -14,7 +14,7 @@ ready_by a_file x = refl
 ready_by a_link x = refl
 
 -- the names of a vnode are those that are ready
-names_ready : (x : image.Vnode) → names_or_none (listed_as x) ≡ (seen x).names
+pub names_ready : (x : image.Vnode) → names_or_none (listed_as x) ≡ (seen x).names
 unfolding seen
 names_ready x = ready_by (kind_seen x.kind) x
 

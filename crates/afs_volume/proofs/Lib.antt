@@ -1,4 +1,5 @@
 pub mod AtSetUp
+pub mod Counted
 pub mod Folded
 pub mod Given
 pub mod Imaged

@@ -8,8 +8,10 @@ use Rattle.afs_ideal.specs.Operations.{is_kind}
 use Rattle.afs_ideal.specs.Tables.{Table, get, set, unset, AscendsFrom}
 use Rattle.afs_ideal.proofs.Tables.{get_set, get_unset}
 use Rattle.afs_ideal.specs.Volumes.{Kind, a_directory, a_file, a_link}
+use Rattle.afs_volume.specs.Given.{names_or_none}
 use Rattle.afs_volume.specs.Listed.{listed_as, listed_at, listed_by, names_in, Lists}
 use Rattle.afs_volume.specs.Seen.{all_seen, kind_seen, names_seen, seen}
+use Rattle.afs_volume.proofs.Given.{names_ready}
 use Rattle.afs_volume.proofs.Tables.{got}
 use Rattle.afs_volume.proofs.Readable.{next_take, nothing_taken}
 
@@ -30,7 +32,7 @@ listed names t all n = all n ∙ ap listed_at (sym (got n t))
 
 -- ---- place by place
 
-later_number : (m : ℕ) (t : Table image.Vnode) (i : ℕ) (p : ℕ × image.Vnode) → AscendsFrom m t → slice_get t i ≡ Some p → m ≤ p.0
+pub later_number : (m : ℕ) (t : Table image.Vnode) (i : ℕ) (p : ℕ × image.Vnode) → AscendsFrom m t → slice_get t i ≡ Some p → m ≤ p.0
 later_number m [] i p up e = absurd cc
 later_number m (q ∷ ps) zero p up e = subst (λ (r : ℕ × image.Vnode). m ≤ r.0) (let z : q ≡ p = cc in z) up.0
 later_number m (q ∷ ps) (suc i) p up e = let later = later_number (q.0 + 1) ps i p up.1 e in omega (arith, up.0, later)
@@ -43,7 +45,7 @@ turned n a b x y o true true lt one other = absurd (grind (arith, nat_tests, lt,
 turned n a b x y o true false lt one other = refl
 turned n a b x y o false d lt one other = refl
 
-taken_gets : (m n : ℕ) (t : Table image.Vnode) (i : ℕ) (p : ℕ × image.Vnode) → AscendsFrom m t → slice_get t i ≡ Some p → get n (take (i + 1) t) ≡ (if nat_eq p.0 n then Some p.1 else get n (take i t))
+pub taken_gets : (m n : ℕ) (t : Table image.Vnode) (i : ℕ) (p : ℕ × image.Vnode) → AscendsFrom m t → slice_get t i ≡ Some p → get n (take (i + 1) t) ≡ (if nat_eq p.0 n then Some p.1 else get n (take i t))
 taken_gets m n [] i p up e = absurd cc
 taken_gets m n (q ∷ ps) zero p up e =
     let is : q ≡ p = cc in
@@ -64,7 +66,7 @@ pub one_more_as : (old new : ℕ → Option (List Name)) (t : Table image.Vnode)
     → ((n : ℕ) → new n ≡ (if nat_eq x.vnode n then names else old n)) → Lists old (all_seen (take i t)) → Lists new (all_seen (take (i + 1) t))
 one_more_as old new t i x names up there is h all = one_more old new t i x up (sym there) (λ n. h n ∙ ap (λ (o : Option (List Name)). if nat_eq x.vnode n then o else old n) is) all
 
-ended : (t : Table image.Vnode) (i : ℕ) → slice_get t i ≡ None → take (i + 1) t ≡ take i t
+pub ended : (t : Table image.Vnode) (i : ℕ) → slice_get t i ≡ None → take (i + 1) t ≡ take i t
 ended [] i e = nothing_taken (i + 1) ∙ sym (nothing_taken i)
 ended (p ∷ ps) zero e = absurd cc
 ended (p ∷ ps) (suc i) e = next_take p ps i ∙ ap (λ (u : Table image.Vnode). p ∷ u) (ended ps i e)
@@ -79,31 +81,12 @@ none_yet names (p ∷ ps) is = is
 
 -- ---- what is found by number and by place
 
-some_by : (k : Kind) (x : image.Vnode) (names : List Name) → kind_seen x.kind ≡ k → Some names ≡ listed_by k (names_seen k x.contents) → names ≡ names_seen k x.contents
-some_by a_directory x names is e = cc
-some_by a_file x names is e = absurd cc
-some_by a_link x names is e = absurd cc
+names_by : (o : Option image.Vnode) → names_or_none (names_of o) ≡ names_in o
+names_by None = refl
+names_by (Some x) = names_ready x
 
-none_by : (k : Kind) (x : image.Vnode) → kind_seen x.kind ≡ k → None ≡ listed_by k (names_seen k x.contents) → [] ≡ names_seen k x.contents
-none_by a_directory x is e = absurd cc
-none_by a_file x is e = refl
-none_by a_link x is e = refl
-
-kept_by : (o : Option image.Vnode) (names : List Name) → Some names ≡ names_of o → names ≡ names_in o
-unfolding seen
-kept_by None names e = absurd cc
-kept_by (Some x) names e = some_by (kind_seen x.kind) x names refl e
-
-missing_by : (o : Option image.Vnode) → None ≡ names_of o → [] ≡ names_in o
-unfolding seen
-missing_by None e = refl
-missing_by (Some x) e = none_by (kind_seen x.kind) x refl e
-
-pub kept_names : (names : ℕ → Option (List Name)) (t : Table image.Vnode) (n : ℕ) (d : List Name) → Lists names (all_seen t) → Some d ≡ names n → d ≡ names_in (get n t)
-kept_names names t n d all e = kept_by (get n t) d (e ∙ found names t all n)
-
-pub no_names : (names : ℕ → Option (List Name)) (t : Table image.Vnode) (n : ℕ) → Lists names (all_seen t) → None ≡ names n → [] ≡ names_in (get n t)
-no_names names t n all e = missing_by (get n t) (e ∙ found names t all n)
+pub names_listed : (names : ℕ → Option (List Name)) (t : Table image.Vnode) (n : ℕ) → Lists names (all_seen t) → names_or_none (names n) ≡ names_in (get n t)
+names_listed names t n all = ap names_or_none (found names t all n) ∙ names_by (get n t)
 
 gets_from : (m : ℕ) (t : Table image.Vnode) (i : ℕ) (p : ℕ × image.Vnode) → AscendsFrom m t → slice_get t i ≡ Some p → get p.0 t ≡ Some p.1
 gets_from m [] i p up e = absurd cc

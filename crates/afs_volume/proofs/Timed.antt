@@ -1,5 +1,5 @@
 -- Each vnode of a volume has its time.
-use Rattle.std.proofs.Common.{◌≡◌, ℕ, Bool, true, false, cond, [], ◌∷◌, Option, Some, None, nat_eq, ap}
+use Rattle.std.proofs.Common.{◌≡◌, ℕ, Bool, true, false, cond, [], ◌∷◌, Option, Some, nat_eq, ap}
 use Rattle.afs_num.specs.declared.vnodes.Vnode as image
 use Rattle.afs_ideal.specs.Tables.{Table, get}
 use Rattle.afs_records.specs.Durable.{or_zero}

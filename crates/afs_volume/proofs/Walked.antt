@@ -1,5 +1,5 @@
 -- Going through a list place by place.
-use Rattle.std.proofs.Common.{◌≡◌, ℕ, zero, suc, ◌+◌, ◌≤◌, Bool, true, false, List, [], ◌∷◌, length, drop, Some, slice_get, if◌then◌else◌, refl, sym, ap, ◌∙◌, arith, ◌-◌, ◌<◌, get_or}
+use Rattle.std.proofs.Common.{◌≡◌, ℕ, zero, suc, ◌+◌, ◌≤◌, Bool, true, false, List, [], ◌∷◌, length, drop, Some, slice_get, if◌then◌else◌, refl, sym, ap, ◌∙◌, arith, ◌<◌, get_or}
 use Rattle.std.specs.Prelude.{◌&&◌, nat_eq, nat_lt, is_some, not}
 use Rattle.std.specs.List.{list_all}
 use Rattle.afs_num.specs.declared.vnodes.Vnode as image

@@ -13,6 +13,7 @@ use crate::Volume;
 use crate::bodies::blocks_of;
 use crate::directories::Directories;
 use crate::faults::AssembleFault;
+use crate::naming::NameCounts;
 use crate::soundness::Parts;
 use afs_num::volumes::VolumeHead;
 use afs_vnode::store::VnodeStore;
@@ -55,10 +56,12 @@ fn sound_names(
     ensures not_sound { result ≡ Err NotSound → make_volume head.now vnodes.now.table ≡ false }
 {
     let dirs = Directories::read(alloc, vnodes)?;
+    let counts = NameCounts::of(alloc, vnodes, &dirs)?;
     let parts = Parts {
         head,
         vnodes,
         dirs: &dirs,
+        counts: &counts,
     };
     if !parts.is_sound() {
         return Err(AssembleFault::NotSound);

@@ -5,6 +5,7 @@ ghost use Rattle.std.specs.Option.{option_copied};
 ghost use Rattle.indexmap.specs.IndexMap as maps;
 ghost use Rattle.afs_ideal.specs.Tables.{AscendsFrom};
 ghost use Rattle.afs_volume.specs.Assembling.{are_read, passes_at, reads_pair, IsReadablePlace};
+ghost use Rattle.afs_volume.specs.Given.{names_or_none};
 ghost use Rattle.afs_volume.specs.Listed.{listed_as, Lists};
 ghost use Rattle.afs_volume.specs.Seen.{all_seen, AreReadable};
 ghost use Rattle.afs_volume.specs.declared.faults.AssembleFault.TheVariants.{NotSound};
@@ -14,6 +15,7 @@ use crate::finding::names_of;
 use crate::is_directory;
 use crate::ready::read_vnode;
 use afs_dir::Listing;
+use afs_num::directories::Name;
 use afs_num::types::Mem;
 use afs_num::vnodes::Vnode;
 use afs_vnode::store::VnodeStore;
@@ -53,6 +55,16 @@ impl Directories {
         ensures { option_copied result ≡ maps.get nat_eq self.now.dirs number }
     {
         self.dirs.get(&number)
+    }
+
+    /// The names of the vnode of this number: what is no directory has none.
+    pub fn names(&self, number: u32) -> &[Name]
+        ensures { result.now ≡ names_or_none (maps.get nat_eq self.now.dirs number) }
+    {
+        match self.get(number) {
+            Some(names) => names.names(),
+            None => &[],
+        }
     }
 
     /// Makes room for so many more.

@@ -87,9 +87,6 @@ impl Volume {
     pub fn names_at(&self, number: u32) -> &[Name]
         ensures { result.now ≡ names_in (get number self.now.vnodes.table) }
     {
-        match self.dirs.get(number) {
-            Some(names) => names.names(),
-            None => &[],
-        }
+        self.dirs.names(number)
     }
 }

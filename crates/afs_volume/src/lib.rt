@@ -8,6 +8,7 @@ pub mod directories;
 pub mod faults;
 pub mod finding;
 mod listed;
+mod naming;
 mod new;
 mod ready;
 mod shown;

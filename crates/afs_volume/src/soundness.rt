@@ -5,27 +5,32 @@ ghost use Rattle.std.specs.List.{list_all};
 ghost use Rattle.std.specs.Option.{option_copied, option_map};
 ghost use Rattle.indexmap.specs.IndexMap as maps;
 ghost use Rattle.afs_ideal.specs.Operations.{is_below};
+ghost use Rattle.afs_ideal.specs.Soundness.{names_of};
 ghost use Rattle.afs_ideal.specs.Tables.{get, AscendsFrom};
 ghost use Rattle.afs_records.specs.Sound.{ascends_from, gives_one, is_named_in, is_placed, is_sound, is_sound_vnode};
 ghost use Rattle.afs_volume.specs.Assembling.{is_sound_pair, passes_at};
 ghost use Rattle.afs_volume.specs.Listed.{names_in, Lists};
+ghost use Rattle.afs_volume.specs.Naming.{same_naming, CountsNames};
 ghost use Rattle.afs_volume.specs.Seen.{all_seen, seen, volume_seen};
 
 use crate::directories::Directories;
 use crate::is_directory;
-use crate::standing::{gives_held, has_links, has_names, is_root, kind_is_right, names_of};
+use crate::naming::{NameCounts, Naming};
+use crate::standing::{gives_held, has_links, has_names, is_root, kind_is_right};
 use afs_num::directories::Name;
 use afs_num::vnodes::Vnode;
 use afs_num::volumes::VolumeHead;
 use afs_vnode::store::VnodeStore;
 
-/// What is to be a volume, with the names of its directories.
+/// What is to be a volume, with the names of its directories, and how many each vnode has in each of them.
 #[derive(Clone, Copy)]
 pub struct Parts<'a> {
     pub head: &'a VolumeHead,
     pub vnodes: &'a VnodeStore,
     pub dirs: &'a Directories,
+    pub counts: &'a NameCounts,
     ghost listed: { Lists (maps.get nat_eq dirs.now.dirs) (all_seen vnodes.now.table) },
+    ghost counted: { CountsNames (maps.get same_naming counts.now.counts) vnodes.now.table },
 }
 
 impl<'a> Parts<'a> {
@@ -42,10 +47,18 @@ impl<'a> Parts<'a> {
     fn names(&self, number: u32) -> &[Name]
         ensures { result.now ≡ names_in (get number self.now.vnodes.now.table) }
     {
-        match self.dirs.get(number) {
-            Some(names) => names.names(),
-            None => &[],
-        }
+        self.dirs.names(number)
+    }
+
+    /// How many names of this vnode the directory of this number has.
+    fn names_of(&self, directory: u32, vnode: u32, unique: u32) -> usize
+        ensures { result ≡ names_of vnode unique (names_in (get directory self.now.vnodes.now.table)) }
+    {
+        self.counts.count(Naming {
+            directory,
+            vnode,
+            unique,
+        })
     }
 
     fn gives_one(&self, d: &Vnode, name: &Name) -> bool
@@ -67,8 +80,7 @@ impl<'a> Parts<'a> {
     {
         match self.get(x.parent_vnode) {
             Some(d) if is_directory(d) && d.unique == x.parent_unique => {
-                let names = self.names(x.parent_vnode);
-                has_names(x, names_of(x.vnode, x.unique, names))
+                has_names(x, self.names_of(x.parent_vnode, x.vnode, x.unique))
             }
             _ => false,
         }

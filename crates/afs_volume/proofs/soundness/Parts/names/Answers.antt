@@ -1,14 +1,9 @@
 use Rattle.std.proofs.Common.{nat_eq, ◌∙◌}
 use Rattle.indexmap.specs.IndexMap as maps
-use Rattle.afs_volume.proofs.Listing.{kept_names, no_names}
+use Rattle.afs_volume.proofs.Listing.{names_listed}
 use Rattle.afs_volume.proofs.soundness.Parts.names.Goals as goal
 
-pub returns-in-Some : goal.returns-in-Some
-returns-in-Some c =
+pub returns : goal.returns
+returns c =
     let p = c.args.self.now in
-    c.names.ensures ∙ kept_names (maps.get nat_eq p.dirs.now.dirs) p.vnodes.now.table c.args.number c.in-Some.names.now p.listed c.in-Some.ensures
-
-pub returns-in-None : goal.returns-in-None
-returns-in-None c =
-    let p = c.args.self.now in
-    no_names (maps.get nat_eq p.dirs.now.dirs) p.vnodes.now.table c.args.number p.listed c.in-None.ensures
+    c.names.ensures ∙ names_listed (maps.get nat_eq p.dirs.now.dirs) p.vnodes.now.table c.args.number p.listed
