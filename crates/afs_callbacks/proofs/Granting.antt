@@ -14,8 +14,8 @@ use Rattle.afs_ideal.specs.Operations.{Found}
 use Rattle.afs_rows.specs.Callbacks.{fids_found, gives_up_all, grants_found}
 use Rattle.afs_rows.specs.ServerRow as row
 use Rattle.afs_rows.specs.ServerRow.{granted}
-use Rattle.afs_server_parts.specs.Telling.{grant_line, grants_seen}
-use Rattle.afs_server_parts.specs.declared.telling.Grant.{Grant}
+use Rattle.afs_callees.specs.Telling.{grant_line, grants_seen}
+use Rattle.afs_callees.specs.declared.telling.Grant.{Grant}
 use Rattle.afs_callbacks.specs.States.{IsPromiseToNode}
 
 -- ---- two filters, one after the other

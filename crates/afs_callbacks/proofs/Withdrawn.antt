@@ -24,7 +24,7 @@ use Rattle.afs_breaks.specs.declared.types.OwedBreak.{OwedBreak}
 use Rattle.afs_breaks.specs.declared.types.Promise.{Promise}
 use Rattle.afs_rows.specs.Callbacks.{fids_found, new_owes, withdraws_all}
 use Rattle.afs_rows.specs.ServerRow.{granted_new}
-use Rattle.afs_server_parts.specs.Telling.{grants_seen}
+use Rattle.afs_callees.specs.Telling.{grants_seen}
 use Rattle.afs_server_parts.specs.Turning.{IsBreakToNode}
 use Rattle.afs_callbacks.specs.Saving.{breaks_new, fids_changed, fids_granted, has_fid, hits_each, hits_fresh, new_grants, withdraws_each}
 use Rattle.afs_callbacks.specs.States.{IsPromiseToNode}

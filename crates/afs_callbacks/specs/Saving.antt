@@ -20,8 +20,8 @@ use Rattle.afs_records.specs.Changes.{keeping}
 use Rattle.afs_records.specs.Records.{FitsRecord}
 use Rattle.afs_rows.specs.Callbacks.{owe_line}
 use Rattle.afs_rows.specs.ServerRow.{key_of, versioned}
-use Rattle.afs_server_parts.specs.Telling.{grant_line}
-use Rattle.afs_server_parts.specs.declared.telling.Grant.{Grant}
+use Rattle.afs_callees.specs.Telling.{grant_line}
+use Rattle.afs_callees.specs.declared.telling.Grant.{Grant}
 use Rattle.afs_server_parts.specs.declared.turns.Stand.{Stand}
 use Rattle.afs_callbacks.specs.Answering.{reply_told, IsRepliedAfter}
 use Rattle.afs_callbacks.specs.declared.saving.Planned.{Planned}

@@ -9,7 +9,7 @@ use Rattle.afs_breaks.specs.Promises.{Lists, no_lists}
 use Rattle.afs_rows.specs.Callbacks as row
 use Rattle.afs_rows.specs.Callbacks.{first_backs, owe_line}
 use Rattle.afs_rows.specs.States.{Backs, Held}
-use Rattle.afs_server_parts.specs.Called.{call_to, known_to, AreGoodCalls, Callee}
+use Rattle.afs_callees.specs.Called.{call_to, known_to, AreGoodCalls, Callee}
 use Rattle.afs_server_parts.specs.Turning.{IsBreakToNode}
 use Rattle.afs_server_parts.specs.declared.turns.Stand.{Stand}
 

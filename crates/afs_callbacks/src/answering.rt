@@ -11,13 +11,13 @@ ghost use Rattle.afs_callbacks.specs.Answering.{reply_told, IsAnswer, IsRepliedN
 ghost use Rattle.afs_callbacks.specs.States.{backs_by, IsToNodes};
 
 use crate::callbacks::Callbacks;
+use afs_callees::replies::{notice, promised, refusal, reply};
 use afs_message::spelled::SpelledMessage;
 use afs_num::calls::FsReply;
 use afs_num::sequences::{Octets, Sequence};
 use afs_num::types::{Fid, Head, Mem, Node};
 use afs_promise::Promises;
 use afs_server_parts::ending::Ended;
-use afs_server_parts::replies::{notice, promised, refusal, reply};
 use afs_server_parts::turns::{Stand, Turn};
 use std::alloc::Global;
 

@@ -6,13 +6,13 @@ ghost use Rattle.afs_rows.specs.Callbacks.{no_turn};
 ghost use Rattle.afs_server_parts.specs.Turning.{IsFresh, IsReady, IsTurn};
 ghost use Rattle.afs_callbacks.specs.States.{backs_by, no_callbacks, IsToNodes};
 ghost use Rattle.std.specs.Option.{option_copied};
-ghost use Rattle.afs_server_parts.specs.Called.{call_to};
+ghost use Rattle.afs_callees.specs.Called.{call_to};
 
 use afs_breaks::types::OwedBreak;
+use afs_callees::callees::find_call;
 use afs_num::sequences::Sequence;
 use afs_num::types::{Mem, Node};
 use afs_promise::Promises;
-use afs_server_parts::callees::find_call;
 use afs_server_parts::calling::{BreakCall, BreakCallee};
 use afs_server_parts::held::HeldReply;
 use afs_server_parts::turns::{Stand, Turn};

@@ -10,10 +10,10 @@ ghost use Rattle.afs_server_parts.specs.Turning.{IsBreakToNode};
 ghost use Rattle.afs_callbacks.specs.States.{risen_with};
 
 use afs_breaks::types::OwedBreak;
+use afs_callees::telling::tell_owed;
 use afs_num::types::{Mem, Node};
 use afs_promise::Promises;
 use afs_server_parts::ending::Ended;
-use afs_server_parts::telling::tell_owed;
 use afs_server_parts::turns::{Stand, Turn};
 use std::alloc::Global;
 

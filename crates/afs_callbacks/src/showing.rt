@@ -3,19 +3,19 @@
 ghost use Rattle.std.specs.Prelude.{◌≡◌, map, IfOk, OnErr, OnOk};
 ghost use Rattle.afs_breaks.specs.Promises.{grants_all};
 ghost use Rattle.afs_rows.specs.ServerRow.{granted, replied};
-ghost use Rattle.afs_server_parts.specs.Telling.{grant_line};
-ghost use Rattle.afs_server_parts.specs.declared.telling.Grant as told;
+ghost use Rattle.afs_callees.specs.Telling.{grant_line};
+ghost use Rattle.afs_callees.specs.declared.telling.Grant as told;
 ghost use Rattle.afs_callbacks.specs.Answering.{reply_told, IsRepliedNow, CanTell};
 ghost use Rattle.afs_callbacks.specs.States.{IsToNodes};
 
 use crate::answering::{Replied, reply_told};
 use crate::callbacks::Callbacks;
 use crate::saving::fids_granted;
+use afs_callees::telling::{Grant, tell_grants};
 use afs_history::lines::Lines;
 use afs_num::calls::FsReply;
 use afs_num::types::{Head, Mem, Node};
 use afs_promise::Promises;
-use afs_server_parts::telling::{Grant, tell_grants};
 use afs_server_parts::turns::Stand;
 use std::alloc::Global;
 use std::slice::from_ref;

@@ -3,7 +3,7 @@
 ghost use Rattle.std.specs.Prelude.{◌≡◌, IfOk};
 ghost use Rattle.afs_breaks.specs.Promises.{expired};
 ghost use Rattle.afs_rows.specs.Callbacks.{ends_all, no_turn, timed};
-ghost use Rattle.afs_server_parts.specs.Called.{IsGoodCall};
+ghost use Rattle.afs_callees.specs.Called.{IsGoodCall};
 ghost use Rattle.afs_server_parts.specs.Ending.{IsPlanOf};
 ghost use Rattle.afs_callbacks.specs.States.{backs_by, IsToNodes};
 ghost use Rattle.afs_callbacks.specs.Waiting.{lists_timed};

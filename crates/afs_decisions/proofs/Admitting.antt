@@ -19,7 +19,7 @@ use Rattle.afs_rows.specs.ServerRow.{drops, is_client, not_served, refuses, time
 use Rattle.afs_rows.specs.States.{Seat, ServerState}
 use Rattle.afs_volrows.specs.FileRow.{file_admits, file_called, file_received, file_runs, file_serves, file_volume}
 use Rattle.afs_message.specs.Spelled.{Spells}
-use Rattle.afs_server_parts.specs.declared.telling.Grant.{Grant}
+use Rattle.afs_callees.specs.declared.telling.Grant.{Grant}
 use Rattle.afs_decisions.specs.Deciding.{is_on_volume, CanBeTold, Decides, IsByClient, Runs}
 use Rattle.afs_decisions.specs.declared.decided.Decided.{Decided}
 use Rattle.afs_decisions.specs.declared.decided.Decided.TheVariants as decided

@@ -27,7 +27,7 @@ use Rattle.afs_rows.specs.ServerRow as row
 use Rattle.afs_rows.specs.ServerRow.{decided, granted_by, reading_in, refuses, shows, Decision}
 use Rattle.afs_rows.specs.States.{ServerState}
 use Rattle.afs_volrows.specs.FileRow.{closed_code, file_in, missing_code, unless_closed}
-use Rattle.afs_server_parts.specs.Telling.{grants_seen}
+use Rattle.afs_callees.specs.Telling.{grants_seen}
 use Rattle.afs_changes.specs.Changes.{after, Applies}
 use Rattle.afs_changes.specs.Planning.{is_changing}
 use Rattle.afs_reads.specs.Replying.{is_reading, refusal_of, reply_of, time_in, times_of, FitsReply, Replies}

@@ -24,8 +24,8 @@ use Rattle.afs_model.specs.Heads.{is_zero}
 use Rattle.afs_rows.specs.ServerRow.{refuses, several, sight_by, sight_in, sight_status, statuses_read, sync_first, Sight}
 use Rattle.afs_rows.specs.States.{Lasting, ServerState}
 use Rattle.afs_volrows.specs.FileRow.{closed_code, file_sight, missing_code, sight_unless}
-use Rattle.afs_server_parts.specs.Telling.{grants_seen}
-use Rattle.afs_server_parts.specs.declared.telling.Grant.{Grant}
+use Rattle.afs_callees.specs.Telling.{grants_seen}
+use Rattle.afs_callees.specs.declared.telling.Grant.{Grant}
 use Rattle.afs_reads.specs.Replying.{refusal_of, reply_of, Replies}
 use Rattle.afs_volume.specs.Giving.{volume_of}
 use Rattle.afs_shelves.specs.Shelving.{stored_as}

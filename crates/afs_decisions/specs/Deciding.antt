@@ -28,8 +28,8 @@ use Rattle.afs_records.specs.Durable.{changed_stored, time_in, versions_told}
 use Rattle.afs_rows.specs.ServerRow as row
 use Rattle.afs_rows.specs.ServerRow.{drops, given_up_read, is_client, refuses, repeats, result, roomed, shows, stored_by, tells_boot, Decision}
 use Rattle.afs_rows.specs.States.{ServerState}
-use Rattle.afs_server_parts.specs.Telling.{grants_seen}
-use Rattle.afs_server_parts.specs.declared.telling.Grant.{Grant}
+use Rattle.afs_callees.specs.Telling.{grants_seen}
+use Rattle.afs_callees.specs.declared.telling.Grant.{Grant}
 use Rattle.afs_callbacks.specs.Saving.{grant_of, CanBeWritten}
 use Rattle.afs_reads.specs.declared.faults.OpFault.{OpFault}
 use Rattle.afs_reads.specs.declared.faults.OpFault.TheVariants as faults

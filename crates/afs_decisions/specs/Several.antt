@@ -8,7 +8,7 @@ use Rattle.afs_ideal.specs.Operations.{Caller}
 use Rattle.afs_ideal.specs.Replies.{sync_of}
 use Rattle.afs_shape.specs.Rows.{no_callback, no_sync}
 use Rattle.afs_rows.specs.ServerRow.{sight_status, Sight}
-use Rattle.afs_server_parts.specs.Telling.{grants_seen}
+use Rattle.afs_callees.specs.Telling.{grants_seen}
 use Rattle.afs_reads.specs.declared.faults.OpFault.{OpFault}
 use Rattle.afs_reads.specs.declared.faults.OpFault.TheVariants as faults
 use Rattle.afs_decisions.specs.declared.decided.Decided.{Decided}

@@ -1,10 +1,10 @@
 // What is decided on a call.
+use afs_callees::few::Few;
+use afs_callees::telling::Grant;
 use afs_message::spelled::SpelledMessage;
 use afs_num::calls::FsReply;
 use afs_num::sequences::Sequence;
 use afs_num::types::Fid;
-use afs_server_parts::few::Few;
-use afs_server_parts::telling::Grant;
 use afs_volume::ReadyChange;
 
 /// What becomes of a call: no answer; its caller is told this server's boot number; its kept reply is sent again; it is refused

@@ -9,14 +9,14 @@ ghost use Rattle.afs_decisions.specs.Deciding.{granted_data, granted_in, granted
 ghost use Rattle.afs_rows.specs.States.{ServerState};
 
 use crate::decided::Decided;
+use afs_callees::few::Few;
+use afs_callees::telling::Grant;
 use afs_changes::apply_ready;
 use afs_num::calls::{AfsFetchStatus, FsCall, FsReply};
 use afs_num::sequences::Sequence;
 use afs_num::types::{Fid, Head, Mem, Node};
 use afs_reads::faults::OpFault;
 use afs_reads::read;
-use afs_server_parts::few::Few;
-use afs_server_parts::telling::Grant;
 use afs_volume::{ReadyChange, Volume};
 use std::alloc::{AllocError, Global};
 

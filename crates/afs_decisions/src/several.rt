@@ -9,6 +9,8 @@ ghost use Rattle.afs_rows.specs.ServerRow.{sight_in};
 ghost use Rattle.afs_decisions.specs.Several.{or_first, seen_in, sync_told, AreTold, IsStatusRead, Sees, ToldAs};
 
 use crate::decided::Decided;
+use afs_callees::few::Few;
+use afs_callees::telling::Grant;
 use afs_num::calls::{
     AfsCallBack, AfsFetchStatus, AfsVolSync, CallBacks, FsCall, FsReply, Statuses,
 };
@@ -16,8 +18,6 @@ use afs_num::sequences::Sequence;
 use afs_num::types::{Code, Fid, Mem};
 use afs_reads::faults::OpFault;
 use afs_reads::read;
-use afs_server_parts::few::Few;
-use afs_server_parts::telling::Grant;
 use afs_volume::Volume;
 use std::alloc::{AllocError, Global};
 

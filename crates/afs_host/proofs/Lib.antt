@@ -1,12 +1,9 @@
-pub mod Becoming
 pub mod Blows
 pub mod Booting
-pub mod Breaking
 pub mod Broken
 pub mod Fallen
 pub mod Finding
 pub mod Folded
-pub mod Handled
 pub mod LocBecoming
 pub mod LocBreaking
 pub mod LocHandled

@@ -21,9 +21,8 @@ use Rattle.afs_server_parts.specs.declared.faults.NodeFault.TheVariants as fault
 use Rattle.afs_host.specs.LocSeats.{DatabaseRunning, IsLocStepUp, IsLocUp, LocCanRun, LocGoesOn}
 use Rattle.afs_host.specs.LocServing.{RunsLocRow}
 use Rattle.afs_host.specs.Setting.{IsSet}
-use Rattle.afs_host.proofs.Handled.{same_set}
 use Rattle.afs_host.proofs.LocStepping.{as_loc_up, loc_up_step}
-use Rattle.afs_host.proofs.Stepping.{lowered_set, unstruck}
+use Rattle.afs_host.proofs.Stepping.{lowered_set, unstruck, same_set}
 
 abbrev the_calls : {D : Type 0} → DatabaseRunning D → List ℕ → ℕ
 the_calls {D} old bytes = loc_device_calls (loc_seen old.store) (loc_decided_then old.store bytes)

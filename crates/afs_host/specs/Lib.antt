@@ -3,7 +3,6 @@ pub mod LocSeats
 pub mod LocServing
 pub mod LocStanding
 pub mod LocStarting
-pub mod Seated
 pub mod Seats
 pub mod Serving
 pub mod Setting

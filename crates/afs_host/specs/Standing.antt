@@ -1,27 +1,12 @@
--- What the disk of a node that is down stands for, of whatever kind the node is; and that of a server node.
+-- What the disk of a node that is down stands for, of whatever kind the node is.
 use Rattle.std.specs.Prelude.{◌≡◌, ◌⊎◌, ◌+◌, ℕ, List, [], ◌∷◌, ◌++◌, Bool, true, false, Option, Some, None}
 use Rattle.afs_num.specs.declared.messages.Message.{Message}
-use Rattle.afs_num.specs.declared.messages.Received.TheVariants.{Whole}
 use Rattle.afs_num.specs.declared.records.Mark.{Mark}
-use Rattle.afs_num.specs.declared.records.StoreRecord.{StoreRecord}
-use Rattle.afs_num.specs.declared.types.Node.{Node}
 use Rattle.afs_history.specs.declared.lines.Line.{Line}
-use Rattle.afs_journal.specs.Records.{whole_records}
-use Rattle.afs_records.specs.Durable.{mark_of, Durable}
+use Rattle.afs_records.specs.Durable.{mark_of}
 use Rattle.afs_rows.specs.Hosts.{at_rest, begun_from, in_boot, in_step, Fall, Kind, MayFind}
-use Rattle.afs_rows.specs.States.{Lasting}
-use Rattle.afs_readying.specs.declared.prepared.Prepared.{Prepared}
 use Rattle.afs_store.specs.Folding.{Folding}
 use Rattle.afs_store.specs.Stores.{StandFor}
-use Rattle.afs_volstore.specs.VolumeFold.{volume_fold}
-use Rattle.afs_volstore.specs.declared.held.Held.{Held}
-use Rattle.afs_server.specs.Seen.{begun_state}
-use Rattle.afs_volrows.specs.NodeHosts.{node_kind}
-use Rattle.afs_volrows.specs.VolStates.{fresh_vol, NodeState}
-use Rattle.afs_node.specs.Handling.{node_record}
-use Rattle.afs_sharing.specs.Lasting.{lasting_of}
-
--- ---- a node of any kind
 
 -- How a kind of node, whose state is one of S, keeps that on its disk: by which records R, which make there what is one of T; what is
 -- read of this, and what of the state lasts, both as one of L, with the room of the disk and the boot in that; the record of a step that
@@ -76,34 +61,3 @@ IsKeptFound k s fall mark records = (after : Bool) × (MayFind fall after × IsK
 
 abbrev pub IsKeptIn : {R T M P L S : Type 0} → Keeping R T M P L S → S → Fall → Mark → List (List ℕ) → Type 0
 IsKeptIn k s fall mark records = LiesBefore k s mark records ⊎ LiesAfter k s fall mark records
-
--- ---- a server node
-
--- over what a restart finds: the volume server begins with the callers to whom the disk keeps replies
-abbrev pub begun_node : Durable → NodeState
-begun_node d = record { file = begun_state d; vol = fresh_vol (lasting_of d).kept }
-
-abbrev pub server_keeping : Node → Keeping StoreRecord Durable Held Prepared Lasting NodeState
-server_keeping me = record {
-  kind = node_kind me;
-  fold = volume_fold;
-  read = lasting_of;
-  lasting = λ s. s.file.lasting;
-  capacity = λ l. l.capacity;
-  boot = λ l. l.boot;
-  decided = λ s clock m. node_record me s clock (Whole m);
-  begun = begun_node;
-}
-
-abbrev pub LiesAs : Node → NodeState → Fall → Mark → Bool → List (List ℕ) → Type 0
-LiesAs me s fall mark after records = IsKeptAs (server_keeping me) s fall mark after records
-
-abbrev pub LiesFound : Node → NodeState → Fall → Mark → List (List ℕ) → Type 0
-LiesFound me s fall mark records = IsKeptFound (server_keeping me) s fall mark records
-
-abbrev pub LiesIn : Node → NodeState → Fall → Mark → List (List ℕ) → Type 0
-LiesIn me s fall mark records = IsKeptIn (server_keeping me) s fall mark records
-
--- so it is of the whole records of these bytes
-abbrev pub Lies : Node → NodeState → Fall → Mark → List ℕ → Type 0
-Lies me s fall mark bytes = LiesIn me s fall mark (whole_records bytes)

@@ -5,8 +5,7 @@ ghost use Rattle.afs_model.specs.Messages.{received};
 ghost use Rattle.afs_host.specs.LocSeats.{loc_disk_of, LocCanRun};
 ghost use Rattle.afs_host.specs.LocServing.{loc_disk_served, IsLocHandled, IsLocServed, LocBecomes, LocGoesOnServed, LocKeepsMark, LocRestsServed, MakesLocRow, RunsLocRow};
 
-use crate::running::Running;
-use crate::serving::CALLS_OF_A_RECORD;
+use crate::running::{CALLS_OF_A_RECORD, Running};
 use afs_disk::{Disk, Fuse};
 use afs_history::lines::Outs;
 use afs_locdb::LocDb;

@@ -1,21 +1,19 @@
-//! A node of a cell with its disk, up or down; and a server node and the location database as such nodes: what they are given, how they
-//! go down, and how they begin again. Each call is the step of its host.
+//! A node of a cell with its disk, up or down; and the location database as such a node: what it is given, how it goes down, and how it
+//! begins again. Each call is the step of its host.
 #![tactic(auto)]
 
 mod database;
 mod database_serving;
 mod database_starting;
-mod resting;
-mod running;
+pub mod resting;
+pub mod running;
 mod seats;
-mod server;
-mod serving;
-mod setting;
-mod starting;
+pub mod setting;
+pub mod starting;
 mod stores;
 
 pub use resting::Resting;
-pub use running::{DatabaseRunning, Running, ServerRunning};
-pub use seats::{DatabaseSeat, Seat, ServerSeat};
+pub use running::{DatabaseRunning, Running};
+pub use seats::{DatabaseSeat, Seat};
 pub use starting::Start;
 pub use stores::OnDisk;

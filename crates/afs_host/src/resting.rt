@@ -12,8 +12,8 @@ use std::marker::Model;
 /// The disk of a node that is down, and the mark of its store after the last step whose lines were told.
 #[derive(Drop)]
 pub struct Resting<D: Disk> {
-    pub(crate) disk: D,
-    pub(crate) mark: Mark,
+    pub disk: D,
+    pub mark: Mark,
 }
 
 impl<D: Disk> Model for Resting<D> {
@@ -25,7 +25,7 @@ impl<D: Disk> Model for Resting<D> {
 }
 
 /// What is left of a node with this store.
-pub(crate) fn rest_of<T: OnDisk>(store: T) -> Resting<T::D>
+pub fn rest_of<T: OnDisk>(store: T) -> Resting<T::D>
     ensures value { result ≡ record { disk = (T.shown store).fuse.disk; mark = count_mark (T.shown store).count } }
     ensures kept { (T.shown store).closed ≡ false → T.kept store (T.D.seen (T.shown store).fuse.disk) (T.D.may_leave (T.shown store).fuse.disk) }
     ensures counted { (T.shown store).closed ≡ false → IsCounted (T.shown store).count (T.D.seen (T.shown store).fuse.disk) }

@@ -13,22 +13,20 @@ use crate::stores::OnDisk;
 use afs_disk::{Disk, Fuse};
 use afs_history::lines::Line;
 use afs_locdb::LocDb;
-use afs_node::ServerNode;
-use afs_volstore::VolStore;
 use std::marker::Model;
+
+/// How many device calls a record takes.
+pub const CALLS_OF_A_RECORD: u64 = 4;
 
 /// A node that is up: what it has in memory, its store, and how its disk is set to stop it or to fail.
 #[derive(Drop)]
 pub struct Running<N, T: OnDisk> {
-    pub(crate) memory: N,
-    pub(crate) store: T,
-    pub(crate) armed: Armed,
+    pub memory: N,
+    pub store: T,
+    pub armed: Armed,
 }
 
-/// A server node that is up, over such a disk.
-pub type ServerRunning<D> = Running<ServerNode, VolStore<Fuse<D>>>;
-
-/// The location database that is up, over such a disk: all that it has in memory is in its store.
+/// The location database that is up, over a disk behind a fuse: all that it has in memory is in its store.
 pub type DatabaseRunning<D> = Running<(), LocDb<Fuse<D>>>;
 
 impl<N, T: OnDisk> Model for Running<N, T> {
@@ -42,7 +40,7 @@ impl<N, T: OnDisk> Model for Running<N, T> {
 
 impl<N: Drop, T: OnDisk> Running<N, T> {
     /// The disk is to pass so many device calls more, and then to stop the node. It takes no memory.
-    pub(crate) fn set_stop(&mut self, calls: u32, pick: u8)
+    pub fn set_stop(&mut self, calls: u32, pick: u8)
         ensures { self.new ≡ record self.old { store = T.with_fuse self.old.store (armed calls (T.shown self.old.store).fuse); armed = record self.old.armed { stop = Some (calls, pick) } } }
     {
         self.store.arm(calls as u64);
@@ -53,7 +51,7 @@ impl<N: Drop, T: OnDisk> Running<N, T> {
     }
 
     /// The disk is to fail at this one of its next device calls. It takes no memory.
-    pub(crate) fn set_fail(&mut self, call: u32)
+    pub fn set_fail(&mut self, call: u32)
         ensures { self.new ≡ record self.old { store = T.with_fuse self.old.store (failing call (T.shown self.old.store).fuse); armed = record self.old.armed { fail = Some call } } }
     {
         self.store.fail_at(call as u64);
@@ -61,7 +59,7 @@ impl<N: Drop, T: OnDisk> Running<N, T> {
     }
 
     /// What a crash of its disk with this pick leaves of it. It takes no memory.
-    pub(crate) fn left_by(self, pick: u8) -> Resting<T::D>
+    pub fn left_by(self, pick: u8) -> Resting<T::D>
         ensures mark { result.mark ≡ count_mark (T.shown self.store).count }
         ensures picked { T.D.seen result.disk ≡ T.D.left_by (T.shown self.store).fuse.disk pick }
         ensures image { IfSome (T.D.seen result.disk) (λ bytes. T.D.may_leave (T.shown self.store).fuse.disk bytes × LeavesJust bytes (T.D.may_leave result.disk)) }

@@ -1,7 +1,7 @@
 //! The place of a node of the cell that has a disk.
 
 use crate::resting::Resting;
-use crate::running::{DatabaseRunning, ServerRunning};
+use crate::running::DatabaseRunning;
 
 /// A node that is up, or what is left of one that is down.
 #[derive(Drop)]
@@ -10,8 +10,5 @@ pub enum Seat<U, R> {
     Down(R),
 }
 
-/// The place of a server node over such a disk.
-pub type ServerSeat<D> = Seat<ServerRunning<D>, Resting<D>>;
-
-/// The place of the location database over such a disk.
+/// The place of the location database over a disk behind a fuse.
 pub type DatabaseSeat<D> = Seat<DatabaseRunning<D>, Resting<D>>;

@@ -11,13 +11,13 @@ ghost use Rattle.afs_locdb.specs.Handling.{Answers, Does};
 ghost use Rattle.afs_locdb.specs.Seen.{IsInBoot};
 
 use crate::database::LocDb;
+use afs_callees::replies::{key, notice, refusal};
 use afs_disk::Disk;
 use afs_history::lines::{Lines, Outs};
 use afs_message::spelled::{Sent, SpelledMessage};
 use afs_num::location_calls::LocReply;
 use afs_num::messages::{Carried, Message, Reply};
 use afs_num::types::{Head, Mem, Parcels};
-use afs_server_parts::replies::{key, notice, refusal};
 use std::alloc::Global;
 
 /// A reply of the database's interface.

@@ -25,6 +25,7 @@ use crate::answering::{reply_to, sent};
 use crate::changes::LocChange;
 use crate::database::LocDb;
 use crate::operations::NO_ROOM;
+use afs_callees::replies::key;
 use afs_disk::Disk;
 use afs_history::lines::Outs;
 use afs_locrecord::types::{Body, Deed, LocRecord};
@@ -35,7 +36,6 @@ use afs_num::records::RecordHead;
 use afs_num::sequences::Octets;
 use afs_num::types::{Head, Mem};
 use afs_server_parts::faults::NodeFault;
-use afs_server_parts::replies::key;
 use afs_server_parts::words::are_words;
 use std::alloc::{AllocError, Global};
 

@@ -17,7 +17,7 @@ use Rattle.afs_volrows.specs.VolSteps.{node_back_timeout_row, node_begun_after, 
 use Rattle.afs_callbacks.specs.States.{CallbackState}
 use Rattle.afs_sendings.specs.Pieces.{call_seen, dumps_of, Piece}
 use Rattle.afs_volstore.specs.Stores.{Store}
-use Rattle.afs_server_parts.specs.Called.{call_to}
+use Rattle.afs_callees.specs.Called.{call_to}
 use Rattle.afs_server_parts.specs.declared.faults.NodeFault.{NodeFault}
 use Rattle.afs_server_parts.specs.declared.faults.NodeFault.TheVariants as faults
 use Rattle.afs_server.specs.Handling.{server_seen, Handles, ServesOver}

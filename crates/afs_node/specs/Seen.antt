@@ -9,7 +9,7 @@ use Rattle.afs_model.specs.Heads.{head_at}
 use Rattle.afs_model.specs.Messages.{received_by}
 use Rattle.afs_model.specs.Rpc.{first_of}
 use Rattle.afs_rows.specs.ServerRow.{is_client}
-use Rattle.afs_server_parts.specs.Called.{call_to}
+use Rattle.afs_callees.specs.Called.{call_to}
 use Rattle.afs_volrows.specs.VolStates.{NodeState}
 use Rattle.afs_volstore.specs.Stores.{Store}
 use Rattle.afs_server.specs.Handling.{calls_served, server_seen, ServesOver}

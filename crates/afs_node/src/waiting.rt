@@ -3,7 +3,7 @@
 ghost use Rattle.std.specs.Prelude.{◌≡◌, ◌≤◌, [], None, Some, true, IsErrOf, IsSome, OnOk};
 ghost use Rattle.afs_rows.specs.States as rows;
 ghost use Rattle.afs_sendings.specs.Pieces.{call_seen, Piece};
-ghost use Rattle.afs_server_parts.specs.Called.{call_to};
+ghost use Rattle.afs_callees.specs.Called.{call_to};
 ghost use Rattle.afs_server_parts.specs.declared.faults.NodeFault.TheVariants as faults;
 ghost use Rattle.afs_server.specs.Seen.{CanDraw};
 ghost use Rattle.afs_volrows.specs.VolSteps.{node_back_timeout_row, node_wake_row, piece_timeout_row};

@@ -7,7 +7,7 @@ use Rattle.afs_num.specs.declared.types.Node.TheVariants.{Server}
 use Rattle.afs_ideal.specs.Operations.{is_number}
 use Rattle.afs_rows.specs.Callbacks.{put_at}
 use Rattle.afs_rows.specs.States.{Unanswered}
-use Rattle.afs_server_parts.specs.Called.{call_to, known_to}
+use Rattle.afs_callees.specs.Called.{call_to, known_to}
 use Rattle.afs_volrows.specs.VolStates.{PieceCall, Sending}
 use Rattle.afs_volrows.specs.VolSteps.{piece_message, sent_whole}
 use Rattle.afs_sendings.specs.declared.pieces.Pieces.{Pieces}

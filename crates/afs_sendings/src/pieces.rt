@@ -3,17 +3,17 @@
 ghost use Rattle.std.specs.Prelude.{◌≡◌, ◌≤◌, ◌+◌, ◌++◌, ◌∷◌, [], Some, None, false, IfOk, OnOk};
 ghost use Rattle.std.specs.Option.{option_map};
 ghost use Rattle.afs_num.specs.Nodes.{IsNode};
-ghost use Rattle.afs_server_parts.specs.Called.{call_to, known_to};
+ghost use Rattle.afs_callees.specs.Called.{call_to, known_to};
 ghost use Rattle.afs_volrows.specs.VolSteps.{moved_on, sent_whole};
 ghost use Rattle.afs_sendings.specs.Pieces.{adds, ends, renews, retries, sends, starts, way_of, AreTo, IsServerNode, Piece};
 ghost use Rattle.afs_sendings.specs.Sendings.{first_of, rest_of};
 
 use crate::sendings::{PieceCall, PieceCallee, Queue, Sending};
-use afs_message::spelled::{Sent, SpelledMessage};
-use afs_num::types::{Mem, Node};
-use afs_server_parts::callees::{
+use afs_callees::callees::{
     BackCall, copy_callees, end_call, find_call, known, set_call, set_known,
 };
+use afs_message::spelled::{Sent, SpelledMessage};
+use afs_num::types::{Mem, Node};
 use afs_server_parts::pumping::next_number;
 use afs_server_parts::turns::Stand;
 use std::alloc::Global;

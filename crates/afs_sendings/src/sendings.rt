@@ -9,13 +9,13 @@ ghost use Rattle.afs_volrows.specs.VolSteps.{moved_on, piece_message, sent_whole
 ghost use Rattle.afs_dumps.specs.Streams.{piece_at};
 ghost use Rattle.afs_sendings.specs.Sendings.{first_of, rest_of};
 
+use afs_callees::callees::{BackCall, Callee, Copies};
 use afs_dump::pieces::{MOST_PIECE, is_last_piece, piece_of};
 use afs_message::spelled::SpelledMessage;
 use afs_num::messages::{Call, Carried, Message};
 use afs_num::sequences::Octets;
 use afs_num::types::{Half, Head, Mem, Node};
 use afs_num::volume_calls::VolCall;
-use afs_server_parts::callees::{BackCall, Callee, Copies};
 use afs_server_parts::turns::Stand;
 use std::alloc::{AllocError, Global};
 use std::marker::Model;

@@ -11,7 +11,7 @@ use Rattle.afs_rows.specs.Callbacks as row
 use Rattle.afs_rows.specs.Callbacks.{pumped}
 use Rattle.afs_rows.specs.States.{Lasting, Seat, ServerState}
 use Rattle.afs_rows.specs.ServerSteps.{stepped}
-use Rattle.afs_server_parts.specs.Called.{call_to, known_to, AreGoodCalls}
+use Rattle.afs_callees.specs.Called.{call_to, known_to, AreGoodCalls}
 use Rattle.afs_server_parts.specs.Ending.{backs_left, Ends, IsPlan}
 use Rattle.afs_server_parts.specs.Turning.{IsBreakToNode}
 use Rattle.afs_server_parts.specs.declared.ending.Ended.{Ended}

@@ -24,12 +24,12 @@ use Rattle.afs_rows.specs.Callbacks.{alls, fids_found, grants_found, new_owes, n
 use Rattle.afs_rows.specs.ServerRow.{change_reply_to, granted, granted_in, key_of, made, result, saved, saves, stored_by, versioned, Change}
 use Rattle.afs_rows.specs.ServerSteps.{stepped}
 use Rattle.afs_rows.specs.States.{Lasting, ServerState}
-use Rattle.afs_server_parts.specs.Called.{AreGoodCalls}
+use Rattle.afs_callees.specs.Called.{AreGoodCalls}
 use Rattle.afs_message.specs.Spelled.{Spells}
-use Rattle.afs_server_parts.specs.Telling.{grant_line}
+use Rattle.afs_callees.specs.Telling.{grant_line}
 use Rattle.afs_server_parts.specs.Ending.{Ends, IsPlan}
 use Rattle.afs_server_parts.specs.Turning.{IsBreakToNode, answer_turn}
-use Rattle.afs_server_parts.specs.declared.telling.Grant.{Grant}
+use Rattle.afs_callees.specs.declared.telling.Grant.{Grant}
 use Rattle.afs_volstore.specs.Stores.{Store}
 use Rattle.afs_callbacks.specs.Answering.{reply_told, with_lists}
 use Rattle.afs_decisions.specs.Deciding.{IsMade}

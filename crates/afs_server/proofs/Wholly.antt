@@ -21,8 +21,8 @@ use Rattle.afs_rows.specs.ServerSteps.{done}
 use Rattle.afs_rows.specs.States.{ServerState}
 use Rattle.afs_volrows.specs.FileRow.{file_decides, file_row}
 use Rattle.afs_server_parts.specs.Turning.{IsBreakToNode}
-use Rattle.afs_server_parts.specs.Telling.{grants_seen}
-use Rattle.afs_server_parts.specs.declared.telling.Grant.{Grant}
+use Rattle.afs_callees.specs.Telling.{grants_seen}
+use Rattle.afs_callees.specs.declared.telling.Grant.{Grant}
 use Rattle.afs_volstore.specs.Stores.{Store}
 use Rattle.afs_decisions.specs.Deciding.{leaves_disk, Decides, FitsDecided, IsReading, LeavesDisk}
 use Rattle.afs_server.specs.Handling.{holds_seen, lines_behind, record_decided, server_seen, Does, Handles, Makes}

@@ -12,7 +12,7 @@ use Rattle.afs_rows.specs.Callbacks.{first_backs, risen_turn}
 use Rattle.afs_rows.specs.ServerSteps.{stepped}
 use Rattle.afs_rows.specs.Steps.{Step}
 use Rattle.afs_rows.specs.States.{BackCall, Backs, Held, Seat, ServerState}
-use Rattle.afs_server_parts.specs.Called.{call_to, AreGoodCalls, Callee}
+use Rattle.afs_callees.specs.Called.{call_to, AreGoodCalls, Callee}
 use Rattle.afs_server_parts.specs.Turning.{IsBreakToNode}
 use Rattle.afs_callbacks.specs.States.{backs_at, CallbackState, IsPromiseToNode}
 use Rattle.afs_sharing.specs.Lasting.{KeepsForNodes}

@@ -16,13 +16,13 @@ ghost use Rattle.afs_sharing.specs.Lasting.{lasting_of};
 
 use crate::server::FileServer;
 use afs_callbacks::answering::Replied;
+use afs_callees::replies::{key, reply};
 use afs_disk::Disk;
 use afs_history::lines::Outs;
 use afs_message::spelled::SpelledMessage;
 use afs_num::sequences::Octets;
 use afs_num::types::{Fid, Head, Key, Mem};
 use afs_server_parts::callers::Callers;
-use afs_server_parts::replies::{key, reply};
 use afs_sharing::answering::is_last_change;
 use afs_sharing::drawing::stand;
 use afs_volstore::VolStore;

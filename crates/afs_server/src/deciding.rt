@@ -15,6 +15,7 @@ ghost use Rattle.afs_server.specs.Handling.{holds_seen, server_seen, ServesOver}
 use crate::closing::{closed_code, missing_code};
 use crate::server::FileServer;
 use afs_call::Admit;
+use afs_callees::few::Few;
 use afs_decisions::decided::Decided;
 use afs_decisions::deciding::{
     NOT_SERVED, code_of_unreadable, copy_fids, in_found, is_client, is_on_volume, volume_called,
@@ -25,7 +26,6 @@ use afs_num::calls::{FsCall, FsReply};
 use afs_num::messages::{Call, Carried, Received};
 use afs_num::types::{Head, Mem};
 use afs_reads::read;
-use afs_server_parts::few::Few;
 use afs_volstore::VolStore;
 
 impl FileServer {

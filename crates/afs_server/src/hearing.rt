@@ -1,6 +1,6 @@
 //! What a server does with replies and notices to its own calls.
 ghost use Rattle.afs_rows.specs.Callbacks.{renews, settles};
-ghost use Rattle.afs_server_parts.specs.Called.{IsGoodCall, IsGoodOrNone};
+ghost use Rattle.afs_callees.specs.Called.{IsGoodCall, IsGoodOrNone};
 ghost use Rattle.afs_server.specs.Handling.{backs_then, Turns, ServesOver};
 ghost use Rattle.afs_server.specs.Hearing.{answered_turn, noticed_turn, renewed_turn, settled_turn};
 

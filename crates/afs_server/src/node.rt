@@ -5,7 +5,7 @@ ghost use Rattle.afs_num.specs.Nodes.{IsNode};
 ghost use Rattle.afs_server_parts.specs.declared.faults.NodeFault.TheVariants as faults;
 ghost use Rattle.afs_rows.specs.ServerSteps.{back_timeout_row, wake_row};
 ghost use Rattle.afs_rows.specs.States as rows;
-ghost use Rattle.afs_server_parts.specs.Called.{call_to};
+ghost use Rattle.afs_callees.specs.Called.{call_to};
 ghost use Rattle.afs_server.specs.Handling.{server_seen, Handles, Makes, ServesOver};
 ghost use Rattle.afs_server.specs.Seen.{begun_step, waits_by, CanDraw, Serves};
 

@@ -1,6 +1,6 @@
 //! A server's own calls wait too long, and time passes.
 ghost use Rattle.afs_rows.specs.Callbacks.{no_turn, timed};
-ghost use Rattle.afs_server_parts.specs.Called.{IsGoodCall};
+ghost use Rattle.afs_callees.specs.Called.{IsGoodCall};
 ghost use Rattle.afs_server.specs.Handling.{backs_then, Turns, ServesOver};
 
 use crate::server::FileServer;

@@ -1,8 +1,6 @@
-pub mod Calls
 pub mod Finding
 pub mod First
 pub mod Released
-pub mod Same
 pub mod Spelling
 pub mod Standing
 pub mod Steps

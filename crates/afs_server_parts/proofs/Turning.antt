@@ -12,7 +12,7 @@ use Rattle.afs_breaks.specs.declared.types.OwedBreak.{OwedBreak}
 use Rattle.afs_rows.specs.Callbacks as row
 use Rattle.afs_rows.specs.Callbacks.{ends_all, given_out, held_after, is_ready, replies_of, starts_by, no_turn, Started}
 use Rattle.afs_rows.specs.States.{BackCall, Backs, Held}
-use Rattle.afs_server_parts.specs.Called.{call_to, known_to}
+use Rattle.afs_callees.specs.Called.{call_to, known_to}
 use Rattle.afs_server_parts.specs.declared.turns.Calls.{Calls}
 use Rattle.afs_server_parts.specs.declared.turns.Turn.{Turn}
 use Rattle.afs_server_parts.specs.Turning.{backs_with, breaks_left, started_with, turn_with, waits_again, IsFresh, IsTurn}

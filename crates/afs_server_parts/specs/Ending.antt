@@ -7,7 +7,7 @@ use Rattle.afs_model.specs.Messages.{messages_spelled, parcels_read}
 use Rattle.afs_rows.specs.Callbacks as row
 use Rattle.afs_rows.specs.Callbacks.{pumped, Started}
 use Rattle.afs_rows.specs.States.{Backs}
-use Rattle.afs_server_parts.specs.Called.{call_to, known_to, AreGoodCalls}
+use Rattle.afs_callees.specs.Called.{call_to, known_to, AreGoodCalls}
 use Rattle.afs_server_parts.specs.Turning.{IsBreakToNode}
 use Rattle.afs_server_parts.specs.declared.ending.Ended.{Ended}
 use Rattle.afs_server_parts.specs.declared.turns.Stand.{Stand}

@@ -8,7 +8,7 @@ use Rattle.afs_breaks.specs.declared.types.OwedBreak.{OwedBreak}
 use Rattle.afs_rows.specs.Callbacks as row
 use Rattle.afs_rows.specs.Callbacks.{no_turn, Started}
 use Rattle.afs_rows.specs.States.{Backs, Held}
-use Rattle.afs_server_parts.specs.Called.{call_to, known_to, AreGoodCalls}
+use Rattle.afs_callees.specs.Called.{call_to, known_to, AreGoodCalls}
 use Rattle.afs_server_parts.specs.declared.turns.Calls.{Calls}
 use Rattle.afs_server_parts.specs.declared.turns.Stand.{Stand}
 use Rattle.afs_server_parts.specs.declared.turns.Turn.{Turn}

@@ -4,10 +4,10 @@ ghost use Rattle.std.specs.Prelude.{◌≡◌, ◌≤◌, ◌++◌, ◌∷◌, [
 ghost use Rattle.afs_num.specs.Nodes.{IsNode};
 ghost use Rattle.afs_rows.specs.Callbacks.{break_message, breaks_call, breaks_opcode, broken_until, call_for, carries_for, fids_of, first_of, is_for, most_breaks, opcode_for};
 
-use crate::callees::{BackCall, Callee};
-use crate::few::Few;
 use crate::turns::Stand;
 use afs_breaks::types::OwedBreak;
+use afs_callees::callees::{BackCall, Callee};
+use afs_callees::few::Few;
 use afs_message::spelled::{Sent, SpelledMessage};
 use afs_num::calls::{AfsCallBack, CallBacks, Fids, FsCall};
 use afs_num::messages::{Call, Carried, Message};

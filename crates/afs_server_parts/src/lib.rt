@@ -3,16 +3,12 @@
 #![tactic(auto)]
 
 pub mod answering;
-pub mod callees;
 pub mod callers;
 pub mod calling;
 pub mod ending;
 pub mod faults;
-pub mod few;
 pub mod held;
 pub mod owed;
 pub mod pumping;
-pub mod replies;
-pub mod telling;
 pub mod turns;
 pub mod words;

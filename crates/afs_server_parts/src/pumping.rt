@@ -7,14 +7,14 @@ ghost use Rattle.afs_num.specs.declared.types.Node.{Node};
 ghost use Rattle.afs_breaks.specs.Promises.{Lists};
 ghost use Rattle.afs_rows.specs.Callbacks.{given_out, held_after, is_ready, pumped, replies_of, starts, starts_by};
 ghost use Rattle.afs_rows.specs.States.{Held};
-ghost use Rattle.afs_server_parts.specs.Called.{call_to, AreGoodCalls};
+ghost use Rattle.afs_callees.specs.Called.{call_to, AreGoodCalls};
 ghost use Rattle.afs_server_parts.specs.Turning.{started_with, turn_with, IsBreakToNode, IsReady};
 
-use crate::callees::{BackCall, is_waiting, known, set_call};
 use crate::calling::{carried, send_call};
 use crate::held::{any_ready, hold_all, part_ready};
 use crate::turns::{Calls, Stand, Turn};
 use afs_breaks::types::OwedBreak;
+use afs_callees::callees::{BackCall, is_waiting, known, set_call};
 use afs_num::sequences::Sequence;
 use afs_num::types::Mem;
 use std::alloc::{AllocError, Global};

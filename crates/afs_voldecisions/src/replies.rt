@@ -7,11 +7,11 @@ ghost use Rattle.afs_volrows.specs.VolSteps.{forward_reply, vol_reply};
 ghost use Rattle.afs_rows.specs.ServerRow.{refusal};
 ghost use Rattle.afs_voldecisions.specs.Replies.{answer_message, CanAnswer};
 
+use afs_callees::replies::refusal;
 use afs_message::spelled::SpelledMessage;
 use afs_num::messages::{Carried, Message, Reply};
 use afs_num::types::{Head, Mem};
 use afs_num::volume_calls::VolReply;
-use afs_server_parts::replies::refusal;
 use std::alloc::Global;
 
 /// What a call is answered: it is refused with this code, or told this.

@@ -11,7 +11,7 @@ use Rattle.afs_history.specs.declared.lines.Outs.{Outs}
 use Rattle.afs_model.specs.Calls.{is_sent_again, last_timeout}
 use Rattle.afs_rows.specs.Callbacks.{put_at, timeout_line}
 use Rattle.afs_rows.specs.States.{Seat}
-use Rattle.afs_server_parts.specs.Called.{call_to, known_to, Callee}
+use Rattle.afs_callees.specs.Called.{call_to, known_to, Callee}
 use Rattle.afs_server_parts.specs.declared.ending.Ended.{Ended}
 use Rattle.afs_callbacks.specs.States.{CallbackState}
 use Rattle.afs_volstore.specs.Stores.{Store}

@@ -20,7 +20,7 @@ use Rattle.afs_model.specs.Messages.{parcels_read, received, spelled}
 use Rattle.afs_records.specs.Durable.{Durable, Stored}
 use Rattle.afs_rows.specs.Callbacks.{owe_line}
 use Rattle.afs_rows.specs.States.{durable_of, Backs, Held, Lasting}
-use Rattle.afs_server_parts.specs.Called.{call_to, known_to, AreGoodCalls, Callee}
+use Rattle.afs_callees.specs.Called.{call_to, known_to, AreGoodCalls, Callee}
 use Rattle.afs_server_parts.specs.Ending.{backs_left, IsPlan}
 use Rattle.afs_server_parts.specs.Turning.{sent_turns, IsBreakToNode}
 use Rattle.afs_callbacks.proofs.Drawing.{pumped_draws}

@@ -15,7 +15,7 @@ use Rattle.afs_rows.specs.States.{Backs, Held}
 use Rattle.afs_rows.specs.ServerRow.{seat_for}
 use Rattle.afs_model.specs.Calls.{call_seated}
 use Rattle.afs_num.specs.declared.types.Head.{Head}
-use Rattle.afs_server_parts.specs.Called.{call_to}
+use Rattle.afs_callees.specs.Called.{call_to}
 use Rattle.afs_server_parts.specs.Turning.{sent_turns}
 use Rattle.afs_server_parts.specs.declared.ending.Ended.{Ended}
 use Rattle.afs_callbacks.specs.States.{backs_at, CallbackState}

@@ -9,7 +9,7 @@ use Rattle.afs_ideal.specs.Tables.{Table}
 use Rattle.afs_model.specs.Heads.{IsSoundHead}
 use Rattle.afs_records.specs.Durable.{Durable}
 use Rattle.afs_rows.specs.States.{durable_of, Held, Seat}
-use Rattle.afs_server_parts.specs.Called.{call_to, known_to, Callee}
+use Rattle.afs_callees.specs.Called.{call_to, known_to, Callee}
 use Rattle.afs_volrows.specs.VolLaws.{AreApart}
 use Rattle.afs_volrows.specs.VolRow.{holds_of}
 use Rattle.afs_volrows.specs.VolStates.{Sending, Transaction, VolState}

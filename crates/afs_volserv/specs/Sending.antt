@@ -8,7 +8,7 @@ use Rattle.afs_breaks.specs.declared.types.OwedBreak.{OwedBreak}
 use Rattle.afs_history.specs.declared.lines.Line.{Line}
 use Rattle.afs_rows.specs.Callbacks.{alls, is_ready}
 use Rattle.afs_rows.specs.States.{Held}
-use Rattle.afs_server_parts.specs.Called.{call_to, known_to}
+use Rattle.afs_callees.specs.Called.{call_to, known_to}
 use Rattle.afs_server_parts.specs.Ending.{IsPlan}
 use Rattle.afs_server_parts.specs.Turning.{sent_turns}
 use Rattle.afs_server_parts.specs.declared.ending.Ended.{Ended}

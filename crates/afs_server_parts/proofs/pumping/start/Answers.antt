@@ -1,6 +1,6 @@
 use Rattle.std.proofs.Common.{Some, sym, subst}
-use Rattle.afs_server_parts.specs.Called.{IsGoodCall}
-use Rattle.afs_server_parts.proofs.Calls.{good_put}
+use Rattle.afs_callees.specs.Called.{IsGoodCall}
+use Rattle.afs_callees.proofs.Calls.{good_put}
 use Rattle.afs_server_parts.proofs.pumping.start.Goals as goal
 
 pub returns-clause-good : goal.returns-clause-good

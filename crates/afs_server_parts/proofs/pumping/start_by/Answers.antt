@@ -1,7 +1,7 @@
 use Rattle.std.proofs.Common.{◌≡◌, false, rules, sym, ap, ◌∙◌}
 use Rattle.std.specs.Prelude.{is_some}
 use Rattle.afs_rows.specs.Callbacks.{starts_by}
-use Rattle.afs_server_parts.specs.Called.{call_to}
+use Rattle.afs_callees.specs.Called.{call_to}
 use Rattle.afs_server_parts.specs.Turning.{started_with}
 use Rattle.afs_server_parts.proofs.Turning.{not_waiting}
 use Rattle.afs_server_parts.proofs.pumping.start_by.Goals as goal

@@ -2,7 +2,7 @@ use Rattle.std.specs.Prelude.{◌≤◌, ◌+◌, length, Ok, Err, Result, IsErr
 use Rattle.std.proofs.Common.{ap, subst, sym, ◌∙◌}
 use Rattle.afs_num.specs.declared.types.Parcel.{Parcel}
 use Rattle.afs_history.specs.declared.lines.Outs.{Outs}
-use Rattle.afs_server_parts.specs.Called.{call_to}
+use Rattle.afs_callees.specs.Called.{call_to}
 use Rattle.afs_server_parts.specs.declared.faults.NodeFault.{NodeFault}
 use Rattle.afs_server_parts.specs.declared.faults.NodeFault.TheVariants as faults
 use Rattle.afs_saving.proofs.Still.{handed_up, out_of_memory}

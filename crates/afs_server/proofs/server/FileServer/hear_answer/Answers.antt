@@ -1,6 +1,6 @@
 use Rattle.std.proofs.Common.{◌≡◌, refl, ap, ◌∙◌}
 use Rattle.afs_rows.specs.Callbacks as row
-use Rattle.afs_server_parts.specs.Called.{call_to}
+use Rattle.afs_callees.specs.Called.{call_to}
 use Rattle.afs_server.specs.Hearing.{answered_turn, settled_turn}
 use Rattle.afs_callbacks.specs.Hearing.{heard_by}
 use Rattle.afs_server.specs.Seen.{backs_seen}

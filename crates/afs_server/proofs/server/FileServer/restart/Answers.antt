@@ -7,7 +7,7 @@ use Rattle.afs_records.specs.Durable.{Durable}
 use Rattle.afs_rows.specs.Callbacks as row
 use Rattle.afs_rows.specs.Callbacks.{pumped, risen_turn}
 use Rattle.afs_rows.specs.States.{Backs}
-use Rattle.afs_server_parts.specs.Called.{AreGoodCalls}
+use Rattle.afs_callees.specs.Called.{AreGoodCalls}
 use Rattle.afs_server_parts.specs.Ending.{Ends, IsPlanOf}
 use Rattle.afs_server_parts.specs.Turning.{IsBreakToNode}
 use Rattle.afs_server_parts.specs.declared.turns.Stand.{Stand}

@@ -6,8 +6,8 @@ use Rattle.afs_model.specs.Calls.{call_seated}
 use Rattle.afs_rows.specs.Callbacks.{fids_found, gives_up_all, grants_found}
 use Rattle.afs_rows.specs.ServerRow.{granted, keeps, read_reply_to, seat_for}
 use Rattle.afs_server_parts.specs.Ending.{IsPlan}
-use Rattle.afs_server_parts.specs.Telling.{grant_line}
-use Rattle.afs_server_parts.specs.declared.telling.Grant.{Grant}
+use Rattle.afs_callees.specs.Telling.{grant_line}
+use Rattle.afs_callees.specs.declared.telling.Grant.{Grant}
 use Rattle.afs_server_parts.specs.declared.turns.Stand.{Stand}
 use Rattle.afs_server_parts.specs.Turning.{answer_turn}
 use Rattle.afs_callbacks.specs.Answering.{reply_told, with_lists, IsRepliedNow}

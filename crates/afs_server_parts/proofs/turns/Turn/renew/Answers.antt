@@ -1,6 +1,6 @@
 use Rattle.std.proofs.Common.{arith, refl}
 use Rattle.std.proofs.lemmas.Grind.{common_steps}
-use Rattle.afs_server_parts.proofs.Calls.{good_same}
+use Rattle.afs_callees.proofs.Calls.{good_same}
 use Rattle.afs_server_parts.proofs.turns.Turn.renew.Goals as goal
 
 pub returns : goal.returns

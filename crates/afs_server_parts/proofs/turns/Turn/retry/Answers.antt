@@ -1,7 +1,7 @@
 use Rattle.std.proofs.Common.{arith, refl, sym, subst}
 use Rattle.std.proofs.lemmas.Grind.{common_steps}
-use Rattle.afs_server_parts.specs.Called.{IsGoodCall}
-use Rattle.afs_server_parts.proofs.Calls.{good_put}
+use Rattle.afs_callees.specs.Called.{IsGoodCall}
+use Rattle.afs_callees.proofs.Calls.{good_put}
 use Rattle.afs_server_parts.proofs.turns.Turn.retry.Goals as goal
 
 pub returns : goal.returns

@@ -4,7 +4,7 @@ use Rattle.afs_num.specs.declared.types.Node.TheVariants.{Server}
 use Rattle.afs_history.specs.declared.lines.Line.{Line}
 use Rattle.afs_model.specs.Calls.{started}
 use Rattle.afs_rows.specs.ServerRow.{key_of}
-use Rattle.afs_server_parts.specs.Called.{call_to, known_to}
+use Rattle.afs_callees.specs.Called.{call_to, known_to}
 use Rattle.afs_sendings.proofs.Ways as ways
 use Rattle.afs_sendings.proofs.Ways.{turned_by}
 use Rattle.afs_sendings.specs.Pieces.{adds}

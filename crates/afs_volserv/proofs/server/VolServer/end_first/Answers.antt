@@ -3,7 +3,7 @@ use Rattle.std.specs.Prelude.{ℤ}
 use Rattle.afs_num.specs.declared.messages.Message.{Message}
 use Rattle.afs_model.specs.Calls.{finished}
 use Rattle.afs_rows.specs.ServerRow.{key_of}
-use Rattle.afs_server_parts.specs.Called.{call_to, known_to}
+use Rattle.afs_callees.specs.Called.{call_to, known_to}
 use Rattle.afs_sendings.proofs.Ways as ways
 use Rattle.afs_sendings.proofs.Ways.{turned_by}
 use Rattle.afs_sendings.specs.Pieces.{ends, sends}

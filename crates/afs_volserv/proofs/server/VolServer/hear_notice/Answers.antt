@@ -1,6 +1,6 @@
 use Rattle.std.proofs.Common.{sym, subst, ◌∙◌}
 use Rattle.std.specs.declared.alloc.AllocError.{AllocError}
-use Rattle.afs_server_parts.specs.Called.{call_to}
+use Rattle.afs_callees.specs.Called.{call_to}
 use Rattle.afs_volrows.specs.VolSteps.{VolTurn}
 use Rattle.afs_volserv.specs.Handling.{StepsVolumes}
 use Rattle.afs_volserv.proofs.Moving.{heard_is, notice_heard, notice_unheard}

@@ -1,5 +1,5 @@
 use Rattle.std.proofs.Common.{ap, sym, subst, ◌∙◌}
-use Rattle.afs_server_parts.specs.Called.{call_to}
+use Rattle.afs_callees.specs.Called.{call_to}
 use Rattle.afs_sendings.specs.Pieces.{AreTo, Way}
 use Rattle.afs_volserv.specs.Seen.{VolMemory}
 use Rattle.afs_volserv.proofs.server.VolServer.pieces.Goals as goal

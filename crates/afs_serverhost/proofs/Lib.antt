@@ -1,0 +1,5 @@
+pub mod Stepping
+pub mod Rising
+pub mod Becoming
+pub mod Breaking
+pub mod Handled

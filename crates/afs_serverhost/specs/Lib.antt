@@ -1,0 +1,5 @@
+pub mod Standing
+pub mod Seats
+pub mod Serving
+pub mod Starting
+pub mod Seated
