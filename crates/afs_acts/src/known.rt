@@ -1,7 +1,7 @@
 //! Where volumes are, as a client knows it.
 
 ghost use Rattle.std.specs.Prelude.{◌≡◌, ◌<◌, ◌&&◌, ◌++◌, ◌∷◌, [], IfOk, IfSome, List, OnOk, find, length, nat_eq};
-ghost use Rattle.std.specs.List.{All, list_any};
+ghost use Rattle.std.specs.List.{All, AllByRecursion, list_any};
 ghost use Rattle.std.specs.Option.{option_copied, option_map};
 ghost use Rattle.afs_history.specs.declared.scripts.VolumeLine.{VolumeLine};
 ghost use Rattle.afs_num.specs.Nodes.{IsNode};
@@ -12,7 +12,7 @@ ghost use Rattle.afs_num.specs.declared.location_calls.LocSite.{LocSite as Known
 ghost use Rattle.afs_records.specs.Entries.{entry_of_line, is_read_write, read_write_site, same_entry, same_numbers, same_sites};
 ghost use Rattle.afs_rows.specs.ClientRow.{home_of, stands_for};
 ghost use Rattle.afs_rows.specs.Runs.{location_by, locations_in};
-ghost use Rattle.afs_shape.specs.Tables.{IsEntry, IsServer};
+ghost use Rattle.afs_shape.specs.Tables.{IsEntry, IsServer, IsSite};
 ghost use Rattle.afs_acts.specs.Acts.{HasServer, first_volume_line};
 ghost use Rattle.afs_acts.specs.Located.{Puts, sites_from};
 
@@ -41,6 +41,8 @@ pub struct Location {
 impl Model for Location {
     ghost use Rattle.std.specs.Prelude.{◌≡◌};
     ghost use Rattle.std.specs.Arc.{arc_value};
+    ghost use Rattle.std.specs.List.{AllByRecursion};
+    ghost use Rattle.afs_shape.specs.Tables.{IsSite};
     ghost use Rattle.afs_num.specs.Nodes.{IsNode};
     ghost use Rattle.afs_num.specs.declared.location_calls.LocEntry.{LocEntry};
     ghost use Rattle.afs_num.specs.declared.types.Node.{Node};
@@ -50,7 +52,7 @@ impl Model for Location {
 
     ghost view = { λ l. arc_value l.entry };
 
-    ghost invariant = { λ l. record { home : home_of (arc_value l.entry) ≡ l.server; node : IsNode (Node.Server l.server) } };
+    ghost invariant = { λ l. record { home : home_of (arc_value l.entry) ≡ l.server; node : IsNode (Node.Server l.server); sites : AllByRecursion IsSite (arc_value l.entry).sites } };
 }
 
 fn is_read_write(site: &LocSite) -> bool
@@ -100,6 +102,14 @@ impl Location {
         ensures { result.now ≡ self.now }
     {
         &self.entry
+    }
+
+    /// The sites of the entry.
+    pub fn sites(&self) -> &[LocSite]
+        ensures sites { result.now ≡ self.now.sites }
+        ensures servers { AllByRecursion IsSite result.now }
+    {
+        self.entry.sites.as_slice()
     }
 
     pub fn server(&self) -> u8
@@ -166,6 +176,18 @@ fn entry_of_line(alloc: Global, volume: &VolumeLine) -> Mem<LocEntry>
     })
 }
 
+/// Where a volume is at set-up.
+fn first_location(alloc: Global, volume: &VolumeLine) -> Mem<Location>
+    requires { HasServer volume.now }
+    ensures { IfOk result (λ l. l ≡ entry_of_line volume.now) }
+{
+    let entry = entry_of_line(alloc, volume)?;
+    Ok(Location {
+        entry: Arc::new(alloc, entry)?,
+        server: volume.server,
+    })
+}
+
 /// Adds where a volume is, if its line counts.
 fn add_place(
     alloc: Global,
@@ -179,11 +201,7 @@ fn add_place(
     if is_told_later {
         return Ok(());
     }
-    let entry = entry_of_line(alloc, volume)?;
-    table.push(Location {
-        entry: Arc::new(alloc, entry)?,
-        server: volume.server,
-    })?;
+    table.push(first_location(alloc, volume)?)?;
     Ok(())
 }
 

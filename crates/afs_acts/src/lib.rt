@@ -17,8 +17,9 @@ mod ways;
 
 pub use acts::next;
 pub use asking::{question, volume_asked, volume_changed};
-pub use copies::{copy_act, copy_body, copy_read};
+pub use copies::{copy_act, copy_body, copy_operand, copy_read};
 pub use known::{Location, locations, with_location};
-pub use places::{homes_of, volume_at};
+pub use named::Place;
+pub use places::{find_place, homes_of, volume_at};
 pub use reads::most_reads;
 pub use types::{Going, Homes, Need, Reads, Shown};

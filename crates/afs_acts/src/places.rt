@@ -71,7 +71,8 @@ pub fn volume_at(table: &[Location], operand: &Operand) -> Option<u32>
     }
 }
 
-fn find_place<'a>(table: &'a [Location], place: Place<'_>) -> Option<&'a Location>
+/// What is known of the volume of an act's operand.
+pub fn find_place<'a>(table: &'a [Location], place: Place<'_>) -> Option<&'a Location>
     ensures { option_copied result ≡ find_location table.now (operand_at place.entry) }
 {
     match place {

@@ -1,6 +1,6 @@
 //! What an act has read, and what it needs.
 
-ghost use Rattle.std.specs.Prelude.{◌≡◌, ◌<◌, ◌+◌, ◌^◌, IfOk, IfSome, IsSome, OnErr, OnOk};
+ghost use Rattle.std.specs.Prelude.{◌≡◌, ◌<◌, ◌+◌, ◌^◌, IfOk, IfSome, IsSome, None, OnErr, OnOk, is_some};
 ghost use Rattle.std.specs.Option.{option_map};
 ghost use Rattle.afs_num.specs.Nodes.{IsNode};
 ghost use Rattle.afs_rows.specs.ClientRow.{server_for};
@@ -171,6 +171,15 @@ impl Homes {
             second: self.second,
         }
     }
+
+    fn without_second(&self) -> Homes
+        ensures { result ≡ record self.now { second = None } }
+    {
+        Homes {
+            first: self.first,
+            second: None,
+        }
+    }
 }
 
 /// What is known, or what was found.
@@ -276,8 +285,22 @@ impl Going {
         self.homes = self.homes.filled(&found);
     }
 
+    /// Whether the number of its first volume is known.
+    pub fn knows_first(&self) -> bool
+        ensures { result ≡ is_some self.now.homes.first }
+    {
+        self.homes.first().is_some()
+    }
+
+    /// The number of its second volume is to be looked up anew.
+    pub fn forget_second(&mut self)
+        ensures { self.new ≡ record self.old { homes = record self.old.homes { second = None } } }
+    {
+        self.homes = self.homes.without_second();
+    }
+
     /// The operand in whose volume it calls: the first, or the second where that alone is in the volume.
-    fn place_in(&self, volume: u32) -> Option<Place<'_>>
+    pub fn place_in(&self, volume: u32) -> Option<Place<'_>>
         ensures { option_map operand_at result ≡ operand_in self.now volume }
     {
         let named = named(self.act.get());

@@ -24,8 +24,11 @@ use Rattle.afs_rows.specs.Scopes.{is_in_scope}
 use Rattle.afs_rows.specs.Steps.{Step}
 use Rattle.afs_entries.specs.Cached.{drops_of, left}
 use Rattle.afs_entries.specs.declared.drops.Drops.{Drops}
-pub use Rattle.afs_calling.proofs.Stepping.{boot_told_is, goes_answered, goes_taken, takes_same}
-use Rattle.afs_cache.specs.Managing.{Takes}
+pub use Rattle.afs_calling.proofs.Stepping.{boot_told_is}
+pub use Rattle.afs_cache.proofs.Placing.{goes_answered, goes_taken, takes_same}
+use Rattle.afs_cache.proofs.Placing.{stills_same}
+use Rattle.afs_copyrows.specs.Sites.{CopyState}
+use Rattle.afs_cache.specs.Managing.{TakesStill}
 use Rattle.afs_cache.specs.Acting.{changed_in}
 use Rattle.afs_cache.specs.Serving.{admits_asking, runs_asking}
 use Rattle.afs_cache.specs.declared.serving.Asking.{Asking}
@@ -50,16 +53,16 @@ given_is (Some v) es = refl
 
 -- ---- a server's call
 
-asked_by : (me : Node) (c : ClientState) (place : ℕ) (head : Head) (r : Received) (asking : Asking) (a : Admitted Message) → runs_asking me c place head asking ≡ runs_call me c place head r → admits_asking me c place head asking a ≡ admits_call me c place head r a
+pub asked_by : (me : Node) (c : ClientState) (place : ℕ) (head : Head) (r : Received) (asking : Asking) (a : Admitted Message) → runs_asking me c place head asking ≡ runs_call me c place head r → admits_asking me c place head asking a ≡ admits_call me c place head r a
 asked_by me c place head r asking pairs.runs h = h
 asked_by me c place head r asking (pairs.kept reply) h = refl
 asked_by me c place head r asking pairs.in_progress h = refl
 asked_by me c place head r asking pairs.older h = refl
 asked_by me c place head r asking (pairs.wrong_boot boot) h = refl
 
-pub asked_as : {E : Type 0} (me : Node) (c : ClientState) (head : Head) (r : Received) (asking : Asking) (a : Admitted Message) (old new : NodeState ClientState) (result : Result Outs E)
-    → ((place : ℕ) → runs_asking me c place head asking ≡ runs_call me c place head r) → Takes (λ place. admits_asking me c place head asking a) old new result → Takes (λ place. admits_call me c place head r a) old new result
-asked_as me c head r asking a old new result same h = takes_same (λ place. admits_asking me c place head asking a) (λ place. admits_call me c place head r a) old new result (λ place. asked_by me c place head r asking a (same place)) h
+pub asked_as : {E : Type 0} (me : Node) (c : ClientState) (head : Head) (r : Received) (asking : Asking) (a : Admitted Message) (old new : NodeState CopyState) (result : Result Outs E)
+    → ((place : ℕ) → runs_asking me c place head asking ≡ runs_call me c place head r) → TakesStill (λ place. admits_asking me c place head asking a) old new result → TakesStill (λ place. admits_call me c place head r a) old new result
+asked_as me c head r asking a old new result same h = stills_same (λ place. admits_asking me c place head asking a) (λ place. admits_call me c place head r a) old new result (λ place. asked_by me c place head r asking a (same place)) h
 
 -- ---- entries in a call's scope
 

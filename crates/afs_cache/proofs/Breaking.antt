@@ -33,7 +33,8 @@ use Rattle.afs_cache.specs.declared.serving.Asking.{Asking}
 use Rattle.afs_cache.specs.declared.serving.Asking.TheVariants as askings
 use Rattle.afs_rows.specs.Steps.{Step}
 use Rattle.afs_entries.specs.Cached.{unlisted}
-use Rattle.afs_cache.specs.Managing.{Makes, Takes}
+use Rattle.afs_copyrows.specs.Sites.{as_it_is, with_client, CopyState}
+use Rattle.afs_cache.specs.Managing.{Makes, TakesStill}
 
 either_is : (a b : Bool) → (a || b) ≡ cond a true b
 either_is true b = refl
@@ -46,37 +47,40 @@ lost c cache named = record c { cache = cache; spoiled = cond named true c.spoil
 abbrev pub after_loss : List Fid → Bool → ClientState → ClientState
 after_loss fids named c = record c { cache = unlisted fids c.cache; spoiled = named || c.spoiled }
 
-makes_broken : (c mid : ClientState) (place : ℕ) (head : Head) (ls : List Line) (x : Carried) (fids : List Fid) (named : Bool) (outs : Outs) → Makes (replies_step c place head ls x) mid (λ rest. lines.Given place ∷ rest) outs
-    → Makes (replies_step (lost c (unlisted fids c.cache) named) place head ls x) (after_loss fids named mid) (λ rest. lines.Given place ∷ rest) outs
-makes_broken c mid place head ls x fids named outs m = record {
-  state = ap (after_loss fids named) m.state ∙ ap (λ (b : Bool). record (replies_step c place head ls x).state { cache = unlisted fids c.cache; spoiled = b }) (either_is named c.spoiled);
+abbrev loss : List Fid → Bool → CopyState → CopyState
+loss fids named c = with_client c (after_loss fids named c.client)
+
+makes_broken : (old : NodeState CopyState) (mid : CopyState) (place : ℕ) (head : Head) (ls : List Line) (x : Carried) (fids : List Fid) (named : Bool) (outs : Outs) → Makes (as_it_is old.state (replies_step old.state.client place head ls x)) mid (λ rest. lines.Given place ∷ rest) outs
+    → Makes (as_it_is old.state (replies_step (lost old.state.client (unlisted fids old.state.client.cache) named) place head ls x)) (loss fids named mid) (λ rest. lines.Given place ∷ rest) outs
+makes_broken old mid place head ls x fids named outs m = record {
+  state = ap (loss fids named) m.state ∙ ap (λ (b : Bool). with_client old.state (record (replies_step old.state.client place head ls x).state { cache = unlisted fids old.state.client.cache; spoiled = b })) (either_is named old.state.client.spoiled);
   lines = m.lines;
   sent = m.sent;
 }
 
 -- the reply was made, and then the entries went
-pub broken : (old mid new : NodeState ClientState) (head : Head) (ls told : List Line) (x : Carried) (fids : List Fid) (named : Bool) (cache : List CacheEntry) (outs : Outs)
-    → (mid.node ≡ old.node) × ((place : ℕ) → Makes (replies_step old.state place head told x) mid.state (λ rest. lines.Given place ∷ rest) outs) → told ≡ ls → unlisted fids old.state.cache ≡ cache
-    → new ≡ record mid { state = after_loss fids named mid.state }
-    → (new.node ≡ old.node) × ((place : ℕ) → Makes (replies_step (lost old.state cache named) place head ls x) new.state (λ rest. lines.Given place ∷ rest) outs)
+pub broken : (old mid new : NodeState CopyState) (head : Head) (ls told : List Line) (x : Carried) (fids : List Fid) (named : Bool) (cache : List CacheEntry) (outs : Outs)
+    → TakesStill {E = AllocError} (λ place. replies_step old.state.client place head told x) old mid (Ok outs) → told ≡ ls → unlisted fids old.state.client.cache ≡ cache
+    → new ≡ record mid { state = loss fids named mid.state }
+    → TakesStill {E = AllocError} (λ place. replies_step (lost old.state.client cache named) place head ls x) old new (Ok outs)
 broken old mid new head ls told x fids named cache outs made is left last = (
-  ap (λ (n : NodeState ClientState). n.node) last ∙ made.0,
+  ap (λ (n : NodeState CopyState). n.node) last ∙ made.0,
   λ place.
-      let put = makes_broken old.state mid.state place head told x fids named outs (made.1 place) in
-      let behind = subst (λ (us : List Line). Makes (replies_step (lost old.state (unlisted fids old.state.cache) named) place head us x) (after_loss fids named mid.state) (λ rest. lines.Given place ∷ rest) outs) is put in
-      let gone = subst (λ (es : List CacheEntry). Makes (replies_step (lost old.state es named) place head ls x) (after_loss fids named mid.state) (λ rest. lines.Given place ∷ rest) outs) left behind in
-      subst (λ (n : NodeState ClientState). Makes (replies_step (lost old.state cache named) place head ls x) n.state (λ rest. lines.Given place ∷ rest) outs) (sym last) gone,
+      let put = makes_broken old mid.state place head told x fids named outs (made.1 place) in
+      let behind = subst (λ (us : List Line). Makes (as_it_is old.state (replies_step (lost old.state.client (unlisted fids old.state.client.cache) named) place head us x)) (loss fids named mid.state) (λ rest. lines.Given place ∷ rest) outs) is put in
+      let gone = subst (λ (es : List CacheEntry). Makes (as_it_is old.state (replies_step (lost old.state.client es named) place head ls x)) (loss fids named mid.state) (λ rest. lines.Given place ∷ rest) outs) left behind in
+      subst (λ (n : NodeState CopyState). Makes (as_it_is old.state (replies_step (lost old.state.client cache named) place head ls x)) n.state (λ rest. lines.Given place ∷ rest) outs) (sym last) gone,
 )
 
 -- the same, where the parts are told by equations
-pub breaks_by : (old mid new : NodeState ClientState) (head : Head) (ls told : List Line) (x spelled : Carried) (fids : List Fid) (named seen : Bool) (cache : List CacheEntry) (outs : Outs)
-    → Takes {E = AllocError} (λ place. replies_step old.state place head told spelled) old mid (Ok outs) → told ≡ ls → spelled ≡ x → seen ≡ named → unlisted fids old.state.cache ≡ cache
-    → new ≡ record mid { state = after_loss fids seen mid.state }
-    → Takes {E = AllocError} (λ place. replies_step (lost old.state cache named) place head ls x) old new (Ok outs)
+pub breaks_by : (old mid new : NodeState CopyState) (head : Head) (ls told : List Line) (x spelled : Carried) (fids : List Fid) (named seen : Bool) (cache : List CacheEntry) (outs : Outs)
+    → TakesStill {E = AllocError} (λ place. replies_step old.state.client place head told spelled) old mid (Ok outs) → told ≡ ls → spelled ≡ x → seen ≡ named → unlisted fids old.state.client.cache ≡ cache
+    → new ≡ record mid { state = loss fids seen mid.state }
+    → TakesStill {E = AllocError} (λ place. replies_step (lost old.state.client cache named) place head ls x) old new (Ok outs)
 breaks_by old mid new head ls told x spelled fids named seen cache outs made is same so left last =
     let done = broken old mid new head ls told spelled fids seen cache outs made is left last in
-    let said = subst (λ (y : Carried). Takes {E = AllocError} (λ (place : ℕ). replies_step (lost old.state cache seen) place head ls y) old new (Ok outs)) same done in
-    subst (λ (b : Bool). Takes {E = AllocError} (λ (place : ℕ). replies_step (lost old.state cache b) place head ls x) old new (Ok outs)) so said
+    let said = subst (λ (y : Carried). TakesStill {E = AllocError} (λ (place : ℕ). replies_step (lost old.state.client cache seen) place head ls y) old new (Ok outs)) same done in
+    subst (λ (b : Bool). TakesStill {E = AllocError} (λ (place : ℕ). replies_step (lost old.state.client cache b) place head ls x) old new (Ok outs)) so said
 
 -- ---- calls that no client serves
 
@@ -130,3 +134,47 @@ pub unreadable_as : (me : Node) (c : ClientState) (clock place : ℕ) (head : He
 unreadable_as me c clock place head code h =
     ap (λ (s : Step ClientState). cond (same_node head.to me) s (ignores c place))
     (admits_as me c place head (Unreadable head) (askings.Refused code) (admitted c.epoch c.seats head) (ap (λ (n : ℤ). replies_step c place head [] (refused_with n)) h))
+
+-- ---- it draws no number
+
+breaks_keep : (me : Node) (c : ClientState) (place : ℕ) (head : Head) (call : FsCall) → (breaks me c place head call).state.last ≡ c.last
+breaks_keep me c place head (calls.FetchData qf qp qn) = refl
+breaks_keep me c place head (calls.FetchAcl qf) = refl
+breaks_keep me c place head (calls.FetchStatus qf) = refl
+breaks_keep me c place head (calls.StoreData qf qs qp qn ql qb) = refl
+breaks_keep me c place head (calls.StoreAcl qf qa) = refl
+breaks_keep me c place head (calls.StoreStatus qf qs) = refl
+breaks_keep me c place head (calls.RemoveFile qd qn) = refl
+breaks_keep me c place head (calls.CreateFile qd qn qs) = refl
+breaks_keep me c place head (calls.Rename qd qn qe qm) = refl
+breaks_keep me c place head (calls.Symlink qd qn qt qs) = refl
+breaks_keep me c place head (calls.Link qd qn qf) = refl
+breaks_keep me c place head (calls.MakeDir qd qn qs) = refl
+breaks_keep me c place head (calls.RemoveDir qd qn) = refl
+breaks_keep me c place head (calls.GiveUpCallBacks qfs qcs) = refl
+breaks_keep me c place head (calls.GetVolumeStatus qv) = refl
+breaks_keep me c place head calls.GetTime = refl
+breaks_keep me c place head (calls.BulkStatus qfs) = refl
+breaks_keep me c place head (calls.CallBack qfs qcs) = refl
+breaks_keep me c place head calls.InitCallBackState = refl
+breaks_keep me c place head calls.Probe = refl
+
+runs_keep : (me : Node) (c : ClientState) (place : ℕ) (head : Head) (asking : Asking) → (runs_asking me c place head asking).state.last ≡ c.last
+runs_keep me c place head (askings.Call (ask.File call)) = breaks_keep me c place head call
+runs_keep me c place head (askings.Call (ask.Volume call)) = refl
+runs_keep me c place head (askings.Call (ask.Location call)) = refl
+runs_keep me c place head (askings.Refused code) = refl
+
+pub admits_keep : (me : Node) (c : ClientState) (place : ℕ) (head : Head) (asking : Asking) (a : Admitted Message) → (admits_asking me c place head asking a).state.last ≡ c.last
+admits_keep me c place head asking pairs.runs = runs_keep me c place head asking
+admits_keep me c place head asking (pairs.kept reply) = refl
+admits_keep me c place head asking pairs.in_progress = refl
+admits_keep me c place head asking pairs.older = refl
+admits_keep me c place head asking (pairs.wrong_boot boot) = refl
+
+chosen_keep : (c : ClientState) (b : Bool) (s t : Step ClientState) → s.state.last ≡ c.last → t.state.last ≡ c.last → (cond b s t).state.last ≡ c.last
+chosen_keep c true s t h k = h
+chosen_keep c false s t h k = k
+
+pub asking_keeps : (me : Node) (c : ClientState) (place : ℕ) (head : Head) (asking : Asking) → (takes_asking me c place head asking).state.last ≡ c.last
+asking_keeps me c place head asking = chosen_keep c (same_node head.to me) (admits_asking me c place head asking (admitted c.epoch c.seats head)) (ignores c place) (admits_keep me c place head asking (admitted c.epoch c.seats head)) refl

@@ -16,13 +16,14 @@ use Rattle.afs_rows.specs.Steps.{Step}
 use Rattle.afs_entries.specs.Cached.{Kept, drops_of, left, unlisted}
 use Rattle.afs_entries.specs.declared.drops.Drops.{Drops}
 use Rattle.afs_entries.specs.declared.drops.Drops.TheVariants as drops
-use Rattle.afs_cache.specs.Asking.{is_giving}
-use Rattle.afs_cache.specs.Managing.{Answers, Goes, Makes}
-use Rattle.afs_cache.specs.Acting.{but_for, followed, IsDropping, outs_of, PlansFor}
+use Rattle.afs_asking.specs.Asking.{is_giving}
+use Rattle.afs_cache.specs.Managing.{Answers, Goes, Makes, placed}
+use Rattle.afs_cache.specs.Acting.{but_for, followed, IsDropping, outs_of, PlansFor, but_for_these}
 use Rattle.afs_cache.specs.declared.acting.Dropping.{Dropping}
 use Rattle.afs_cache.specs.declared.acting.Plan.{Plan}
 use Rattle.afs_cache.proofs.Answering.{goes_answered}
 use Rattle.afs_cache.proofs.Planning.{done_as, dropped_front, goes_in}
+use Rattle.afs_copyrows.specs.Sites.{with_client, CopyState}
 
 -- ---- steps behind lines that are the same
 
@@ -62,13 +63,13 @@ dropped_told me cache d told first ls x h =
 
 -- ---- a plan behind them was followed
 
-pub plan_moves : (step : ClientState → (List Line → List Line) → Step ClientState) (other : (List Line → List Line) → Step ClientState) (told more : List Line) (c : ClientState) (plan : Plan) (old new : NodeState ClientState) (outs : Outs) (cache : List CacheEntry) (busy moved : ℕ)
-    → PlansFor step more c plan → new.node ≡ old.node → new.state ≡ followed (but_for c cache busy moved) plan → outs ≡ outs_of plan → ((first : List Line) → step (but_for c cache busy moved) (λ ls. first ++ (more ++ ls)) ≡ other (λ ls. first ++ (told ++ ls)))
-    → (new.node ≡ old.node) × ((first : List Line) → Makes (other (λ ls. first ++ (told ++ ls))) new.state (λ ls. first ++ ls) outs)
-plan_moves step other told more c plan old new outs cache busy moved p n s o same = (
+pub plan_moves : (step : ClientState → (List Line → List Line) → Step ClientState) (other : (List Line → List Line) → Step ClientState) (told more : List Line) (plan : Plan) (old new : NodeState CopyState) (outs : Outs) (cache : List CacheEntry) (busy moved : ℕ)
+    → PlansFor step more old plan → new.node ≡ old.node → new.state ≡ followed (but_for_these old.state cache busy moved) plan → outs ≡ outs_of plan → ((first : List Line) → step (but_for old.state.client cache busy moved) (λ ls. first ++ (more ++ ls)) ≡ other (λ ls. first ++ (told ++ ls)))
+    → (new.node ≡ old.node) × ((first : List Line) → Makes (placed old.node old.state (other (λ ls. first ++ (told ++ ls)))) new.state (λ ls. first ++ ls) outs)
+plan_moves step other told more plan old new outs cache busy moved p n s o same = (
   n,
-  λ first. subst (λ (x : Step ClientState). Makes x new.state (λ ls. first ++ ls) outs) (same first)
-      (done_as (step (but_for c cache busy moved) (λ ls. first ++ (more ++ ls))) (but_for c cache busy moved) (but_for c cache busy moved) plan new.state outs (λ ls. first ++ ls) (p cache busy moved first) s refl o),
+  λ first. subst (λ (x : Step ClientState). Makes (placed old.node old.state x) new.state (λ ls. first ++ ls) outs) (same first)
+      (done_as (placed old.node old.state (step (but_for old.state.client cache busy moved) (λ ls. first ++ (more ++ ls)))) (but_for_these old.state cache busy moved) (but_for_these old.state cache busy moved) plan new.state outs (λ ls. first ++ ls) (p cache busy moved first) s refl o),
 )
 
 -- ---- the steps
@@ -98,18 +99,18 @@ gives_dropped me c clock told first x gifts act h q =
 
 -- ---- the cache was changed, and nothing else
 
-pub changed_view : (change : List CacheEntry → List CacheEntry) (seen old : NodeState ClientState) (k : Kept) → seen ≡ old → k ≡ record { entries = change seen.state.cache; capacity = seen.state.capacity }
-    → record seen.state { cache = k.entries; capacity = k.capacity } ≡ but_for old.state (change old.state.cache) old.state.busy old.state.moved
+pub changed_view : (change : List CacheEntry → List CacheEntry) (seen old : NodeState CopyState) (k : Kept) → seen ≡ old → k ≡ record { entries = change seen.state.client.cache; capacity = seen.state.client.capacity }
+    → with_client seen.state (record seen.state.client { cache = k.entries; capacity = k.capacity }) ≡ but_for_these old.state (change old.state.client.cache) old.state.client.busy old.state.client.moved
 changed_view change seen old k v q =
-    ap (λ (x : Kept). record seen.state { cache = x.entries; capacity = x.capacity }) q
-    ∙ ap (λ (s : NodeState ClientState). but_for s.state (change s.state.cache) s.state.busy s.state.moved) v
+    ap (λ (x : Kept). with_client seen.state (record seen.state.client { cache = x.entries; capacity = x.capacity })) q
+    ∙ ap (λ (s : NodeState CopyState). but_for_these s.state (change s.state.client.cache) s.state.client.busy s.state.client.moved) v
 
 -- the same, and the act waited so often
-pub changed_busy : (change : List CacheEntry → List CacheEntry) (seen old : NodeState ClientState) (k : Kept) (busy moved : ℕ) → seen ≡ old → k ≡ record { entries = change seen.state.cache; capacity = seen.state.capacity }
-    → record seen.state { cache = k.entries; capacity = k.capacity; busy = busy; moved = moved } ≡ but_for old.state (change old.state.cache) busy moved
+pub changed_busy : (change : List CacheEntry → List CacheEntry) (seen old : NodeState CopyState) (k : Kept) (busy moved : ℕ) → seen ≡ old → k ≡ record { entries = change seen.state.client.cache; capacity = seen.state.client.capacity }
+    → with_client seen.state (record seen.state.client { cache = k.entries; capacity = k.capacity; busy = busy; moved = moved }) ≡ but_for_these old.state (change old.state.client.cache) busy moved
 changed_busy change seen old k busy moved v q =
-    ap (λ (x : Kept). record seen.state { cache = x.entries; capacity = x.capacity; busy = busy; moved = moved }) q
-    ∙ ap (λ (s : NodeState ClientState). but_for s.state (change s.state.cache) busy moved) v
+    ap (λ (x : Kept). with_client seen.state (record seen.state.client { cache = x.entries; capacity = x.capacity; busy = busy; moved = moved })) q
+    ∙ ap (λ (s : NodeState CopyState). but_for_these s.state (change s.state.client.cache) busy moved) v
 
 -- ---- an act begins
 
@@ -133,21 +134,21 @@ begins_walking me c clock front act going.gives_back e = absurd cc
 begins_walking me c clock front act (going.locates o) e = refl
 begins_walking me c clock front act (going.answers n) e = refl
 
-pub goes_same : {E : Type 0} (step other : (List Line → List Line) → Step ClientState) (told : List Line) (old new : NodeState ClientState) (r : Result Outs E) → ((front : List Line → List Line) → step front ≡ other front) → Goes step told old new r → Goes other told old new r
-goes_same step other told old new (Ok outs) same h = (h.0, λ first. subst (λ (s : Step ClientState). Makes s new.state (λ ls. first ++ ls) outs) (same (λ ls. first ++ (told ++ ls))) (h.1 first))
+pub goes_same : {E : Type 0} (step other : (List Line → List Line) → Step ClientState) (told : List Line) (old new : NodeState CopyState) (r : Result Outs E) → ((front : List Line → List Line) → step front ≡ other front) → Goes step told old new r → Goes other told old new r
+goes_same step other told old new (Ok outs) same h = (h.0, λ first. subst (λ (s : Step ClientState). Makes (placed old.node old.state s) new.state (λ ls. first ++ ls) outs) (same (λ ls. first ++ (told ++ ls))) (h.1 first))
 goes_same step other told old new (Err e) same h = h
 
-pub begun_giving : {E : Type 0} (me : Node) (c : ClientState) (clock : ℕ) (act : Going) (told : List Line) (old new : NodeState ClientState) (r : Result Outs E) → is_giving (next act) ≡ true → Goes (λ front. gives_all me (record c { busy = 0; moved = 0 }) clock act front) told old new r
+pub begun_giving : {E : Type 0} (me : Node) (c : ClientState) (clock : ℕ) (act : Going) (told : List Line) (old new : NodeState CopyState) (r : Result Outs E) → is_giving (next act) ≡ true → Goes (λ front. gives_all me (record c { busy = 0; moved = 0 }) clock act front) told old new r
     → Goes (λ front. begins_by me (record c { busy = 0; moved = 0 }) clock front act (next act)) told old new r
 begun_giving me c clock act told old new r e h =
     goes_same (λ front. gives_all me (record c { busy = 0; moved = 0 }) clock act front) (λ front. begins_by me (record c { busy = 0; moved = 0 }) clock front act (next act)) told old new r (λ front. begins_giving me (record c { busy = 0; moved = 0 }) clock front act (next act) e) h
 
-pub begun_walking : {E : Type 0} (me : Node) (c : ClientState) (clock : ℕ) (act : Going) (told : List Line) (old new : NodeState ClientState) (r : Result Outs E) → is_giving (next act) ≡ false → Goes (λ front. walks_on me (record c { busy = 0; moved = 0 }) clock front act c.cache) told old new r
+pub begun_walking : {E : Type 0} (me : Node) (c : ClientState) (clock : ℕ) (act : Going) (told : List Line) (old new : NodeState CopyState) (r : Result Outs E) → is_giving (next act) ≡ false → Goes (λ front. walks_on me (record c { busy = 0; moved = 0 }) clock front act c.cache) told old new r
     → Goes (λ front. begins_by me (record c { busy = 0; moved = 0 }) clock front act (next act)) told old new r
 begun_walking me c clock act told old new r e h =
     goes_same (λ front. walks_on me (record c { busy = 0; moved = 0 }) clock front act c.cache) (λ front. begins_by me (record c { busy = 0; moved = 0 }) clock front act (next act)) told old new r (λ front. begins_walking me (record c { busy = 0; moved = 0 }) clock front act (next act) e) h
 
-pub begun : {E : Type 0} (me : Node) (c : ClientState) (clock : ℕ) (act : Act) (g : Going) (told : List Line) (old new : NodeState ClientState) (r : Result Outs E) → g ≡ began c.table act → told ≡ lines.Begin me act ∷ []
+pub begun : {E : Type 0} (me : Node) (c : ClientState) (clock : ℕ) (act : Act) (g : Going) (told : List Line) (old new : NodeState CopyState) (r : Result Outs E) → g ≡ began c.table act → told ≡ lines.Begin me act ∷ []
     → Goes (λ front. begins_by me (record c { busy = 0; moved = 0 }) clock front g (next g)) told old new r → Answers (begin_row me c clock act) old new r
 unfolding begin_row
 begun me c clock act g told old new r e t h =

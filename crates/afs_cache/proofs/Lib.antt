@@ -1,8 +1,7 @@
-pub mod Walking
+pub mod Placing
+pub mod Siting
 pub mod Planning
-pub mod Calling
 pub mod Answering
-pub mod Telling
 pub mod Numbers
 pub mod Breaking
 pub mod Dropping

@@ -1,5 +1,5 @@
 -- What a step of a client leaves: its user, how many entries it may hold and its epoch stay; and it draws one number at most.
-use Rattle.std.proofs.Common.{◌≡◌, ◌≤◌, ◌+◌, ℕ, Bool, true, false, cond, not, ◌&&◌, List, [], ◌∷◌, map, filter, Option, Some, None, Result, Ok, Err, refl, ap, ◌∙◌, arith}
+use Rattle.std.proofs.Common.{◌≡◌, ◌≤◌, ◌+◌, ℕ, Bool, true, false, cond, not, ◌&&◌, ◌||◌, List, [], ◌∷◌, map, filter, Option, Some, None, Result, Ok, Err, refl, ap, ◌∙◌, arith}
 use Rattle.std.specs.Prelude.{nat_lt, OnOk}
 use Rattle.std.specs.List.{list_any}
 use Rattle.afs_num.specs.Nodes.{same_node}
@@ -36,11 +36,16 @@ use Rattle.afs_model.specs.Calls as pairs
 use Rattle.afs_rows.specs.States.{CacheEntry, Gift}
 use Rattle.afs_rows.specs.Going as going
 use Rattle.afs_rows.specs.Going.{ClientState, Going, Left, Need, Seek, next, began, filled, operand_in, volume_at, with_read}
-use Rattle.afs_rows.specs.ClientRow.{admits_call, asks_where, awaits, begin_row, begins_by, behind_batch, body_told, breaks, call_of, called, callee_of, calls_again, client_row, counts, dead_code, dropped, ends_step, entries_told, entry_in, entry_told, find_cached, gift_of, given, gives_all, gives_by, gives_up, goes_by, guest_row, has_location, hears, ignores, in_order, is_awaited, is_below, is_busy_code, is_gone_code, is_older, is_sought, is_spent, is_trusted, knows, located, located_by, located_on, Look, look_at, looked, most_busy, most_moved, most_reads, moved_on, put_entries, put_entry, read_lines, refuses, refuses_for_good, runs_call, runs_carried, seeks_on, sought_by, sought_ends, sought_or, status_look, status_told, takes, takes_bulk, takes_bytes, takes_data, takes_entries, takes_entry, takes_given, takes_in, takes_list, takes_plain, takes_rights, takes_set, takes_shown, takes_status, takes_stored, timeout_line, timeout_row, tries_again, trusted_in, untrusted_in, volume_asked, walked, Walked, walks_on, whole, with_statuses}
+use Rattle.afs_rows.specs.ClientRow.{admits_call, asks_where, awaits, begin_row, begins_by, behind_batch, body_told, breaks, call_of, called, callee_of, calls_again, client_row, counts, dead_code, dropped, ends_step, entries_told, entry_in, entry_told, find_cached, gift_of, given, given_up_in, gives_all, gives_by, gives_up, goes_by, guest_row, has_location, hears, left_in, seek_timeout_row, ignores, in_order, is_awaited, is_below, is_busy_code, is_gone_code, is_older, is_sought, is_spent, is_trusted, knows, located, located_by, located_on, Look, look_at, looked, most_busy, most_moved, most_reads, moved_on, put_entries, put_entry, read_lines, refuses, refuses_for_good, runs_call, runs_carried, seeks_on, sought_by, sought_ends, sought_or, status_look, status_told, takes, takes_bulk, takes_bytes, takes_data, takes_entries, takes_entry, takes_given, takes_in, takes_list, takes_plain, takes_rights, takes_set, takes_shown, takes_status, takes_stored, timeout_line, timeout_row, tries_again, trusted_in, untrusted_in, volume_asked, walked, Walked, walks_on, whole, with_statuses}
 use Rattle.afs_rows.specs.Steps.{Step}
 use Rattle.afs_history.specs.declared.lines.Outs.{Outs}
 use Rattle.afs_model.specs.Steps.{NodeState}
-use Rattle.afs_cache.specs.Managing.{Answers, Takes, seek_times_out, times_out}
+use Rattle.afs_ideal.specs.Operations.{volume_changed}
+use Rattle.afs_calling.specs.Stepping.{Answers, Takes}
+use Rattle.afs_copyrows.specs.CopyRow as copy_rows
+use Rattle.afs_copyrows.specs.CopyRow.{answers_at, answers_in, answers_to, by_release, copy_begin_row, copy_row, copy_timeout_row, dies_at, dropping, entry_told as entry_carried, hears_by, is_below_release, is_over, offer_in, offers, Offer, refuses_at, renewing, tells_new, uses, uses_newer, without_older}
+use Rattle.afs_copyrows.specs.Sites.{as_it_is, asked_since, behind_first, calls_round, goes_round, leaves_site, round_of, seen_of, sited, sited_by, sited_in, unasked, with_client, CopyState, Round}
+use Rattle.afs_cache.specs.Managing.{copy_seek_times_out, copy_times_out}
 use Rattle.afs_cache.specs.Lasting.{lasting}
 
 -- what lasts stays, and the last number rises by one at most
@@ -404,32 +409,131 @@ kept_by c false s t h k = k
 pub timeout_keeps : (me : Node) (c : ClientState) (act : Going) → Keeps c (timeout_row me c act)
 timeout_keeps me c act = kept_by c (nat_lt c.tries 2) (tries_again me c act) (gives_up me c (call_of c act)) (refl, refl) (refl, refl)
 
-seek_keeps : (me : Node) (c : ClientState) (o : Option Seek) → Keeps c (seek_times_out me c o)
-seek_keeps me c None = (refl, refl)
-seek_keeps me c (Some k) = kept_by c (is_sent_again c.tries) (seeks_on me c k) (sought_ends me c (λ ls. timeout_line me c last_timeout ∷ ls) dead_code) (refl, refl) (refl, refl)
+seek_keeps : (me : Node) (c : ClientState) (k : Seek) → Keeps c (seek_timeout_row me c k)
+seek_keeps me c k = kept_by c (is_sent_again c.tries) (seeks_on me c k) (sought_ends me c (λ ls. timeout_line me c last_timeout ∷ ls) dead_code) (refl, refl) (refl, refl)
 
-pub times_out_keeps : (me : Node) (c : ClientState) (running : Option Going) → Keeps c (times_out me c running)
-times_out_keeps me c None = seek_keeps me c c.seeking
-times_out_keeps me c (Some act) = timeout_keeps me c act
+-- ---- the row of a client that reads read-only volumes too
+
+abbrev pub CopyRises : CopyState → Step CopyState → Type 0
+CopyRises c s = (lasting s.state.client ≡ lasting c.client) × (s.state.client.last ≤ c.client.last + 1)
+
+copy_either : (c : CopyState) (b : Bool) (s t : Step CopyState) → CopyRises c s → CopyRises c t → CopyRises c (cond b s t)
+copy_either c true s t h k = h
+copy_either c false s t h k = k
+
+kept_rises : (c : CopyState) (s : Step ClientState) → Keeps c.client s → CopyRises c (as_it_is c s)
+kept_rises c s h = (h.0, rw h.1 (stays c.client.last))
+
+round_rises : (me : Node) (c : CopyState) (act : Going) (r : Round) (ls : List Line) (sites : List ℕ) → CopyRises c (goes_round me c act r sites ls)
+round_rises me c act r ls [] = (refl, stays c.client.last)
+round_rises me c act r ls (server ∷ others) = (refl, rises c.client.last)
+
+sited_in_rises : (me : Node) (c : CopyState) (s : Step ClientState) (act : Going) (o : Option Round) → Rises c.client s → CopyRises c (sited_in me c s act o)
+sited_in_rises me c s act None h = h
+sited_in_rises me c s act (Some r) h =
+    let rise : CopyRises (with_client c (unasked c.client s.state)) (goes_round me (with_client c (unasked c.client s.state)) act r r.sites s.lines) = round_rises me (with_client c (unasked c.client s.state)) act r s.lines r.sites in
+    (rise.0 ∙ h.0, rise.1)
+
+sited_by_rises : (me : Node) (c : CopyState) (s : Step ClientState) (o : Option Going) → Rises c.client s → CopyRises c (sited_by me c s o)
+sited_by_rises me c s None h = h
+sited_by_rises me c s (Some act) h = sited_in_rises me c s act (round_of (with_client c s.state) act) h
+
+sited_rises : (me : Node) (c : CopyState) (s : Step ClientState) → Rises c.client s → CopyRises c (sited me c s)
+sited_rises me c s h = sited_by_rises me c s (asked_since c.client.last s.state) h
+
+pub copy_begin_rises : (me : Node) (c : CopyState) (clock : ℕ) (act : Act) → CopyRises c (copy_begin_row me c clock act)
+unfolding copy_begin_row
+copy_begin_rises me c clock act = sited_rises me (record c { round = None }) (begin_row me c.client clock act) (begin_rises me c.client clock act)
+
+module _ (me : Node) (c : CopyState) (clock place : ℕ) (m : Message) where
+  uses_rises : CopyRises c (uses me c clock place m)
+  uses_rises = sited_rises me c (guest_row me c.client clock place (Whole m)) (row_rises me c.client clock place (Whole m))
+
+  newer_rises : (id n : ℕ) → CopyRises c (uses_newer me c clock place m id n)
+  newer_rises id n = sited_rises me (without_older c id n) (dropping me (filter (is_below_release id n) c.client.cache) (guest_row me (without_older c id n).client clock place (Whole m))) (row_rises me (without_older c id n).client clock place (Whole m))
+
+  leaves_rises : (act : Going) (r : Round) → CopyRises c (leaves_site me c act r (lines.Given place ∷ []))
+  leaves_rises act r = round_rises me c act (record r { sites = behind_first r.sites }) (lines.Given place ∷ []) (behind_first r.sites)
+
+  release_rises : (act : Going) (r : Round) (n : ℕ) → CopyRises c (by_release me c clock place m act r n)
+  release_rises act r n =
+      copy_either c (nat_lt n (seen_of c r.volume)) (leaves_site me c act (record r { offered = Some n }) (lines.Given place ∷ []))
+      (cond (nat_lt (seen_of c r.volume) n) (uses_newer me c clock place m r.volume n) (uses me c clock place m)) (leaves_rises act (record r { offered = Some n }))
+      (copy_either c (nat_lt (seen_of c r.volume) n) (uses_newer me c clock place m r.volume n) (uses me c clock place m) (newer_rises r.volume n) uses_rises)
+
+  offers_rise : (act : Going) (r : Round) (o : Option Offer) → CopyRises c (offers me c clock place m act r o)
+  offers_rise act r None = uses_rises
+  offers_rise act r (Some o) = copy_either c (is_spent c.client act || list_any (is_over clock) o.expiries) (calls_round me c act r (lines.Given place ∷ [])) (by_release me c clock place m act r o.release) (round_rises me c act r (lines.Given place ∷ []) r.sites) (release_rises act r o.release)
+
+  refuses_at_rises : (act : Going) (r : Round) (code : Code) → CopyRises c (refuses_at me c clock place m act r code)
+  refuses_at_rises act r code = copy_either c (is_busy_code code || is_spent c.client act) (uses me c clock place m) (leaves_site me c act (record r { refusal = Some code }) (lines.Given place ∷ [])) uses_rises (leaves_rises act (record r { refusal = Some code }))
+
+  answers_at_rises : (act : Going) (r : Round) (x : Carried) → CopyRises c (answers_at me c clock place m act r x)
+  answers_at_rises act r (carried.Call user call) = uses_rises
+  answers_at_rises act r (carried.Refusal code) = refuses_at_rises act r code
+  answers_at_rises act r (carried.Reply (tell.File reply)) = offers_rise act r (offer_in reply)
+  answers_at_rises act r (carried.Reply (tell.Volume reply)) = uses_rises
+  answers_at_rises act r (carried.Reply (tell.Location reply)) = uses_rises
+  answers_at_rises act r carried.Notice = uses_rises
+
+  answers_in_rises : (act : Going) (o : Option Round) → CopyRises c (answers_in me c clock place m act o)
+  answers_in_rises act None = uses_rises
+  answers_in_rises act (Some r) = answers_at_rises act r m.carried
+
+  answers_to_rises : (o : Option Going) → CopyRises c (answers_to me c clock place m o)
+  answers_to_rises None = uses_rises
+  answers_to_rises (Some act) = copy_either c (same_node m.head.to me && is_awaited c.client act m.head) _ _ (answers_in_rises act (round_of c act)) uses_rises
+
+  renewed_rises : (s : Seek) (o : Option LocEntry) → CopyRises c (uses me (with_client c (renewing c.client s o)) clock place m)
+  renewed_rises s None = uses_rises
+  renewed_rises s (Some e) = sited_rises me (with_client c (renewing c.client s (Some e))) (guest_row me (renewing c.client s (Some e)) clock place (Whole m)) (row_rises me (renewing c.client s (Some e)) clock place (Whole m))
+
+  hears_by_rises : (o : Option Seek) → CopyRises c (hears_by me c clock place m o)
+  hears_by_rises None = answers_to_rises c.client.running
+  hears_by_rises (Some s) = copy_either c (tells_new me c.client m s) _ _ (renewed_rises s (entry_carried m.carried)) uses_rises
+
+pub copy_row_rises : (me : Node) (c : CopyState) (clock place : ℕ) (r : Received) → CopyRises c (copy_row me c clock place r)
+unfolding copy_row
+copy_row_rises me c clock place Nothing = sited_rises me c (guest_row me c.client clock place Nothing) (row_rises me c.client clock place Nothing)
+copy_row_rises me c clock place (Unserved head) = sited_rises me c (guest_row me c.client clock place (Unserved head)) (row_rises me c.client clock place (Unserved head))
+copy_row_rises me c clock place (Unreadable head) = sited_rises me c (guest_row me c.client clock place (Unreadable head)) (row_rises me c.client clock place (Unreadable head))
+copy_row_rises me c clock place (Whole m) = hears_by_rises me c clock place m c.client.seeking
+
+dies_at_rises : (me : Node) (c : CopyState) (act : Going) (r : Round) → CopyRises c (dies_at me c act r)
+dies_at_rises me c act r =
+    round_rises me (with_client c (record c.client { cache = left_in (volume_changed (call_of c.client act)) c.client.cache })) act (record r { sites = behind_first r.sites })
+    (timeout_line me c.client last_timeout ∷ dropped me (given_up_in (volume_changed (call_of c.client act)) c.client.cache) []) (behind_first r.sites)
+
+dies_rises : (me : Node) (c : CopyState) (act : Going) (o : Option Round) → CopyRises c (copy_rows.times_out me c act o)
+dies_rises me c act None = kept_rises c (timeout_row me c.client act) (timeout_keeps me c.client act)
+dies_rises me c act (Some r) = copy_either c (is_sent_again c.client.tries) (as_it_is c (timeout_row me c.client act)) (dies_at me c act r) (kept_rises c (timeout_row me c.client act) (timeout_keeps me c.client act)) (dies_at_rises me c act r)
+
+copy_timeout_rises : (me : Node) (c : CopyState) (act : Going) → CopyRises c (copy_timeout_row me c act)
+unfolding copy_timeout_row
+copy_timeout_rises me c act = dies_rises me c act (round_of c act)
+
+copy_seek_rises : (me : Node) (c : CopyState) (o : Option Seek) → CopyRises c (copy_seek_times_out me c o)
+copy_seek_rises me c None = (refl, stays c.client.last)
+copy_seek_rises me c (Some k) = kept_rises c (seek_timeout_row me c.client k) (seek_keeps me c.client k)
+
+pub copy_times_out_rises : (me : Node) (c : CopyState) (running : Option Going) → CopyRises c (copy_times_out me c running)
+copy_times_out_rises me c None = copy_seek_rises me c c.client.seeking
+copy_times_out_rises me c (Some act) = copy_timeout_rises me c act
 
 -- ---- what the calls of the program tell
 
-pub answers_rise : {E : Type 0} (step : Step ClientState) (old new : NodeState ClientState) (r : Result Outs E) → Rises old.state step → Answers step old new r → OnOk r (new.state.last ≤ old.state.last + 1)
+pub answers_rise : {E : Type 0} (step : Step CopyState) (old new : NodeState CopyState) (r : Result Outs E) → CopyRises old.state step → Answers step old new r → OnOk r (new.state.client.last ≤ old.state.client.last + 1)
 answers_rise step old new (Ok outs) h a = rw a.1.state h.1
 answers_rise step old new (Err e) h a = tt
 
-pub takes_rise : {E : Type 0} (step : ℕ → Step ClientState) (old new : NodeState ClientState) (r : Result Outs E) → ((place : ℕ) → Rises old.state (step place)) → Takes step old new r → OnOk r (new.state.last ≤ old.state.last + 1)
+pub takes_rise : {E : Type 0} (step : ℕ → Step CopyState) (old new : NodeState CopyState) (r : Result Outs E) → ((place : ℕ) → CopyRises old.state (step place)) → Takes step old new r → OnOk r (new.state.client.last ≤ old.state.client.last + 1)
 takes_rise step old new (Ok outs) h t = rw (t.1 0).state (h 0).1
 takes_rise step old new (Err e) h t = tt
 
-pub answers_keep : {E : Type 0} (step : Step ClientState) (old new : NodeState ClientState) (r : Result Outs E) → Keeps old.state step → Answers step old new r → OnOk r (new.state.last ≡ old.state.last)
-answers_keep step old new (Ok outs) h a = ap (λ (c : ClientState). c.last) a.1.state ∙ h.1
-answers_keep step old new (Err e) h a = tt
+pub answers_last : {E : Type 0} (step : Step CopyState) (old new : NodeState CopyState) (r : Result Outs E) → lasting step.state.client ≡ lasting old.state.client → Answers step old new r → lasting new.state.client ≡ lasting old.state.client
+answers_last step old new (Ok outs) h a = ap (λ (c : CopyState). lasting c.client) a.1.state ∙ h
+answers_last step old new (Err e) h a = ap (λ (n : NodeState CopyState). lasting n.state.client) a
 
-pub answers_last : {E : Type 0} (step : Step ClientState) (old new : NodeState ClientState) (r : Result Outs E) → lasting step.state ≡ lasting old.state → Answers step old new r → lasting new.state ≡ lasting old.state
-answers_last step old new (Ok outs) h a = ap lasting a.1.state ∙ h
-answers_last step old new (Err e) h a = ap (λ (n : NodeState ClientState). lasting n.state) a
-
-pub takes_last : {E : Type 0} (step : ℕ → Step ClientState) (old new : NodeState ClientState) (r : Result Outs E) → ((place : ℕ) → Rises old.state (step place)) → Takes step old new r → lasting new.state ≡ lasting old.state
-takes_last step old new (Ok outs) h t = ap lasting (t.1 0).state ∙ (h 0).0
-takes_last step old new (Err e) h t = ap (λ (n : NodeState ClientState). lasting n.state) t
+pub takes_last : {E : Type 0} (step : ℕ → Step CopyState) (old new : NodeState CopyState) (r : Result Outs E) → ((place : ℕ) → CopyRises old.state (step place)) → Takes step old new r → lasting new.state.client ≡ lasting old.state.client
+takes_last step old new (Ok outs) h t = ap (λ (c : CopyState). lasting c.client) (t.1 0).state ∙ (h 0).0
+takes_last step old new (Err e) h t = ap (λ (n : NodeState CopyState). lasting n.state.client) t

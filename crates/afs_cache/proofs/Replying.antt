@@ -1,5 +1,5 @@
 -- What a reply does, by what its call asked for.
-use Rattle.std.proofs.Common.{◌≡◌, ℕ, Bool, true, false, cond, not, List, [], ◌∷◌, ◌++◌, map, filter, Option, Some, None, Result, Ok, Err, refl, ap, sym, subst, ◌∙◌}
+use Rattle.std.proofs.Common.{◌≡◌, ℕ, Bool, true, false, cond, not, List, [], ◌∷◌, ◌++◌, map, filter, Option, Some, None, Result, Ok, Err, refl, ap, sym, subst, ◌∙◌, append_assoc}
 use Rattle.std.proofs.Common.{◌&&◌, ◌+◌}
 use Rattle.std.specs.Prelude.{nat_lt}
 use Rattle.std.specs.List.{list_any}
@@ -32,17 +32,21 @@ use Rattle.afs_history.specs.declared.lines.Line.TheVariants as lines
 use Rattle.afs_history.specs.declared.lines.Outs.{Outs}
 use Rattle.afs_model.specs.Steps.{NodeState}
 use Rattle.afs_rows.specs.States.{CacheEntry, Gift}
-use Rattle.afs_rows.specs.Going.{ClientState, Going, next, with_read}
-use Rattle.afs_rows.specs.ClientRow.{answers_step, awaits, behind_batch, body_told, booted, call_by, call_of, calls_again, calls_step, counts, dead_code, dropped, ends_step, entries_told, entry_told, given, gives_by, gives_up, goes_on, guest_row, ignores, is_awaited, is_busy_code, is_older, is_spent, is_trusted, left_in, Look, look_at, looked, most_busy, most_reads, put_entries, put_entry, read_lines, refreshed, refuses, refuses_for_good, resends_step, status_look, status_told, stays, takes, takes_bulk, takes_bytes, takes_data, takes_entries, takes_entry, takes_given, takes_in, takes_list, takes_plain, takes_rights, takes_set, takes_shown, takes_stored, timeout_line, tries_again, Walked, walked, walks_on, with_statuses, zero_code}
+use Rattle.afs_rows.specs.Going as going
+use Rattle.afs_rows.specs.Going.{ClientState, Going, Need, next, with_read}
+use Rattle.afs_rows.specs.ClientRow.{answers_step, awaits, behind_batch, body_told, booted, call_by, call_of, calls_again, calls_step, counts, dead_code, dropped, ends_step, entries_told, entry_told, given, gives_by, gives_up, goes_on, guest_row, ignores, is_awaited, is_busy_code, is_older, is_spent, is_trusted, left_in, Look, look_at, looked, most_busy, most_reads, put_entries, put_entry, read_lines, refreshed, refuses, refuses_for_good, resends_step, status_look, status_told, stays, takes, takes_bulk, takes_bytes, takes_data, takes_entries, takes_entry, takes_given, takes_in, takes_list, takes_plain, takes_rights, takes_set, takes_shown, takes_stored, timeout_line, tries_again, Walked, walked, walks_on, with_statuses, zero_code, goes_by}
 use Rattle.afs_rows.specs.Steps.{Step}
 use Rattle.afs_rows.specs.Scopes.{is_in_scope}
 use Rattle.afs_acts.specs.Needs.{NeedsNoEntry}
 use Rattle.afs_acts.proofs.Staying.{rights_rest, status_rests, statuses_rest, walked_stays}
 use Rattle.afs_entries.specs.Cached.{drops_of, left}
 use Rattle.afs_entries.specs.declared.drops.Drops.{Drops}
-use Rattle.afs_cache.specs.Asking.{Asking, asking_of, gifts_of, running_of}
+use Rattle.afs_asking.specs.Asking.{Asking, asking_of, gifts_of, running_of}
 use Rattle.afs_cache.specs.Acting.{but_for, changed_in, sent_to}
-use Rattle.afs_cache.specs.Managing.{Answers, by_act, by_call, given_up, Makes, rests, seek_times_out, spent_by, Takes, times_out}
+use Rattle.std.specs.declared.alloc.AllocError.{AllocError}
+use Rattle.afs_copyrows.specs.Sites.{as_it_is, with_client, CopyState}
+use Rattle.afs_cache.proofs.Placing.{still_taken, stills_answered, stills_same, told_none}
+use Rattle.afs_cache.specs.Managing.{AnswersStill, by_act, by_call, given_up, Makes, rests, spent_by, Takes, TakesStill, telling}
 use Rattle.afs_cache.specs.Wanted.{awaited_by, body_wanted, bytes_stored, call_asked, counts_reply, holds_of, is_gift, rights_wanted, shows_rights, shows_status, shows_statuses, status_wanted, statuses_wanted, takes_fields, wanted_of}
 use Rattle.afs_cache.proofs.Answering.{boot_told_is, given_is, left_is, plain_as, takes_same}
 use Rattle.afs_cache.proofs.Dropping.{goes_front}
@@ -50,21 +54,52 @@ use Rattle.afs_cache.proofs.Planning.{looked_front}
 
 -- ---- the act that runs
 
-running_is : (running : Option Going) (gifts : List Gift) (a : Asking) → Some a ≡ asking_of running gifts → running ≡ Some a.going
+some_asking : (a b : Asking) → Some a ≡ Some b → a ≡ b
+some_asking a b e = cc
+
+some_act : (a b : Going) → Some a ≡ Some b → a ≡ b
+some_act a b e = cc
+
+pub running_is : (running : Option Going) (gifts : List Gift) (a : Asking) → Some a ≡ asking_of running gifts → running ≡ Some a.going
 running_is None gifts a e = absurd cc
 running_is (Some act) gifts a e = sym (ap running_of e)
 
-gifts_is : (running : Option Going) (gifts : List Gift) (a : Asking) → Some a ≡ asking_of running gifts → a.gifts ≡ gifts
+pub gifts_is : (running : Option Going) (gifts : List Gift) (a : Asking) → Some a ≡ asking_of running gifts → a.gifts ≡ gifts
 gifts_is None gifts a e = absurd cc
 gifts_is (Some act) gifts a e = ap gifts_of e
 
-idle_is : (running : Option Going) (gifts : List Gift) → None ≡ asking_of running gifts → running ≡ None
+pub idle_is : (running : Option Going) (gifts : List Gift) → None ≡ asking_of running gifts → running ≡ None
 idle_is None gifts e = refl
 idle_is (Some act) gifts e = absurd cc
 
 -- where none runs, the message does nothing
-pub idle_act : {E : Type 0} (c : ClientState) (step : ℕ → Going → Step ClientState) (old new : NodeState ClientState) (r : Result Outs E) → None ≡ asking_of c.running c.gifts → Takes (λ place. ignores c place) old new r → Takes (λ place. by_act c place (step place) c.running) old new r
+pub idle_act : {E : Type 0} (c : ClientState) (step : ℕ → Going → Step ClientState) (old new : NodeState CopyState) (r : Result Outs E) → None ≡ asking_of c.running c.gifts → Takes (λ place. ignores c place) old new r → Takes (λ place. by_act c place (step place) c.running) old new r
 idle_act c step old new r e h = takes_same (λ place. ignores c place) (λ place. by_act c place (step place) c.running) old new r (λ place. ap (by_act c place (step place)) (sym (idle_is c.running c.gifts e))) h
+
+pub idle_behind : {E : Type 0} (step : ℕ → Going → Step ClientState) (told : List Line) (old new : NodeState CopyState) (r : Result Outs E) → None ≡ asking_of old.state.client.running old.state.client.gifts → TakesStill (λ place. telling told (ignores old.state.client place)) old new r
+    → Takes (λ place. telling told (by_act old.state.client place (step place) old.state.client.running)) old new r
+idle_behind step told old new r e h =
+    takes_same (λ place. telling told (ignores old.state.client place)) (λ place. telling told (by_act old.state.client place (step place) old.state.client.running)) old new r
+    (λ place. ap (λ (o : Option Going). telling told (by_act old.state.client place (step place) o)) (sym (idle_is old.state.client.running old.state.client.gifts e)))
+    (still_taken (λ place. telling told (ignores old.state.client place)) old new r (λ place. refl) h)
+
+pub idle_stays : {E : Type 0} (c : ClientState) (step : ℕ → Going → Step ClientState) (old new : NodeState CopyState) (r : Result Outs E) → None ≡ asking_of c.running c.gifts → TakesStill (λ place. ignores c place) old new r → TakesStill (λ place. by_act c place (step place) c.running) old new r
+idle_stays c step old new r e h = stills_same (λ place. ignores c place) (λ place. by_act c place (step place) c.running) old new r (λ place. ap (by_act c place (step place)) (sym (idle_is c.running c.gifts e))) h
+
+-- the act that is told runs
+pub none_runs : (running : Option Going) (gifts : List Gift) (act : Going) → None ≡ asking_of running gifts → running ≡ Some act → ⊥
+none_runs None gifts act e h = absurd cc
+none_runs (Some other) gifts act e h = absurd cc
+
+pub this_runs : (running : Option Going) (gifts : List Gift) (a : Asking) (act : Going) → Some a ≡ asking_of running gifts → running ≡ Some act → a.going ≡ act
+this_runs running gifts a act e h = some_act a.going act (sym (running_is running gifts a e) ∙ h)
+
+pub asking_is : (running : Option Going) (gifts : List Gift) (a : Asking) (act : Going) → Some a ≡ asking_of running gifts → running ≡ Some act → a ≡ record { going = act; gifts = gifts }
+asking_is None gifts a act e h = absurd cc
+asking_is (Some other) gifts a act e h = let same : other ≡ act = some_act other act h in some_asking a _ e ∙ ap (λ (g : Going). record { going = g; gifts = gifts }) same
+
+pub this_calls : (c : ClientState) (a : Asking) (act : Going) → Some a ≡ asking_of c.running c.gifts → c.running ≡ Some act → call_by a.gifts (next a.going) ≡ call_of c act
+this_calls c a act e h = ap (λ (x : Asking). call_by x.gifts (next x.going)) (asking_is c.running c.gifts a act e h)
 
 pub with_act : (c : ClientState) (place : ℕ) (a : Asking) (step : Going → Step ClientState) → Some a ≡ asking_of c.running c.gifts → step a.going ≡ by_act c place step c.running
 with_act c place a step e = ap (by_act c place step) (sym (running_is c.running c.gifts a e))
@@ -74,12 +109,11 @@ with_call c place a step e = ap (λ (gs : List Gift). step a.going (call_by gs (
 
 -- ---- steps behind no other lines
 
--- the call is made again
-pub again_as : (me : Node) (c : ClientState) (place : ℕ) (a : Asking) (told : List Line) → Some a ≡ asking_of c.running c.gifts → told ≡ []
-    → calls_step me (record c { gifts = a.gifts }) a.going (λ ls. lines.Given place ∷ (told ++ ls)) ≡ by_act c place (calls_again me c place) c.running
-again_as me c place a told e t =
-    ap (λ (xs : List Line). calls_step me (record c { gifts = a.gifts }) a.going (λ ls. lines.Given place ∷ (xs ++ ls))) t
-    ∙ (ap (λ (gs : List Gift). calls_step me (record c { gifts = gs }) a.going (given place)) (gifts_is c.running c.gifts a e) ∙ with_act c place a (calls_again me c place) e)
+-- the call is made again, behind these lines
+pub again_as : (me : Node) (c : ClientState) (place : ℕ) (a : Asking) (told : List Line) → Some a ≡ asking_of c.running c.gifts
+    → calls_step me (record c { gifts = a.gifts }) a.going (λ ls. lines.Given place ∷ (told ++ ls)) ≡ telling told (by_act c place (calls_again me c place) c.running)
+again_as me c place a told e =
+    ap (λ (gs : List Gift). calls_step me (record c { gifts = gs }) a.going (λ ls. lines.Given place ∷ (told ++ ls))) (gifts_is c.running c.gifts a e) ∙ ap (telling told) (with_act c place a (calls_again me c place) e)
 
 -- the act is answered
 pub ends_alone : (me : Node) (c : ClientState) (cache : List CacheEntry) (place : ℕ) (told : List Line) (code : Code) → told ≡ [] → ends_step me c cache (λ ls. lines.Given place ∷ (told ++ ls)) code ≡ ends_step me c cache (given place) code
@@ -378,15 +412,23 @@ rights_none me c clock place act text status sync call e = ap (list_by me c cloc
 
 -- ---- what was taken
 
-pub some_taken : {E A : Type 0} (f : FsCall → Option A) (c : ClientState) (x : A) (step other : ℕ → Going → FsCall → Step ClientState) (old new : NodeState ClientState) (r : Result Outs E) → Some x ≡ wanted_of f (call_asked c c.running)
+pub some_taken : {E A : Type 0} (f : FsCall → Option A) (c : ClientState) (x : A) (step other : ℕ → Going → FsCall → Step ClientState) (old new : NodeState CopyState) (r : Result Outs E) → Some x ≡ wanted_of f (call_asked c c.running)
     → ((place : ℕ) (act : Going) → Some x ≡ f (call_of c act) → step place act (call_of c act) ≡ other place act (call_of c act)) → Takes (λ place. by_call c place (step place) c.running) old new r → Takes (λ place. by_call c place (other place) c.running) old new r
 some_taken f c x step other old new r e h t = takes_same (λ place. by_call c place (step place) c.running) (λ place. by_call c place (other place) c.running) old new r (λ place. wanted_some f c place x (step place) (other place) c.running e (h place)) t
 
-pub none_taken : {E A : Type 0} (f : FsCall → Option A) (c : ClientState) (step other : ℕ → Going → FsCall → Step ClientState) (old new : NodeState ClientState) (r : Result Outs E) → None ≡ wanted_of f (call_asked c c.running)
+pub none_taken : {E A : Type 0} (f : FsCall → Option A) (c : ClientState) (step other : ℕ → Going → FsCall → Step ClientState) (old new : NodeState CopyState) (r : Result Outs E) → None ≡ wanted_of f (call_asked c c.running)
     → ((place : ℕ) (act : Going) → None ≡ f (call_of c act) → step place act (call_of c act) ≡ other place act (call_of c act)) → Takes (λ place. by_call c place (step place) c.running) old new r → Takes (λ place. by_call c place (other place) c.running) old new r
 none_taken f c step other old new r e h t = takes_same (λ place. by_call c place (step place) c.running) (λ place. by_call c place (other place) c.running) old new r (λ place. wanted_none f c place (step place) (other place) c.running e (h place)) t
 
-pub holds_taken : {E : Type 0} (b : Bool) (f : FsCall → Bool) (c : ClientState) (step other : ℕ → Going → FsCall → Step ClientState) (old new : NodeState ClientState) (r : Result Outs E) → b ≡ holds_of f (call_asked c c.running)
+pub some_behind : {E A : Type 0} (f : FsCall → Option A) (c : ClientState) (x : A) (step other : ℕ → Going → FsCall → Step ClientState) (told : List Line) (old new : NodeState CopyState) (r : Result Outs E) → Some x ≡ wanted_of f (call_asked c c.running)
+    → ((place : ℕ) (act : Going) → Some x ≡ f (call_of c act) → step place act (call_of c act) ≡ other place act (call_of c act)) → Takes (λ place. telling told (by_call c place (step place) c.running)) old new r → Takes (λ place. telling told (by_call c place (other place) c.running)) old new r
+some_behind f c x step other told old new r e h t = takes_same (λ place. telling told (by_call c place (step place) c.running)) (λ place. telling told (by_call c place (other place) c.running)) old new r (λ place. ap (telling told) (wanted_some f c place x (step place) (other place) c.running e (h place))) t
+
+pub none_behind : {E A : Type 0} (f : FsCall → Option A) (c : ClientState) (step other : ℕ → Going → FsCall → Step ClientState) (told : List Line) (old new : NodeState CopyState) (r : Result Outs E) → None ≡ wanted_of f (call_asked c c.running)
+    → ((place : ℕ) (act : Going) → None ≡ f (call_of c act) → step place act (call_of c act) ≡ other place act (call_of c act)) → Takes (λ place. telling told (by_call c place (step place) c.running)) old new r → Takes (λ place. telling told (by_call c place (other place) c.running)) old new r
+none_behind f c step other told old new r e h t = takes_same (λ place. telling told (by_call c place (step place) c.running)) (λ place. telling told (by_call c place (other place) c.running)) old new r (λ place. ap (telling told) (wanted_none f c place (step place) (other place) c.running e (h place))) t
+
+pub holds_taken : {E : Type 0} (b : Bool) (f : FsCall → Bool) (c : ClientState) (step other : ℕ → Going → FsCall → Step ClientState) (old new : NodeState CopyState) (r : Result Outs E) → b ≡ holds_of f (call_asked c c.running)
     → ((place : ℕ) (act : Going) → b ≡ f (call_of c act) → step place act (call_of c act) ≡ other place act (call_of c act)) → Takes (λ place. by_call c place (step place) c.running) old new r → Takes (λ place. by_call c place (other place) c.running) old new r
 holds_taken b f c step other old new r e h t = takes_same (λ place. by_call c place (step place) c.running) (λ place. by_call c place (other place) c.running) old new r (λ place. holds_as b f c place (step place) (other place) c.running e (h place)) t
 
@@ -399,38 +441,61 @@ chosen_else true x y h = absurd cc
 chosen_else false x y h = refl
 
 -- a promise that has ended can't be used: the act calls again, whatever the reply showed
-pub spent_taken : {E : Type 0} (me : Node) (c : ClientState) (b : Bool) (used : ℕ → Going → Step ClientState) (old new : NodeState ClientState) (r : Result Outs E) → false ≡ b → Takes (λ place. by_act c place (calls_again me c place) c.running) old new r
-    → Takes (λ place. by_act c place (λ act. cond b (used place act) (calls_again me c place act)) c.running) old new r
-spent_taken me c b used old new r e t = subst (λ (x : Bool). Takes (λ (place : ℕ). by_act c place (λ (act : Going). cond x (used place act) (calls_again me c place act)) c.running) old new r) e t
+pub spent_taken : {E : Type 0} (me : Node) (c : ClientState) (b : Bool) (used : ℕ → Going → Step ClientState) (told : List Line) (old new : NodeState CopyState) (r : Result Outs E) → false ≡ b → Takes (λ place. telling told (by_act c place (calls_again me c place) c.running)) old new r
+    → Takes (λ place. telling told (by_act c place (λ act. cond b (used place act) (calls_again me c place act)) c.running)) old new r
+spent_taken me c b used told old new r e t = subst (λ (x : Bool). Takes (λ (place : ℕ). telling told (by_act c place (λ (act : Going). cond x (used place act) (calls_again me c place act)) c.running)) old new r) e t
 
 -- the same of statuses, one of which can't be used
-pub all_spent : {E : Type 0} (me : Node) (c : ClientState) (clock : ℕ) (all : List CacheEntry) (old new : NodeState ClientState) (r : Result Outs E) → true ≡ list_any (λ (e : CacheEntry). not (is_trusted clock e)) all → Takes (λ place. by_act c place (calls_again me c place) c.running) old new r
-    → Takes (λ place. by_act c place (λ act. shows_statuses me c clock place act all) c.running) old new r
-all_spent me c clock all old new r e t =
-    takes_same (λ place. by_act c place (calls_again me c place) c.running) (λ place. by_act c place (λ act. shows_statuses me c clock place act all) c.running) old new r
-    (λ place. each_act c place (calls_again me c place) (λ act. shows_statuses me c clock place act all) c.running
-    (λ act. chosen_then (list_any (λ (e : CacheEntry). not (is_trusted clock e)) all) (calls_again me c place act) (goes_on me c (λ ls. given place (looked me (map status_look all) ls)) (stays (with_statuses all act) (put_entries c.capacity all c.cache))) e)) t
+pub all_spent : {E : Type 0} (me : Node) (c : ClientState) (clock : ℕ) (all : List CacheEntry) (told : List Line) (old new : NodeState CopyState) (r : Result Outs E) → true ≡ list_any (λ (e : CacheEntry). not (is_trusted clock e)) all
+    → Takes (λ place. telling told (by_act c place (calls_again me c place) c.running)) old new r → Takes (λ place. telling told (by_act c place (λ act. shows_statuses me c clock place act all) c.running)) old new r
+all_spent me c clock all told old new r e t =
+    takes_same (λ place. telling told (by_act c place (calls_again me c place) c.running)) (λ place. telling told (by_act c place (λ act. shows_statuses me c clock place act all) c.running)) old new r
+    (λ place. ap (telling told) (each_act c place (calls_again me c place) (λ act. shows_statuses me c clock place act all) c.running
+    (λ act. chosen_then (list_any (λ (e : CacheEntry). not (is_trusted clock e)) all) (calls_again me c place act) (goes_on me c (λ ls. given place (looked me (map status_look all) ls)) (stays (with_statuses all act) (put_entries c.capacity all c.cache))) e))) t
+
+-- lines that were told before stand behind the one that names the message
+goes_telling_by : (me : Node) (c : ClientState) (place : ℕ) (told : List Line) (f : List Line → List Line) (w : Walked) (need : Need) → goes_by me c (λ ls. lines.Given place ∷ (told ++ f ls)) w need ≡ telling told (goes_by me c (λ ls. lines.Given place ∷ f ls) w need)
+goes_telling_by me c place told f w (going.reads x) = refl
+goes_telling_by me c place told f w (going.reads_status x) = refl
+goes_telling_by me c place told f w (going.reads_statuses x) = refl
+goes_telling_by me c place told f w (going.reads_rights x) = refl
+goes_telling_by me c place told f w (going.asks_for x) = refl
+goes_telling_by me c place told f w going.gives_back = refl
+goes_telling_by me c place told f w (going.locates x) = refl
+goes_telling_by me c place told f w (going.answers x) = refl
+
+goes_telling : (me : Node) (c : ClientState) (place : ℕ) (told : List Line) (f : List Line → List Line) (w : Walked) → goes_on me c (λ ls. lines.Given place ∷ (told ++ f ls)) w ≡ telling told (goes_on me c (λ ls. lines.Given place ∷ f ls) w)
+goes_telling me c place told f w = goes_telling_by me c place told f w (next w.act)
+
+-- the lines of reads behind those that were told before
+read_behind : (place : ℕ) (told before : List Line) (reads : List Line) (ls : List Line) → told ≡ before ++ reads → lines.Given place ∷ (told ++ ls) ≡ lines.Given place ∷ (before ++ (reads ++ ls))
+read_behind place told before reads ls t = ap (λ (xs : List Line). lines.Given place ∷ (xs ++ ls)) t ∙ ap (λ (xs : List Line). lines.Given place ∷ xs) (append_assoc before reads ls)
 
 -- a body that can be used
-pub entry_taken : (me : Node) (c : ClientState) (clock place : ℕ) (a : Asking) (told : List Line) (going : Going) (entry entries : CacheEntry) (shown body : ReadBody) → Some a ≡ asking_of c.running c.gifts → shown ≡ body → told ≡ lines.Read me entries.fid entries.index Fetched shown ∷ []
-    → going ≡ with_read entries.fid shown a.going → entry ≡ entries → true ≡ is_trusted clock entries → walks_on me c clock (λ ls. lines.Given place ∷ (told ++ ls)) going (put_entry c.capacity entry c.cache) ≡ by_act c place (λ act. takes_entry me c clock place act entries body) c.running
-entry_taken me c clock place a told going entry entries shown body run same t g e b =
-    ap (λ (xs : List Line). walks_on me c clock (λ ls. lines.Given place ∷ (xs ++ ls)) going (put_entry c.capacity entry c.cache)) t
-    ∙ (ap (λ (x : Going). walks_on me c clock (read_lines me place (look_at Fetched entries shown)) x (put_entry c.capacity entry c.cache)) g
+pub entry_taken : (me : Node) (c : ClientState) (clock place : ℕ) (a : Asking) (before told : List Line) (going : Going) (entry entries : CacheEntry) (shown body : ReadBody) → Some a ≡ asking_of c.running c.gifts → shown ≡ body → told ≡ before ++ lines.Read me entries.fid entries.index Fetched shown ∷ []
+    → going ≡ with_read entries.fid shown a.going → entry ≡ entries → true ≡ is_trusted clock entries → walks_on me c clock (λ ls. lines.Given place ∷ (told ++ ls)) going (put_entry c.capacity entry c.cache) ≡ telling before (by_act c place (λ act. takes_entry me c clock place act entries body) c.running)
+entry_taken me c clock place a before told going entry entries shown body run same t g e b =
+    goes_front me c (λ ls. lines.Given place ∷ (told ++ ls)) (λ ls. lines.Given place ∷ (before ++ (lines.Read me entries.fid entries.index Fetched shown ∷ ls))) (walked (most_reads going) clock going (put_entry c.capacity entry c.cache)) (λ ls. read_behind place told before (lines.Read me entries.fid entries.index Fetched shown ∷ []) ls t)
+    ∙ (goes_telling me c place before (λ ls. lines.Read me entries.fid entries.index Fetched shown ∷ ls) (walked (most_reads going) clock going (put_entry c.capacity entry c.cache))
+    ∙ ap (telling before)
+    (ap (λ (x : Going). walks_on me c clock (read_lines me place (look_at Fetched entries shown)) x (put_entry c.capacity entry c.cache)) g
     ∙ (ap (λ (x : CacheEntry). walks_on me c clock (read_lines me place (look_at Fetched entries shown)) (with_read entries.fid shown a.going) (put_entry c.capacity x c.cache)) e
     ∙ (chosen_then (is_trusted clock entries) (walks_on me c clock (read_lines me place (look_at Fetched entries shown)) (with_read entries.fid shown a.going) (put_entry c.capacity entries c.cache)) (calls_again me c place a.going) b
-    ∙ (ap (takes_entry me c clock place a.going entries) same ∙ with_act c place a (λ act. takes_entry me c clock place act entries body) run))))
+    ∙ (ap (takes_entry me c clock place a.going entries) same ∙ with_act c place a (λ act. takes_entry me c clock place act entries body) run)))))
 
 -- a status that can be used
-pub status_taken : (me : Node) (c : ClientState) (clock place : ℕ) (a : Asking) (told : List Line) (going : Going) (all : List CacheEntry) (entry : CacheEntry) → Some a ≡ asking_of c.running c.gifts → told ≡ lines.Read me entry.fid entry.index Fetched (seen.Status entry.status) ∷ []
+pub status_taken : (me : Node) (c : ClientState) (clock place : ℕ) (a : Asking) (before told : List Line) (going : Going) (all : List CacheEntry) (entry : CacheEntry) → Some a ≡ asking_of c.running c.gifts → told ≡ before ++ lines.Read me entry.fid entry.index Fetched (seen.Status entry.status) ∷ []
     → going ≡ with_read entry.fid (seen.Status entry.status) a.going → all ≡ entry ∷ [] → true ≡ is_trusted clock entry
-    → goes_on me c (λ ls. lines.Given place ∷ (told ++ ls)) (stays going (put_entries c.capacity all c.cache)) ≡ by_act c place (λ act. shows_status me c clock place act entry) c.running
-status_taken me c clock place a told going all entry run t g e b =
-    ap (λ (xs : List Line). goes_on me c (λ ls. lines.Given place ∷ (xs ++ ls)) (stays going (put_entries c.capacity all c.cache))) t
-    ∙ (ap (λ (x : Going). goes_on me c (read_lines me place (look_at Fetched entry (seen.Status entry.status))) (stays x (put_entries c.capacity all c.cache))) g
+    → goes_on me c (λ ls. lines.Given place ∷ (told ++ ls)) (stays going (put_entries c.capacity all c.cache)) ≡ telling before (by_act c place (λ act. shows_status me c clock place act entry) c.running)
+status_taken me c clock place a before told going all entry run t g e b =
+    goes_front me c (λ ls. lines.Given place ∷ (told ++ ls)) (λ ls. lines.Given place ∷ (before ++ (lines.Read me entry.fid entry.index Fetched (seen.Status entry.status) ∷ ls))) (stays going (put_entries c.capacity all c.cache))
+    (λ ls. read_behind place told before (lines.Read me entry.fid entry.index Fetched (seen.Status entry.status) ∷ []) ls t)
+    ∙ (goes_telling me c place before (λ ls. lines.Read me entry.fid entry.index Fetched (seen.Status entry.status) ∷ ls) (stays going (put_entries c.capacity all c.cache))
+    ∙ ap (telling before)
+    (ap (λ (x : Going). goes_on me c (read_lines me place (look_at Fetched entry (seen.Status entry.status))) (stays x (put_entries c.capacity all c.cache))) g
     ∙ (ap (λ (es : List CacheEntry). goes_on me c (read_lines me place (look_at Fetched entry (seen.Status entry.status))) (stays (with_read entry.fid (seen.Status entry.status) a.going) (put_entries c.capacity es c.cache))) e
     ∙ (chosen_then (is_trusted clock entry) (goes_on me c (read_lines me place (look_at Fetched entry (seen.Status entry.status))) (stays (with_read entry.fid (seen.Status entry.status) a.going) (put_entry c.capacity entry c.cache))) (calls_again me c place a.going) b
-    ∙ with_act c place a (λ act. shows_status me c clock place act entry) run)))
+    ∙ with_act c place a (λ act. shows_status me c clock place act entry) run))))
 
 -- what is read of statuses is read by the same act
 pub statuses_act : (es : List CacheEntry) (g : Going) → (with_statuses es g).act ≡ g.act
@@ -441,23 +506,30 @@ looked_told : (me : Node) (looks : List Look) (rest : List Line) → looked me l
 looked_told me looks rest = sym (looked_front me looks rest)
 
 -- statuses that can be used
-pub statuses_taken : (me : Node) (c : ClientState) (clock place : ℕ) (a : Asking) (told : List Line) (going : Going) (all : List CacheEntry) → Some a ≡ asking_of c.running c.gifts → told ≡ looked me (map status_look all) [] → going ≡ with_statuses all a.going
-    → false ≡ list_any (λ (e : CacheEntry). not (is_trusted clock e)) all → goes_on me c (λ ls. lines.Given place ∷ (told ++ ls)) (stays going (put_entries c.capacity all c.cache)) ≡ by_act c place (λ act. shows_statuses me c clock place act all) c.running
-statuses_taken me c clock place a told going all run t g b =
-    goes_front me c (λ ls. lines.Given place ∷ (told ++ ls)) (λ ls. given place (looked me (map status_look all) ls)) (stays going (put_entries c.capacity all c.cache))
-    (λ ls. ap (λ (xs : List Line). lines.Given place ∷ (xs ++ ls)) t ∙ ap (λ (xs : List Line). lines.Given place ∷ xs) (looked_told me (map status_look all) ls))
-    ∙ (ap (λ (x : Going). goes_on me c (λ ls. given place (looked me (map status_look all) ls)) (stays x (put_entries c.capacity all c.cache))) g
+pub statuses_taken : (me : Node) (c : ClientState) (clock place : ℕ) (a : Asking) (before told : List Line) (going : Going) (all : List CacheEntry) → Some a ≡ asking_of c.running c.gifts → told ≡ before ++ looked me (map status_look all) [] → going ≡ with_statuses all a.going
+    → false ≡ list_any (λ (e : CacheEntry). not (is_trusted clock e)) all → goes_on me c (λ ls. lines.Given place ∷ (told ++ ls)) (stays going (put_entries c.capacity all c.cache)) ≡ telling before (by_act c place (λ act. shows_statuses me c clock place act all) c.running)
+statuses_taken me c clock place a before told going all run t g b =
+    goes_front me c (λ ls. lines.Given place ∷ (told ++ ls)) (λ ls. lines.Given place ∷ (before ++ looked me (map status_look all) ls)) (stays going (put_entries c.capacity all c.cache))
+    (λ ls. read_behind place told before (looked me (map status_look all) []) ls t ∙ ap (λ (xs : List Line). lines.Given place ∷ (before ++ xs)) (looked_told me (map status_look all) ls))
+    ∙ (goes_telling me c place before (λ ls. looked me (map status_look all) ls) (stays going (put_entries c.capacity all c.cache))
+    ∙ ap (telling before)
+    (ap (λ (x : Going). goes_on me c (λ ls. given place (looked me (map status_look all) ls)) (stays x (put_entries c.capacity all c.cache))) g
     ∙ (chosen_else (list_any (λ (e : CacheEntry). not (is_trusted clock e)) all) (calls_again me c place a.going) (goes_on me c (λ ls. given place (looked me (map status_look all) ls)) (stays (with_statuses all a.going) (put_entries c.capacity all c.cache))) b
-    ∙ with_act c place a (λ act. shows_statuses me c clock place act all) run))
+    ∙ with_act c place a (λ act. shows_statuses me c clock place act all) run)))
 
 -- rights
-pub rights_taken : (me : Node) (c : ClientState) (place : ℕ) (a : Asking) (told : List Line) (going : Going) (fid : Fid) (index release : ℕ) (text : List ℕ) → Some a ≡ asking_of c.running c.gifts → told ≡ lines.Read me fid index Fetched (seen.AccessList text) ∷ []
+pub rights_taken : (me : Node) (c : ClientState) (place : ℕ) (a : Asking) (before told : List Line) (going : Going) (fid : Fid) (index release : ℕ) (text : List ℕ) → Some a ≡ asking_of c.running c.gifts → told ≡ before ++ lines.Read me fid index Fetched (seen.AccessList text) ∷ []
     → going ≡ with_read fid (seen.AccessList text) a.going
-    → goes_on me c (λ ls. lines.Given place ∷ (told ++ dropped me (filter (is_older fid index release) c.cache) ls)) (stays going (filter (λ (x : CacheEntry). not (is_older fid index release x)) c.cache)) ≡ by_act c place (λ act. shows_rights me c place act fid index release text) c.running
-rights_taken me c place a told going fid index release text run t g =
-    ap (λ (xs : List Line). goes_on me c (λ ls. lines.Given place ∷ (xs ++ dropped me (filter (is_older fid index release) c.cache) ls)) (stays going (filter (λ (x : CacheEntry). not (is_older fid index release x)) c.cache))) t
-    ∙ (ap (λ (x : Going). goes_on me c (λ ls. lines.Given place ∷ lines.Read me fid index Fetched (seen.AccessList text) ∷ dropped me (filter (is_older fid index release) c.cache) ls) (stays x (filter (λ (y : CacheEntry). not (is_older fid index release y)) c.cache))) g
-    ∙ with_act c place a (λ act. shows_rights me c place act fid index release text) run)
+    → goes_on me c (λ ls. lines.Given place ∷ (told ++ dropped me (filter (is_older fid index release) c.cache) ls)) (stays going (filter (λ (x : CacheEntry). not (is_older fid index release x)) c.cache)) ≡ telling before (by_act c place (λ act. shows_rights me c place act fid index release text) c.running)
+rights_taken me c place a before told going fid index release text run t g =
+    let gone : List Line → List Line = λ ls. dropped me (filter (is_older fid index release) c.cache) ls in
+    let w : Walked = stays going (filter (λ (x : CacheEntry). not (is_older fid index release x)) c.cache) in
+    goes_front me c (λ ls. lines.Given place ∷ (told ++ gone ls)) (λ ls. lines.Given place ∷ (before ++ (lines.Read me fid index Fetched (seen.AccessList text) ∷ gone ls))) w
+    (λ ls. read_behind place told before (lines.Read me fid index Fetched (seen.AccessList text) ∷ []) (gone ls) t)
+    ∙ (goes_telling me c place before (λ ls. lines.Read me fid index Fetched (seen.AccessList text) ∷ gone ls) w
+    ∙ ap (telling before)
+    (ap (λ (x : Going). goes_on me c (λ ls. lines.Given place ∷ lines.Read me fid index Fetched (seen.AccessList text) ∷ dropped me (filter (is_older fid index release) c.cache) ls) (stays x (filter (λ (y : CacheEntry). not (is_older fid index release y)) c.cache))) g
+    ∙ with_act c place a (λ act. shows_rights me c place act fid index release text) run))
 
 -- promises behind the batch that was given back
 pub rest_taken : (me : Node) (c : ClientState) (place : ℕ) (a : Asking) (told : List Line) (going : Going) (rest : List Gift) → Some a ≡ asking_of c.running c.gifts → told ≡ [] → going ≡ a.going → rest ≡ behind_batch a.gifts
@@ -470,11 +542,10 @@ rest_taken me c place a told going rest run t g q =
 -- ---- replies to changing calls
 
 -- the entries of what the call may have changed go
-pub plain_taken : (me : Node) (c : ClientState) (place : ℕ) (a : Asking) (told : List Line) (d : Drops) (call : FsCall) → Some a ≡ asking_of c.running c.gifts → told ≡ [] → ((e : CacheEntry) → drops_of d e ≡ is_in_scope call e.fid) → call ≡ call_by a.gifts (next a.going)
-    → ends_step me c (left d c.cache) (λ ls. lines.Given place ∷ (told ++ dropped me (filter (drops_of d) c.cache) ls)) zero_code ≡ by_call c place (λ act. takes_plain me c place) c.running
-plain_taken me c place a told d call run t h e =
-    ap (λ (xs : List Line). ends_step me c (left d c.cache) (λ ls. lines.Given place ∷ (xs ++ dropped me (filter (drops_of d) c.cache) ls)) zero_code) t
-    ∙ (plain_as me c d call place zero_code h ∙ (ap (takes_plain me c place) e ∙ with_call c place a (λ act. takes_plain me c place) run))
+pub plain_taken : (me : Node) (c : ClientState) (place : ℕ) (a : Asking) (told : List Line) (d : Drops) (call : FsCall) → Some a ≡ asking_of c.running c.gifts → ((e : CacheEntry) → drops_of d e ≡ is_in_scope call e.fid) → call ≡ call_by a.gifts (next a.going)
+    → ends_step me c (left d c.cache) (λ ls. lines.Given place ∷ (told ++ dropped me (filter (drops_of d) c.cache) ls)) zero_code ≡ telling told (by_call c place (λ act. takes_plain me c place) c.running)
+plain_taken me c place a told d call run h e =
+    ap (telling told) (plain_as me c d call place zero_code h ∙ (ap (takes_plain me c place) e ∙ with_call c place a (λ act. takes_plain me c place) run))
 
 -- a trusted entry is as the store left it
 pub stored_taken : (me : Node) (c : ClientState) (clock place : ℕ) (told : List Line) (fid : Fid) (index : ℕ) (shown status : ReadStatus) (made : Option Body → Option Body) → told ≡ [] → shown ≡ status
@@ -487,27 +558,27 @@ each_call c place step other None h = refl
 each_call c place step other (Some act) h = h act (call_of c act)
 
 -- by a test that doesn't look at the call
-pub then_taken : {E : Type 0} (c : ClientState) (b : Bool) (a : Asking) (used : ℕ → Step ClientState) (plain : ℕ → FsCall → Step ClientState) (old new : NodeState ClientState) (r : Result Outs E) → Some a ≡ asking_of c.running c.gifts → true ≡ b → Takes used old new r
+pub then_taken : {E : Type 0} (c : ClientState) (b : Bool) (a : Asking) (used : ℕ → Step ClientState) (plain : ℕ → FsCall → Step ClientState) (old new : NodeState CopyState) (r : Result Outs E) → Some a ≡ asking_of c.running c.gifts → true ≡ b → Takes used old new r
     → Takes (λ place. by_call c place (λ act call. cond b (used place) (plain place call)) c.running) old new r
 then_taken c b a used plain old new r run e t =
     takes_same used (λ place. by_call c place (λ act call. cond b (used place) (plain place call)) c.running) old new r
     (λ place. chosen_then b (used place) (plain place (call_by a.gifts (next a.going))) e ∙ with_call c place a (λ act call. cond b (used place) (plain place call)) run) t
 
-pub else_taken : {E : Type 0} (c : ClientState) (b : Bool) (used : ℕ → Step ClientState) (plain : ℕ → FsCall → Step ClientState) (old new : NodeState ClientState) (r : Result Outs E) → false ≡ b → Takes (λ place. by_call c place (λ act. plain place) c.running) old new r
+pub else_taken : {E : Type 0} (c : ClientState) (b : Bool) (used : ℕ → Step ClientState) (plain : ℕ → FsCall → Step ClientState) (old new : NodeState CopyState) (r : Result Outs E) → false ≡ b → Takes (λ place. by_call c place (λ act. plain place) c.running) old new r
     → Takes (λ place. by_call c place (λ act call. cond b (used place) (plain place call)) c.running) old new r
 else_taken c b used plain old new r e t =
     takes_same (λ place. by_call c place (λ act. plain place) c.running) (λ place. by_call c place (λ act call. cond b (used place) (plain place call)) c.running) old new r
     (λ place. each_call c place (λ act. plain place) (λ act call. cond b (used place) (plain place call)) c.running (λ act call. chosen_else b (used place) (plain place call) e)) t
 
 -- what was stored, where no break overtook the reply
-pub spoiled_taken : {E : Type 0} (me : Node) (c : ClientState) (clock : ℕ) (fid : Fid) (status : AfsFetchStatus) (contents : List ℕ) (old new : NodeState ClientState) (r : Result Outs E) → true ≡ c.spoiled → Takes (λ place. by_call c place (λ act. takes_plain me c place) c.running) old new r
+pub spoiled_taken : {E : Type 0} (me : Node) (c : ClientState) (clock : ℕ) (fid : Fid) (status : AfsFetchStatus) (contents : List ℕ) (old new : NodeState CopyState) (r : Result Outs E) → true ≡ c.spoiled → Takes (λ place. by_call c place (λ act. takes_plain me c place) c.running) old new r
     → Takes (λ place. by_call c place (λ act. takes_bytes me c clock place fid status contents) c.running) old new r
 spoiled_taken me c clock fid status contents old new r e t =
     takes_same (λ place. by_call c place (λ act. takes_plain me c place) c.running) (λ place. by_call c place (λ act. takes_bytes me c clock place fid status contents) c.running) old new r
     (λ place. each_call c place (λ act. takes_plain me c place) (λ act. takes_bytes me c clock place fid status contents) c.running
     (λ act call. chosen_then c.spoiled (takes_plain me c place call) (takes_stored me c clock place fid status.sync_counter (status_told status) (λ body. Some (bodies.File contents))) e)) t
 
-pub unspoiled_taken : {E : Type 0} (me : Node) (c : ClientState) (clock : ℕ) (a : Asking) (fid : Fid) (status : AfsFetchStatus) (contents : List ℕ) (old new : NodeState ClientState) (r : Result Outs E) → Some a ≡ asking_of c.running c.gifts → false ≡ c.spoiled
+pub unspoiled_taken : {E : Type 0} (me : Node) (c : ClientState) (clock : ℕ) (a : Asking) (fid : Fid) (status : AfsFetchStatus) (contents : List ℕ) (old new : NodeState CopyState) (r : Result Outs E) → Some a ≡ asking_of c.running c.gifts → false ≡ c.spoiled
     → Takes (λ place. takes_stored me c clock place fid status.sync_counter (status_told status) (λ body. Some (bodies.File contents))) old new r → Takes (λ place. by_call c place (λ act. takes_bytes me c clock place fid status contents) c.running) old new r
 unspoiled_taken me c clock a fid status contents old new r run e t =
     takes_same (λ place. takes_stored me c clock place fid status.sync_counter (status_told status) (λ body. Some (bodies.File contents))) (λ place. by_call c place (λ act. takes_bytes me c clock place fid status contents) c.running) old new r
@@ -524,11 +595,11 @@ unspent_some : (c : ClientState) (place : ℕ) (again other : Going → Step Cli
 unspent_some c place again other None e = refl
 unspent_some c place again other (Some act) e = chosen_else (is_spent c act) (again act) (other act) e
 
-pub spent_again : {E : Type 0} (c : ClientState) (again other : ℕ → Going → Step ClientState) (old new : NodeState ClientState) (r : Result Outs E) → true ≡ spent_by c c.running → Takes (λ place. by_act c place (again place) c.running) old new r
+pub spent_again : {E : Type 0} (c : ClientState) (again other : ℕ → Going → Step ClientState) (old new : NodeState CopyState) (r : Result Outs E) → true ≡ spent_by c c.running → Takes (λ place. by_act c place (again place) c.running) old new r
     → Takes (λ place. by_act c place (λ act. cond (is_spent c act) (again place act) (other place act)) c.running) old new r
 spent_again c again other old new r e t = takes_same (λ place. by_act c place (again place) c.running) (λ place. by_act c place (λ act. cond (is_spent c act) (again place act) (other place act)) c.running) old new r (λ place. spent_some c place (again place) (other place) c.running e) t
 
-pub unspent_heard : {E : Type 0} (c : ClientState) (again other : ℕ → Going → Step ClientState) (old new : NodeState ClientState) (r : Result Outs E) → false ≡ spent_by c c.running → Takes (λ place. by_act c place (other place) c.running) old new r
+pub unspent_heard : {E : Type 0} (c : ClientState) (again other : ℕ → Going → Step ClientState) (old new : NodeState CopyState) (r : Result Outs E) → false ≡ spent_by c c.running → Takes (λ place. by_act c place (other place) c.running) old new r
     → Takes (λ place. by_act c place (λ act. cond (is_spent c act) (again place act) (other place act)) c.running) old new r
 unspent_heard c again other old new r e t = takes_same (λ place. by_act c place (other place) c.running) (λ place. by_act c place (λ act. cond (is_spent c act) (again place act) (other place act)) c.running) old new r (λ place. unspent_some c place (again place) (other place) c.running e) t
 
@@ -542,16 +613,16 @@ unawaited_as : (me : Node) (c : ClientState) (clock place : ℕ) (head : Head) (
 unawaited_as me c clock place head x None e = refl
 unawaited_as me c clock place head x (Some act) e = chosen_else (is_awaited c act head) (counts me c clock place act head x) (ignores c place) e
 
-pub awaited_taken : {E : Type 0} (me : Node) (c : ClientState) (clock : ℕ) (head : Head) (x : Carried) (old new : NodeState ClientState) (r : Result Outs E) → true ≡ awaited_by c head c.running
+pub awaited_taken : {E : Type 0} (me : Node) (c : ClientState) (clock : ℕ) (head : Head) (x : Carried) (old new : NodeState CopyState) (r : Result Outs E) → true ≡ awaited_by c head c.running
     → Takes (λ place. by_act c place (λ act. counts me c clock place act head x) c.running) old new r → Takes (λ place. awaits me c clock place head x c.running) old new r
 awaited_taken me c clock head x old new r e t = takes_same (λ place. by_act c place (λ act. counts me c clock place act head x) c.running) (λ place. awaits me c clock place head x c.running) old new r (λ place. awaited_as me c clock place head x c.running e) t
 
-pub unawaited_taken : {E : Type 0} (me : Node) (c : ClientState) (clock : ℕ) (head : Head) (x : Carried) (old new : NodeState ClientState) (r : Result Outs E) → false ≡ awaited_by c head c.running
+pub unawaited_taken : {E : Type 0} (me : Node) (c : ClientState) (clock : ℕ) (head : Head) (x : Carried) (old new : NodeState CopyState) (r : Result Outs E) → false ≡ awaited_by c head c.running
     → Takes (λ place. ignores c place) old new r → Takes (λ place. awaits me c clock place head x c.running) old new r
 unawaited_taken me c clock head x old new r e t = takes_same (λ place. ignores c place) (λ place. awaits me c clock place head x c.running) old new r (λ place. unawaited_as me c clock place head x c.running e) t
 
 -- what a reply or a refusal does
-pub counted_as : {E : Type 0} (me : Node) (c : ClientState) (clock : ℕ) (head : Head) (step : ℕ → Going → Step ClientState) (x : Carried) (old new : NodeState ClientState) (r : Result Outs E) → ((place : ℕ) (act : Going) → step place act ≡ counts me c clock place act head x)
+pub counted_as : {E : Type 0} (me : Node) (c : ClientState) (clock : ℕ) (head : Head) (step : ℕ → Going → Step ClientState) (x : Carried) (old new : NodeState CopyState) (r : Result Outs E) → ((place : ℕ) (act : Going) → step place act ≡ counts me c clock place act head x)
     → Takes (λ place. by_act c place (step place) c.running) old new r → Takes (λ place. by_act c place (λ act. counts me c clock place act head x) c.running) old new r
 counted_as me c clock head step x old new r h t = takes_same (λ place. by_act c place (step place) c.running) (λ place. by_act c place (λ act. counts me c clock place act head x) c.running) old new r (λ place. each_act c place (step place) (λ act. counts me c clock place act head x) c.running (h place)) t
 
@@ -561,9 +632,19 @@ replied_as me c clock place act head (tell.Volume reply) = refl
 replied_as me c clock place act head (tell.Location reply) = refl
 
 -- a reply of this kind was taken
-pub taken_as : {E : Type 0} (me : Node) (c : ClientState) (clock : ℕ) (x reply : FsReply) (old new : NodeState ClientState) (r : Result Outs E) → x ≡ reply → Takes (λ place. by_call c place (λ act call. takes me c clock place act call x) c.running) old new r
+pub taken_as : {E : Type 0} (me : Node) (c : ClientState) (clock : ℕ) (x reply : FsReply) (old new : NodeState CopyState) (r : Result Outs E) → x ≡ reply → Takes (λ place. by_call c place (λ act call. takes me c clock place act call x) c.running) old new r
     → Takes (λ place. by_call c place (λ act call. takes me c clock place act call reply) c.running) old new r
 taken_as me c clock x reply old new r e t = subst (λ (y : FsReply). Takes (λ (place : ℕ). by_call c place (λ (act : Going) (call : FsCall). takes me c clock place act call y) c.running) old new r) e t
+
+-- the same behind lines that were told before
+pub reading_as : {E : Type 0} (me : Node) (c : ClientState) (clock : ℕ) (x reply : FsReply) (told : List Line) (old new : NodeState CopyState) (r : Result Outs E) → x ≡ reply → Takes (λ place. telling told (by_call c place (λ act call. takes me c clock place act call x) c.running)) old new r
+    → Takes (λ place. telling told (by_call c place (λ act call. takes me c clock place act call reply) c.running)) old new r
+reading_as me c clock x reply told old new r e t = subst (λ (y : FsReply). Takes (λ (place : ℕ). telling told (by_call c place (λ (act : Going) (call : FsCall). takes me c clock place act call y) c.running)) old new r) e t
+
+-- and behind none
+pub used_as : {E : Type 0} (me : Node) (c : ClientState) (clock : ℕ) (x reply : FsReply) (told : List Line) (old new : NodeState CopyState) (r : Result Outs E) → x ≡ reply → told ≡ [] → Takes (λ place. telling told (by_call c place (λ act call. takes me c clock place act call x) c.running)) old new r
+    → Takes (λ place. by_call c place (λ act call. takes me c clock place act call reply) c.running) old new r
+used_as me c clock x reply told old new r e n t = taken_as me c clock x reply old new r e (told_none (λ place. by_call c place (λ act call. takes me c clock place act call x) c.running) told old new r n t)
 
 -- ---- refusals
 
@@ -574,14 +655,14 @@ later_as me c place a told e t =
     ap (λ (xs : List Line). calls_step me (record c { busy = c.busy + 1; gifts = a.gifts }) a.going (λ ls. lines.Given place ∷ (xs ++ ls))) t
     ∙ (ap (λ (gs : List Gift). calls_step me (record c { busy = c.busy + 1; gifts = gs }) a.going (given place)) (gifts_is c.running c.gifts a e) ∙ with_act c place a (calls_again me (record c { busy = c.busy + 1 }) place) e)
 
-pub later_taken : {E : Type 0} (me : Node) (c : ClientState) (code : Code) (old new : NodeState ClientState) (r : Result Outs E) → true ≡ (is_busy_code code && nat_lt c.busy most_busy)
+pub later_taken : {E : Type 0} (me : Node) (c : ClientState) (code : Code) (old new : NodeState CopyState) (r : Result Outs E) → true ≡ (is_busy_code code && nat_lt c.busy most_busy)
     → Takes (λ place. by_act c place (calls_again me (record c { busy = c.busy + 1 }) place) c.running) old new r → Takes (λ place. by_act c place (λ act. refuses me c place act code) c.running) old new r
 later_taken me c code old new r e t =
     takes_same (λ place. by_act c place (calls_again me (record c { busy = c.busy + 1 }) place) c.running) (λ place. by_act c place (λ act. refuses me c place act code) c.running) old new r
     (λ place. each_act c place (calls_again me (record c { busy = c.busy + 1 }) place) (λ act. refuses me c place act code) c.running
     (λ act. chosen_then (is_busy_code code && nat_lt c.busy most_busy) (calls_again me (record c { busy = c.busy + 1 }) place act) (refuses_for_good me c place act code) e)) t
 
-pub refused_taken : {E : Type 0} (me : Node) (c : ClientState) (code : Code) (old new : NodeState ClientState) (r : Result Outs E) → false ≡ (is_busy_code code && nat_lt c.busy most_busy)
+pub refused_taken : {E : Type 0} (me : Node) (c : ClientState) (code : Code) (old new : NodeState CopyState) (r : Result Outs E) → false ≡ (is_busy_code code && nat_lt c.busy most_busy)
     → Takes (λ place. by_act c place (λ act. refuses_for_good me c place act code) c.running) old new r → Takes (λ place. by_act c place (λ act. refuses me c place act code) c.running) old new r
 refused_taken me c code old new r e t =
     takes_same (λ place. by_act c place (λ act. refuses_for_good me c place act code) c.running) (λ place. by_act c place (λ act. refuses me c place act code) c.running) old new r
@@ -590,25 +671,28 @@ refused_taken me c code old new r e t =
 
 -- ---- a notice
 
-pub resent_taken : (me : Node) (c : ClientState) (boot : ℕ) (a : Asking) (old new : NodeState ClientState) (outs : Outs) → Some a ≡ asking_of c.running c.gifts → new.node ≡ old.node → new.state ≡ booted c boot → outs.lines ≡ []
-    → parcels_read outs.parcels ≡ messages_spelled (sent_to me c c.last c.callee boot (call_by a.gifts (next a.going)) ∷ []) → (new.node ≡ old.node) × ((place : ℕ) → Makes (by_act c place (λ act. resends_step me c place act boot) c.running) new.state (λ ls. lines.Given place ∷ ls) outs)
-resent_taken me c boot a old new outs run n s l p = (
-  n,
-  λ place. subst (λ (x : Step ClientState). Makes x new.state (λ ls. lines.Given place ∷ ls) outs) (with_act c place a (λ act. resends_step me c place act boot) run) (record {
-    state = s;
-    lines = ap (λ (ls : List Line). lines.Given place ∷ ls) l;
-    sent = p ∙ (ap (λ (gs : List Gift). messages_spelled (sent_to me c c.last c.callee boot (call_by gs (next a.going)) ∷ [])) (gifts_is c.running c.gifts a run)
-        ∙ ap (λ (b : ℕ). messages_spelled (sent_to me c c.last c.callee b (call_by c.gifts (next a.going)) ∷ [])) (sym (boot_told_is c.callee boot c.boots)));
-  }),
-)
+pub resent_taken : (boot : ℕ) (a : Asking) (old new : NodeState CopyState) (outs : Outs) → Some a ≡ asking_of old.state.client.running old.state.client.gifts → new ≡ record old { state = with_client old.state (booted old.state.client boot) } → outs.lines ≡ []
+    → parcels_read outs.parcels ≡ messages_spelled (sent_to old.node old.state.client old.state.client.last old.state.client.callee boot (call_by a.gifts (next a.going)) ∷ []) → TakesStill {E = AllocError} (λ place. by_act old.state.client place (λ act. resends_step old.node old.state.client place act boot) old.state.client.running) old new (Ok outs)
+resent_taken boot a old new outs run n l p =
+    let me : Node = old.node in
+    let c : ClientState = old.state.client in (
+      ap (λ (s : NodeState CopyState). s.node) n,
+      λ place. subst (λ (x : Step ClientState). Makes (as_it_is old.state x) new.state (λ ls. lines.Given place ∷ ls) outs) (with_act c place a (λ act. resends_step me c place act boot) run) (record {
+        state = ap (λ (s : NodeState CopyState). s.state) n;
+        lines = ap (λ (ls : List Line). lines.Given place ∷ ls) l;
+        sent = p ∙ (ap (λ (gs : List Gift). messages_spelled (sent_to me c c.last c.callee boot (call_by gs (next a.going)) ∷ [])) (gifts_is c.running c.gifts a run)
+            ∙ ap (λ (b : ℕ). messages_spelled (sent_to me c c.last c.callee b (call_by c.gifts (next a.going)) ∷ [])) (sym (boot_told_is c.callee boot c.boots)));
+      }),
+    )
+
+pub resends_keep : (me : Node) (c : ClientState) (place boot : ℕ) (running : Option Going) → (by_act c place (λ act. resends_step me c place act boot) running).state.last ≡ c.last
+resends_keep me c place boot None = refl
+resends_keep me c place boot (Some act) = refl
 
 -- ---- a call is given up
 
-pub answers_same : {E : Type 0} (step other : Step ClientState) (old new : NodeState ClientState) (r : Result Outs E) → step ≡ other → Answers step old new r → Answers other old new r
-answers_same step other old new r e h = subst (λ (s : Step ClientState). Answers s old new r) e h
-
-pub idle_given_up : {E : Type 0} (me : Node) (c : ClientState) (old new : NodeState ClientState) (r : Result Outs E) → None ≡ asking_of c.running c.gifts → Answers (rests c) old new r → Answers (given_up me c c.running) old new r
-idle_given_up me c old new r e h = answers_same (rests c) (given_up me c c.running) old new r (ap (given_up me c) (sym (idle_is c.running c.gifts e))) h
+pub idle_given_up : {E : Type 0} (me : Node) (c : ClientState) (old new : NodeState CopyState) (r : Result Outs E) → None ≡ asking_of c.running c.gifts → AnswersStill (rests c) old new r → AnswersStill (given_up me c c.running) old new r
+idle_given_up me c old new r e h = stills_answered (rests c) (given_up me c c.running) old new r (ap (given_up me c) (sym (idle_is c.running c.gifts e))) h
 
 pub gives_up_as : (me : Node) (c : ClientState) (a : Asking) (told : List Line) (d : Drops) (call : FsCall) → Some a ≡ asking_of c.running c.gifts → told ≡ timeout_line me c 3 ∷ [] → d ≡ changed_in (volume_changed call) → call ≡ call_by a.gifts (next a.going)
     → ends_step me c (left d c.cache) (λ ls. told ++ dropped me (filter (drops_of d) c.cache) ls) dead_code ≡ given_up me c c.running
@@ -619,20 +703,9 @@ gives_up_as me c a told d call run t q e =
     ∙ (ap (λ (es : List CacheEntry). ends_step me c (left_in (volume_changed call) c.cache) (λ ls. timeout_line me c 3 ∷ dropped me es ls) dead_code) (given_is (volume_changed call) c.cache)
     ∙ (ap (gives_up me c) (e ∙ ap (λ (gs : List Gift). call_by gs (next a.going)) (gifts_is c.running c.gifts a run)) ∙ ap (given_up me c) (sym (running_is c.running c.gifts a run))))))
 
--- ---- a timeout
-
-pub tried_enough : {E : Type 0} (me : Node) (c : ClientState) (a : Asking) (old new : NodeState ClientState) (r : Result Outs E) → Some a ≡ asking_of c.running c.gifts → false ≡ nat_lt c.tries 2 → Answers (given_up me c c.running) old new r → Answers (times_out me c c.running) old new r
-tried_enough me c a old new r run b h =
-    answers_same (given_up me c c.running) (times_out me c c.running) old new r
-    (ap (given_up me c) (running_is c.running c.gifts a run) ∙ (chosen_else (nat_lt c.tries 2) (tries_again me c a.going) (gives_up me c (call_of c a.going)) b ∙ ap (times_out me c) (sym (running_is c.running c.gifts a run)))) h
-
-pub idle_timed : {E : Type 0} (me : Node) (c : ClientState) (old new : NodeState ClientState) (r : Result Outs E) → None ≡ asking_of c.running c.gifts → Answers (seek_times_out me c c.seeking) old new r → Answers (times_out me c c.running) old new r
-idle_timed me c old new r e h = answers_same (seek_times_out me c c.seeking) (times_out me c c.running) old new r (ap (times_out me c) (sym (idle_is c.running c.gifts e))) h
-
--- ---- a message
-
-pub heard : {E : Type 0} (me : Node) (c : ClientState) (clock : ℕ) (x received : Received) (old new : NodeState ClientState) (r : Result Outs E) → x ≡ received → Takes (λ place. guest_row me c clock place x) old new r → Takes (λ place. guest_row me c clock place received) old new r
-heard me c clock x received old new r e t = subst (λ (y : Received). Takes (λ (place : ℕ). guest_row me c clock place y) old new r) e t
+-- its last step leaves no act
+pub given_up_rests : (me : Node) (c : ClientState) (a : Asking) → Some a ≡ asking_of c.running c.gifts → (given_up me c c.running).state.running ≡ None
+given_up_rests me c a run = ap (λ (o : Option Going). (given_up me c o).state.running) (running_is c.running c.gifts a run)
 
 -- ---- replies of calls that show nothing
 
@@ -696,5 +769,5 @@ ignored_by : (c : ClientState) (place : ℕ) (step : Going → Step ClientState)
 ignored_by c place step None h = refl
 ignored_by c place step (Some act) h = h act
 
-pub ignored_taken : {E : Type 0} (c : ClientState) (step : ℕ → Going → Step ClientState) (old new : NodeState ClientState) (r : Result Outs E) → ((place : ℕ) (act : Going) → ignores c place ≡ step place act) → Takes (λ place. ignores c place) old new r → Takes (λ place. by_act c place (step place) c.running) old new r
+pub ignored_taken : {E : Type 0} (c : ClientState) (step : ℕ → Going → Step ClientState) (old new : NodeState CopyState) (r : Result Outs E) → ((place : ℕ) (act : Going) → ignores c place ≡ step place act) → Takes (λ place. ignores c place) old new r → Takes (λ place. by_act c place (step place) c.running) old new r
 ignored_taken c step old new r h t = takes_same (λ place. ignores c place) (λ place. by_act c place (step place) c.running) old new r (λ place. ignored_by c place (step place) c.running (h place)) t

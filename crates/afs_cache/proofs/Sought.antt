@@ -25,18 +25,19 @@ use Rattle.afs_model.specs.Steps.{NodeState}
 use Rattle.afs_shape.specs.Tables.{IsEntry}
 use Rattle.afs_rows.specs.States.{Gift, Location}
 use Rattle.afs_rows.specs.Going.{ClientState, Going, Left, Seek, filled, next, operand_in, volume_at}
-use Rattle.afs_rows.specs.ClientRow.{act_sought, answers_step, asks_where, boot_of, call_of, calls_again, callee_of, client_row, dead_code, entry_in, given, guest_row, has_location, ignores, is_gone_code, is_sought, knows, located, located_by, located_on, most_moved, moved_on, no_entry_code, put_location, refuses_for_good, seek_timeout_row, seeks_again, seeks_on, seeks_step, sought_by, sought_ends, sought_or, takes_in, timeout_line, volume_asked, walks_on, with_boot}
+use Rattle.afs_rows.specs.ClientRow.{act_sought, answers_step, asks_where, boot_of, call_of, calls_again, callee_of, client_row, dead_code, entry_in, given, guest_row, has_location, ignores, is_gone_code, is_sought, knows, located, located_by, located_on, most_moved, moved_on, no_entry_code, put_location, refuses_for_good, seek_timeout_row, seeks_again, seeks_on, seeks_step, sought_by, sought_ends, sought_or, takes_in, timeout_line, volume_asked, walks_on, with_boot, call_by, calls_step}
 use Rattle.afs_rows.specs.Steps.{Step}
 use Rattle.afs_acts.specs.Located.{Puts}
-use Rattle.afs_cache.specs.Acting.{CanFollow, IsAsking, sought_from}
-use Rattle.afs_cache.specs.declared.acting.Asks.{Asks}
-use Rattle.afs_cache.specs.declared.acting.Plan.TheVariants as plans
-use Rattle.afs_cache.specs.Asking.{Asking, asking_of}
-use Rattle.afs_cache.specs.Locating.{AsksAnew, Sought, calls_elsewhere, entry_told, found_by, found_on, goes_as_before, goes_by_table, operand_called}
-use Rattle.afs_cache.specs.Managing.{Makes, Takes, by_act, number_limit, sought_by_head}
+use Rattle.std.specs.declared.alloc.AllocError.{AllocError}
+use Rattle.afs_cache.specs.Acting.{called_by, sought_from}
+use Rattle.afs_asking.specs.Asking.{Asking, asking_of, is_giving}
+use Rattle.afs_cache.specs.Locating.{IsAskedAnew, Sought, calls_elsewhere, entry_told, found_by, found_on, goes_as_before, goes_by_table, operand_called}
+use Rattle.afs_cache.specs.Managing.{Makes, Takes, by_act, number_limit, sought_by_head, placed, TakesStill}
 use Rattle.afs_cache.proofs.Answering.{boot_told_is, takes_same}
 use Rattle.afs_cache.proofs.Planning.{called_as}
 use Rattle.afs_cache.proofs.Replying.{chosen_else, chosen_then, each_act, with_act}
+use Rattle.afs_cache.proofs.Placing.{still_taken}
+use Rattle.afs_copyrows.specs.Sites.{with_client, CopyState}
 
 -- ---- a volume is gone
 
@@ -54,27 +55,27 @@ where_as : (me : Node) (c : ClientState) (place : ℕ) (code : Code) (x : Option
 where_as me c place code x None e = refl
 where_as me c place code x (Some act) e = ap (asks_where me c place act code) e
 
-pub where_taken : {E : Type 0} (me : Node) (c : ClientState) (code : Code) (x : Option Operand) (old new : NodeState ClientState) (r : Result Outs E) → x ≡ operand_called c c.running
+pub where_taken : {E : Type 0} (me : Node) (c : ClientState) (code : Code) (x : Option Operand) (old new : NodeState CopyState) (r : Result Outs E) → x ≡ operand_called c c.running
     → Takes (λ place. by_act c place (λ act. asks_where me c place act code x) c.running) old new r → Takes (λ place. by_act c place (λ act. asks_where me c place act code (operand_in act (volume_asked (call_of c act)))) c.running) old new r
 where_taken me c code x old new r e h =
     takes_same (λ place. by_act c place (λ act. asks_where me c place act code x) c.running) (λ place. by_act c place (λ act. asks_where me c place act code (operand_in act (volume_asked (call_of c act)))) c.running) old new r
     (λ place. where_as me c place code x c.running e) h
 
 -- it has no operand there
-pub nowhere_taken : {E : Type 0} (me : Node) (c : ClientState) (a : Asking) (code : Code) (old new : NodeState ClientState) (r : Result Outs E) → Some a ≡ asking_of c.running c.gifts → None ≡ operand_called c c.running
+pub nowhere_taken : {E : Type 0} (me : Node) (c : ClientState) (a : Asking) (code : Code) (old new : NodeState CopyState) (r : Result Outs E) → Some a ≡ asking_of c.running c.gifts → None ≡ operand_called c c.running
     → Takes (λ place. answers_step me c place code) old new r → Takes (λ place. by_act c place (λ act. asks_where me c place act code (operand_in act (volume_asked (call_of c act)))) c.running) old new r
 nowhere_taken me c a code old new r run e h =
     where_taken me c code None old new r e
     (takes_same (λ place. answers_step me c place code) (λ place. by_act c place (λ act. asks_where me c place act code None) c.running) old new r (λ place. with_act c place a (λ act. asks_where me c place act code None) run) h)
 
-pub moves_taken : {E : Type 0} (me : Node) (c : ClientState) (code : Code) (old new : NodeState ClientState) (r : Result Outs E) → true ≡ (is_gone_code code && nat_lt c.moved most_moved)
+pub moves_taken : {E : Type 0} (me : Node) (c : ClientState) (code : Code) (old new : NodeState CopyState) (r : Result Outs E) → true ≡ (is_gone_code code && nat_lt c.moved most_moved)
     → Takes (λ place. by_act c place (λ act. asks_where me c place act code (operand_in act (volume_asked (call_of c act)))) c.running) old new r → Takes (λ place. by_act c place (λ act. refuses_for_good me c place act code) c.running) old new r
 moves_taken me c code old new r e h =
     takes_same (λ place. by_act c place (λ act. asks_where me c place act code (operand_in act (volume_asked (call_of c act)))) c.running) (λ place. by_act c place (λ act. refuses_for_good me c place act code) c.running) old new r
     (λ place. each_act c place (λ act. asks_where me c place act code (operand_in act (volume_asked (call_of c act)))) (λ act. refuses_for_good me c place act code) c.running
     (λ act. chosen_then (is_gone_code code && nat_lt c.moved most_moved) (asks_where me c place act code (operand_in act (volume_asked (call_of c act)))) (answers_step me c place code) e)) h
 
-pub stays_taken : {E : Type 0} (me : Node) (c : ClientState) (a : Asking) (code : Code) (old new : NodeState ClientState) (r : Result Outs E) → Some a ≡ asking_of c.running c.gifts → false ≡ (is_gone_code code && nat_lt c.moved most_moved)
+pub stays_taken : {E : Type 0} (me : Node) (c : ClientState) (a : Asking) (code : Code) (old new : NodeState CopyState) (r : Result Outs E) → Some a ≡ asking_of c.running c.gifts → false ≡ (is_gone_code code && nat_lt c.moved most_moved)
     → Takes (λ place. answers_step me c place code) old new r → Takes (λ place. by_act c place (λ act. refuses_for_good me c place act code) c.running) old new r
 stays_taken me c a code old new r run e h =
     takes_same (λ place. answers_step me c place code) (λ place. by_act c place (λ act. refuses_for_good me c place act code) c.running) old new r
@@ -89,29 +90,36 @@ kept false x y e = absurd cc
 pub some_is : {A : Type 0} (x y : A) → Some x ≡ Some y → x ≡ y
 some_is {A} x y e = cc
 
--- it asks anew for what it needs
-anew_by : {E : Type 0} (me : Node) (c : ClientState) (k : Seek) (act : Going) (gifts : List Gift) (told : List Line) (r : Result Asks E) → act ≡ k.act → gifts ≡ c.gifts → told ≡ [] → IfOk r (IsAsking me c act gifts told) → IfOk r (IsAsking me c k.act c.gifts [])
-anew_by me c k act gifts told r e g t h =
-    subst (λ (a : Going). IfOk r (IsAsking me c a c.gifts [])) e (subst (λ (gs : List Gift). IfOk r (IsAsking me c act gs [])) g (subst (λ (ls : List Line). IfOk r (IsAsking me c act gifts ls)) t h))
+-- it has its call again
+anew_by : {E : Type 0} (c : ClientState) (k : Seek) (act : Going) (gifts : List Gift) (r : Result Asking E) → act ≡ k.act → gifts ≡ c.gifts → IfOk r (λ a. a ≡ record { going = act; gifts = gifts }) → IfOk r (λ a. a ≡ record { going = k.act; gifts = c.gifts })
+anew_by c k act gifts r e g h =
+    subst (λ (x : Going). IfOk r (λ a. a ≡ record { going = x; gifts = c.gifts })) e (subst (λ (gs : List Gift). IfOk r (λ a. a ≡ record { going = act; gifts = gs })) g h)
 
-no_more : {E : Type 0} (r : Result Asks E) → IfOk r (λ a. Unit {0})
+no_more : {E : Type 0} (r : Result Asking E) → IfOk r (λ a. Unit {0})
 no_more (Ok a) = tt
 no_more (Err e) = tt
 
-pub asked_anew : {E : Type 0} (me : Node) (c : ClientState) (o : Option Seek) (act : Going) (gifts : List Gift) (told : List Line) (r : Result Asks E) → Some act ≡ act_sought o → gifts ≡ c.gifts → told ≡ [] → IfOk r (IsAsking me c act gifts told)
-    → IfOk r (AsksAnew me c o)
-asked_anew me c None act gifts told r e g t h = no_more r
-asked_anew me c (Some k) act gifts told r e g t h = anew_by me c k act gifts told r (some_is act k.act e) g t h
+pub asked_anew : {E : Type 0} (c : ClientState) (o : Option Seek) (act : Going) (gifts : List Gift) (r : Result Asking E) → Some act ≡ act_sought o → gifts ≡ c.gifts → IfOk r (λ a. a ≡ record { going = act; gifts = gifts }) → IfOk r (IsAskedAnew c o)
+asked_anew c None act gifts r e g h = no_more r
+asked_anew c (Some k) act gifts r e g h = anew_by c k act gifts r (some_is act k.act e) g h
 
-pub anew_callee : (me : Node) (c : ClientState) (k : Seek) (a : Asks) → IsAsking me c k.act c.gifts [] a → a.callee ≡ callee_of c k.act
-anew_callee me c k a h = h.callee ∙ called_as (next k.act) k.act c
+pub anew_callee : (c : ClientState) (k : Seek) (a : Asking) (callee : Node) → a ≡ record { going = k.act; gifts = c.gifts } → callee ≡ called_by (is_giving (next a.going)) c.table a.going a.gifts (call_by a.gifts (next a.going)) → callee ≡ callee_of c k.act
+anew_callee c k a callee q e = e ∙ (ap (λ (x : Asking). called_by (is_giving (next x.going)) c.table x.going x.gifts (call_by x.gifts (next x.going))) q ∙ called_as (next k.act) k.act c)
 
-pub anew_follows : (me : Node) (c : ClientState) (o : Option Seek) (a : Asks) → IsSome o → c.last < number_limit → AsksAnew me c o a → CanFollow c.last (plans.Asks a)
-anew_follows me c None a s l h = absurd cc
-anew_follows me c (Some k) a s l h = (h.node, l)
+pub anew_gifts : (c : ClientState) (o : Option Seek) (a : Asking) → IsSome o → IsAskedAnew c o a → a.gifts ≡ c.gifts
+anew_gifts c None a s h = absurd cc
+anew_gifts c (Some k) a s h = ap (λ (x : Asking). x.gifts) h
+
+pub anew_going : (c : ClientState) (k : Seek) (a : Asking) → a ≡ record { going = k.act; gifts = c.gifts } → a.going ≡ k.act
+anew_going c k a h = ap (λ (x : Asking). x.going) h
+
+-- behind no other lines
+pub calls_alone : (me : Node) (c : ClientState) (place : ℕ) (a : Asking) (told : List Line) → a.gifts ≡ c.gifts → told ≡ [] → calls_step me (record c { gifts = a.gifts }) a.going (λ ls. lines.Given place ∷ (told ++ ls)) ≡ calls_again me c place a.going
+calls_alone me c place a told g t =
+    ap (λ (xs : List Line). calls_step me (record c { gifts = a.gifts }) a.going (λ ls. lines.Given place ∷ (xs ++ ls))) t ∙ ap (λ (gs : List Gift). calls_step me (record c { gifts = gs }) a.going (given place)) g
 
 -- the table names the server that was left, or another one
-pub stays_there : {E : Type 0} (me : Node) (c : ClientState) (act : Going) (left : Left) (old new : NodeState ClientState) (r : Result Outs E) → true ≡ same_node (callee_of c act) left.server
+pub stays_there : {E : Type 0} (me : Node) (c : ClientState) (act : Going) (left : Left) (old new : NodeState CopyState) (r : Result Outs E) → true ≡ same_node (callee_of c act) left.server
     → Takes (λ place. sought_ends me c (given place) left.code) old new r → Takes (λ place. calls_elsewhere me c place act left) old new r
 stays_there me c act left old new r e h =
     takes_same (λ place. sought_ends me c (given place) left.code) (λ place. calls_elsewhere me c place act left) old new r
@@ -121,11 +129,11 @@ pub goes_elsewhere : (me : Node) (c : ClientState) (act : Going) (left : Left) (
 goes_elsewhere me c act left place e = chosen_else (same_node (callee_of c act) left.server) (sought_ends me c (given place) left.code) (calls_again me c place act) e
 
 -- the table has the number, or hasn't
-pub found_taken : {E : Type 0} (me : Node) (c : ClientState) (clock : ℕ) (k : Seek) (id : ℕ) (old new : NodeState ClientState) (r : Result Outs E) → Some id ≡ volume_at c.table k.operand
+pub found_taken : {E : Type 0} (me : Node) (c : ClientState) (clock : ℕ) (k : Seek) (id : ℕ) (old new : NodeState CopyState) (r : Result Outs E) → Some id ≡ volume_at c.table k.operand
     → Takes (λ place. found_on me c clock place k k.left) old new r → Takes (λ place. goes_by_table me c clock place k) old new r
 found_taken me c clock k id old new r e h = takes_same (λ place. found_on me c clock place k k.left) (λ place. goes_by_table me c clock place k) old new r (λ place. ap (found_by me c clock place k) e) h
 
-pub missed_taken : {E : Type 0} (me : Node) (c : ClientState) (clock : ℕ) (k : Seek) (old new : NodeState ClientState) (r : Result Outs E) → None ≡ volume_at c.table k.operand
+pub missed_taken : {E : Type 0} (me : Node) (c : ClientState) (clock : ℕ) (k : Seek) (old new : NodeState CopyState) (r : Result Outs E) → None ≡ volume_at c.table k.operand
     → Takes (λ place. sought_ends me c (given place) no_entry_code) old new r → Takes (λ place. goes_by_table me c clock place k) old new r
 missed_taken me c clock k old new r e h = takes_same (λ place. sought_ends me c (given place) no_entry_code) (λ place. goes_by_table me c clock place k) old new r (λ place. ap (found_by me c clock place k) e) h
 
@@ -145,7 +153,7 @@ new_by me c clock place k l (Some left) e n =
     moved_as me (knows l c) clock place k left (volume_at (knows l c).table k.operand) e
     ∙ chosen_else (has_location l c.table) (sought_ends me c (given place) left.code) (moved_on me (knows l c) place k.act left (volume_at (knows l c).table k.operand)) (sym n)
 
-pub new_taken : {E : Type 0} (me : Node) (c : ClientState) (clock : ℕ) (k : Seek) (l : Location) (table : List Location) (old new : NodeState ClientState) (r : Result Outs E) → Puts l c.table (Some table)
+pub new_taken : {E : Type 0} (me : Node) (c : ClientState) (clock : ℕ) (k : Seek) (l : Location) (table : List Location) (old new : NodeState CopyState) (r : Result Outs E) → Puts l c.table (Some table)
     → Takes (λ place. goes_by_table me (record c { table = table }) clock place k) old new r → Takes (λ place. located me c clock place k l k.left) old new r
 new_taken me c clock k l table old new r p h =
     takes_same (λ place. goes_by_table me (record c { table = table }) clock place k) (λ place. located me c clock place k l k.left) old new r
@@ -158,7 +166,7 @@ same_as me c clock place k l None e n =
     ∙ ap (λ (t : List Location). located_on me (record c { table = t }) clock place k.act (volume_at t k.operand)) (kept (has_location l c.table) c.table _ (sym n))
 same_as me c clock place k l (Some left) e n = chosen_then (has_location l c.table) (sought_ends me c (given place) left.code) _ (sym n)
 
-pub same_taken : {E : Type 0} (me : Node) (c : ClientState) (clock : ℕ) (k : Seek) (l : Location) (old new : NodeState ClientState) (r : Result Outs E) → Puts l c.table None
+pub same_taken : {E : Type 0} (me : Node) (c : ClientState) (clock : ℕ) (k : Seek) (l : Location) (old new : NodeState CopyState) (r : Result Outs E) → Puts l c.table None
     → Takes (λ place. goes_as_before me c clock place k k.left) old new r → Takes (λ place. located me c clock place k l k.left) old new r
 same_taken me c clock k l old new r p h = takes_same (λ place. goes_as_before me c clock place k k.left) (λ place. located me c clock place k l k.left) old new r (λ place. same_as me c clock place k l k.left refl p) h
 
@@ -187,34 +195,35 @@ told_as me c clock place k head (tell.Location reply) = refl
 
 -- ---- the boot number of the database
 
-asked_again : (me : Node) (c : ClientState) (boot : ℕ) (k : Seek) (old new : NodeState ClientState) (outs : Outs) → new ≡ record old { state = record c { boots = with_boot nodes.Loc boot c.boots } } → outs.lines ≡ []
-    → parcels_read outs.parcels ≡ messages_spelled (sought_from me c c.last boot k.operand ∷ []) → (new.node ≡ old.node) × ((place : ℕ) → Makes (seeks_again me c place k boot) new.state (λ ls. lines.Given place ∷ ls) outs)
-asked_again me c boot k old new outs n l p = (
-  ap (λ (s : NodeState ClientState). s.node) n,
+asked_again : (old new : NodeState CopyState) (boot : ℕ) (k : Seek) (outs : Outs) → new ≡ record old { state = with_client old.state (record old.state.client { boots = with_boot nodes.Loc boot old.state.client.boots }) } → outs.lines ≡ []
+    → parcels_read outs.parcels ≡ messages_spelled (sought_from old.node old.state.client old.state.client.last boot k.operand ∷ []) → TakesStill {E = AllocError} (λ place. seeks_again old.node old.state.client place k boot) old new (Ok outs)
+asked_again old new boot k outs n l p = (
+  ap (λ (s : NodeState CopyState). s.node) n,
   λ place. record {
-    state = ap (λ (s : NodeState ClientState). s.state) n;
+    state = ap (λ (s : NodeState CopyState). s.state) n;
     lines = ap (λ (ls : List Line). lines.Given place ∷ ls) l;
-    sent = p ∙ ap (λ (b : ℕ). messages_spelled (sought_from me c c.last b k.operand ∷ [])) (sym (boot_told_is nodes.Loc boot c.boots));
+    sent = p ∙ ap (λ (b : ℕ). messages_spelled (sought_from old.node old.state.client old.state.client.last b k.operand ∷ [])) (sym (boot_told_is nodes.Loc boot old.state.client.boots));
   },
 )
 
-pub again_taken : (me : Node) (c : ClientState) (boot : ℕ) (found : Seek) (old new : NodeState ClientState) (outs : Outs) → Some found ≡ old.state.seeking → new ≡ record old { state = record c { boots = with_boot nodes.Loc boot c.boots } } → outs.lines ≡ []
-    → parcels_read outs.parcels ≡ messages_spelled (sought_from me c c.last boot found.operand ∷ []) → (k : Seek) → old.state.seeking ≡ Some k → (new.node ≡ old.node) × ((place : ℕ) → Makes (seeks_again me c place k boot) new.state (λ ls. lines.Given place ∷ ls) outs)
-again_taken me c boot found old new outs f n l p k e =
-    asked_again me c boot k old new outs n l (p ∙ ap (λ (x : Seek). messages_spelled (sought_from me c c.last boot x.operand ∷ [])) (some_is found k (f ∙ e)))
+pub again_taken : (old new : NodeState CopyState) (boot : ℕ) (found : Seek) (outs : Outs) → Some found ≡ old.state.client.seeking → new ≡ record old { state = with_client old.state (record old.state.client { boots = with_boot nodes.Loc boot old.state.client.boots }) } → outs.lines ≡ []
+    → parcels_read outs.parcels ≡ messages_spelled (sought_from old.node old.state.client old.state.client.last boot found.operand ∷ []) → (k : Seek) → old.state.client.seeking ≡ Some k → Takes {E = AllocError} (λ place. seeks_again old.node old.state.client place k boot) old new (Ok outs)
+again_taken old new boot found outs f n l p k e =
+    still_taken {E = AllocError} (λ place. seeks_again old.node old.state.client place k boot) old new (Ok outs) (λ place. refl)
+    (asked_again old new boot k outs n l (p ∙ ap (λ (x : Seek). messages_spelled (sought_from old.node old.state.client old.state.client.last boot x.operand ∷ [])) (some_is found k (f ∙ e))))
 
 -- ---- whose answer a message is
 
-sought_when : {E : Type 0} (me : Node) (c : ClientState) (clock : ℕ) (m : Message) (o : Option Seek) (old new : NodeState ClientState) (r : Result Outs E) → true ≡ sought_by_head me c m.head m.carried o
+sought_when : {E : Type 0} (me : Node) (c : ClientState) (clock : ℕ) (m : Message) (o : Option Seek) (old new : NodeState CopyState) (r : Result Outs E) → true ≡ sought_by_head me c m.head m.carried o
     → ((k : Seek) → o ≡ Some k → Takes (λ place. sought_by me c clock place k m.head m.carried) old new r) → Takes (λ place. sought_or me c clock place m o) old new r
 sought_when me c clock m None old new r e h = absurd cc
 sought_when me c clock m (Some k) old new r e h =
     takes_same (λ place. sought_by me c clock place k m.head m.carried) (λ place. sought_or me c clock place m (Some k)) old new r
     (λ place. chosen_then (is_sought me c k m.head m.carried) (sought_by me c clock place k m.head m.carried) (client_row me c clock place (Whole m)) e) (h k refl)
 
-pub sought_taken : {E : Type 0} (me : Node) (clock : ℕ) (head : Head) (x : Carried) (old new : NodeState ClientState) (r : Result Outs E) → true ≡ sought_by_head me old.state head x old.state.seeking
-    → Sought (λ place k. sought_by me old.state clock place k head x) old new r → Takes (λ place. guest_row me old.state clock place (Whole (record { head = head; carried = x }))) old new r
-sought_taken me clock head x old new r e h = sought_when me old.state clock (record { head = head; carried = x }) old.state.seeking old new r e h
+pub sought_taken : {E : Type 0} (me : Node) (clock : ℕ) (head : Head) (x : Carried) (old new : NodeState CopyState) (r : Result Outs E) → true ≡ sought_by_head me old.state.client head x old.state.client.seeking
+    → Sought (λ place k. sought_by me old.state.client clock place k head x) old new r → Takes (λ place. guest_row me old.state.client clock place (Whole (record { head = head; carried = x }))) old new r
+sought_taken me clock head x old new r e h = sought_when me old.state.client clock (record { head = head; carried = x }) old.state.client.seeking old new r e h
 
 unsought_as : (me : Node) (c : ClientState) (clock place : ℕ) (m : Message) (o : Option Seek) → false ≡ sought_by_head me c m.head m.carried o → client_row me c clock place (Whole m) ≡ sought_or me c clock place m o
 unsought_as me c clock place m None e = refl
@@ -224,7 +233,7 @@ pub row_is : (me : Node) (c : ClientState) (clock place : ℕ) (r : Received) �
 unfolding client_row
 row_is me c clock place r = refl
 
-pub unsought_taken : {E : Type 0} (me : Node) (c : ClientState) (clock : ℕ) (head : Head) (x : Carried) (old new : NodeState ClientState) (r : Result Outs E) → false ≡ sought_by_head me c head x c.seeking
+pub unsought_taken : {E : Type 0} (me : Node) (c : ClientState) (clock : ℕ) (head : Head) (x : Carried) (old new : NodeState CopyState) (r : Result Outs E) → false ≡ sought_by_head me c head x c.seeking
     → Takes (λ place. takes_in me c clock place (Whole (record { head = head; carried = x }))) old new r → Takes (λ place. guest_row me c clock place (Whole (record { head = head; carried = x }))) old new r
 unsought_taken me c clock head x old new r e h =
     let m : Message = record { head = head; carried = x } in
@@ -235,6 +244,25 @@ seeks_for me c head x None e = absurd cc
 seeks_for me c head x (Some k) e = refl
 
 -- where memory was wanting the client has its own again
-pub back_again : (old mid new last : NodeState ClientState) (table known : List Location) → mid ≡ record old { state = record old.state { table = table } } → known ≡ old.state.table → new ≡ mid → last ≡ record new { state = record new.state { table = known } } → last ≡ old
+pub back_again : (old mid new last : NodeState CopyState) (table known : List Location) → mid ≡ record old { state = with_client old.state (record old.state.client { table = table }) } → known ≡ old.state.client.table → new ≡ mid
+    → last ≡ record new { state = with_client new.state (record new.state.client { table = known }) } → last ≡ old
 back_again old mid new last table known m b n l =
-    l ∙ (ap (λ (s : NodeState ClientState). record s { state = record s.state { table = known } }) (n ∙ m) ∙ ap (λ (t : List Location). record old { state = record old.state { table = t } }) b)
+    l ∙ (ap (λ (s : NodeState CopyState). record s { state = with_client s.state (record s.state.client { table = known }) }) (n ∙ m) ∙ ap (λ (t : List Location). record old { state = with_client old.state (record old.state.client { table = t }) }) b)
+
+-- with another table its call goes where it would go
+pub table_taken : (step : ClientState → ℕ → Step ClientState) (old mid new : NodeState CopyState) (table : List Location) (outs : Outs) → mid ≡ record old { state = with_client old.state (record old.state.client { table = table }) }
+    → Takes {E = AllocError} (λ place. step mid.state.client place) mid new (Ok outs) → Takes {E = AllocError} (λ place. step (record old.state.client { table = table }) place) old new (Ok outs)
+unfolding placed
+table_taken step old mid new table outs m h = subst (λ (s : NodeState CopyState). Takes {E = AllocError} (λ (place : ℕ). step s.state.client place) s new (Ok outs)) m h
+
+-- ---- the act that waits, renewed
+
+pub seeking_back : (old mid new last : NodeState CopyState) (seeking known : Option Seek) → mid ≡ record old { state = with_client old.state (record old.state.client { seeking = seeking }) } → known ≡ old.state.client.seeking → new ≡ mid
+    → last ≡ record new { state = with_client new.state (record new.state.client { seeking = known }) } → last ≡ old
+seeking_back old mid new last seeking known m b n l =
+    l ∙ (ap (λ (s : NodeState CopyState). record s { state = with_client s.state (record s.state.client { seeking = known }) }) (n ∙ m) ∙ ap (λ (o : Option Seek). record old { state = with_client old.state (record old.state.client { seeking = o }) }) b)
+
+pub seeking_taken : (step : ClientState → ℕ → Step ClientState) (old mid new : NodeState CopyState) (seeking : Option Seek) (outs : Outs) → mid ≡ record old { state = with_client old.state (record old.state.client { seeking = seeking }) }
+    → Takes {E = AllocError} (λ place. step mid.state.client place) mid new (Ok outs) → Takes {E = AllocError} (λ place. step (record old.state.client { seeking = seeking }) place) old new (Ok outs)
+unfolding placed
+seeking_taken step old mid new seeking outs m h = subst (λ (s : NodeState CopyState). Takes {E = AllocError} (λ (place : ℕ). step s.state.client place) s new (Ok outs)) m h

@@ -14,16 +14,19 @@ use Rattle.afs_history.specs.declared.lines.Outs.{Outs}
 use Rattle.afs_model.specs.CellRows as cell_rows
 use Rattle.afs_model.specs.FsRows.{call_number}
 use Rattle.afs_model.specs.Messages.{parcels_read, messages_spelled}
+use Rattle.afs_model.specs.Steps.{NodeState}
 use Rattle.afs_rows.specs.States.{CacheEntry, Gift, Location}
 use Rattle.afs_rows.specs.Going.{ClientState, Going, next, operand_in}
 use Rattle.afs_rows.specs.ClientRow.{Walked, boot_of, call_by, drop_line, first_server_of, goes_on, most_reads, question, server_for, volume_asked, walked}
 use Rattle.afs_rows.specs.Steps.{Step}
+use Rattle.afs_copyrows.specs.Sites.{calls_round, round_in, round_or, with_client, CopyState, Round}
 use Rattle.afs_entries.specs.Cached.{in_sight, left, listed, touched_all, unlisted}
 use Rattle.afs_entries.specs.declared.cache.Fresh.{Fresh}
 use Rattle.afs_entries.specs.declared.drops.Drops.{Drops}
 use Rattle.afs_entries.specs.declared.drops.Drops.TheVariants as drops
-use Rattle.afs_cache.specs.Asking.{calling, is_giving}
-use Rattle.afs_cache.specs.Managing.{Makes, number_limit}
+use Rattle.afs_asking.specs.Asking.{calling, is_giving}
+use Rattle.afs_asking.specs.Asking.{Asking}
+use Rattle.afs_cache.specs.Managing.{Makes, number_limit, placed}
 use Rattle.afs_cache.specs.declared.acting.Asks.{Asks}
 use Rattle.afs_cache.specs.declared.acting.Dropping.{Dropping}
 use Rattle.afs_cache.specs.declared.acting.Plan.{Plan}
@@ -48,12 +51,13 @@ abbrev pub called_by : Bool → List Location → Going → List Gift → FsCall
 called_by true table act gifts call = first_server_of gifts
 called_by false table act gifts call = nodes.Server (server_for table (operand_in act (volume_asked call)))
 
--- an act has asked for what it needs, and told these lines
+-- an act has asked for what it needs where the table names, and told these lines
 pub record IsAsking (me : Node) (c : ClientState) (act : Going) (given : List Gift) (told : List Line) (a : Asks) : Type 0 where
   pub going : a.asked.going ≡ act
   pub gifts : a.asked.gifts ≡ given
   pub callee : a.callee ≡ called_by (is_giving (next act)) c.table act given (call_by given (next act))
   pub node : IsNode a.callee
+  pub round : a.round ≡ None
   pub lines : a.outs.lines ≡ told
   pub sent : parcels_read a.outs.parcels ≡ messages_spelled (sent_to me c (c.last + 1) a.callee (boot_of a.callee c.boots) (call_by given (next act)) ∷ [])
 
@@ -69,11 +73,15 @@ waiting c a = record c { last = c.last + 1; tries = 0; running = Some a.asked.go
 abbrev pub sought : ClientState → Seeks → ClientState
 sought c s = record c { last = c.last + 1; tries = 0; running = None; callee = nodes.Loc; spoiled = false; gifts = []; seeking = Some s.seeking }
 
+-- the round in whose volume an act calls
+abbrev pub round_at : CopyState → Asking → Option Round
+round_at c a = round_in c a.going (volume_asked (call_by a.gifts (next a.going)))
+
 -- the state in which a plan leaves the client, and what is given out
-abbrev pub followed : ClientState → Plan → ClientState
-followed c (plans.Ends outs) = record c { running = None; gifts = []; seeking = None }
-followed c (plans.Asks asks) = waiting c asks
-followed c (plans.Seeks seeks) = sought c seeks
+abbrev pub followed : CopyState → Plan → CopyState
+followed c (plans.Ends outs) = with_client c (record c.client { running = None; gifts = []; seeking = None })
+followed c (plans.Asks asks) = record c { client = waiting c.client asks; round = round_or asks.round c.round }
+followed c (plans.Seeks seeks) = with_client c (sought c.client seeks)
 
 abbrev pub outs_of : Plan → Outs
 outs_of (plans.Ends outs) = outs
@@ -95,10 +103,19 @@ changed_in (Some volume) = drops.Volume volume
 abbrev pub but_for : ClientState → List CacheEntry → ℕ → ℕ → ClientState
 but_for c cache busy moved = record c { cache = cache; busy = busy; moved = moved }
 
+-- the same of a client that reads read-only volumes too
+abbrev pub but_for_these : CopyState → List CacheEntry → ℕ → ℕ → CopyState
+but_for_these c cache busy moved = with_client c (but_for c.client cache busy moved)
+
 -- a plan for this step behind lines that were told before, whatever the cache is by then
-abbrev pub PlansFor : (ClientState → (List Line → List Line) → Step ClientState) → List Line → ClientState → Plan → Type 0
-PlansFor step told c plan =
-    (cache : List CacheEntry) (busy moved : ℕ) (first : List Line) → Makes (step (but_for c cache busy moved) (λ ls. first ++ (told ++ ls))) (followed (but_for c cache busy moved) plan) (λ ls. first ++ ls) (outs_of plan)
+abbrev pub PlansFor : (ClientState → (List Line → List Line) → Step ClientState) → List Line → NodeState CopyState → Plan → Type 0
+PlansFor step told n plan = (cache : List CacheEntry) (busy moved : ℕ) (first : List Line) →
+    Makes (placed n.node n.state (step (but_for n.state.client cache busy moved) (λ ls. first ++ (told ++ ls)))) (followed (but_for_these n.state cache busy moved) plan) (λ ls. first ++ ls) (outs_of plan)
+
+-- a plan for a call in this round
+abbrev pub PlansRound : Asking → Round → List Line → NodeState CopyState → Plan → Type 0
+PlansRound a r told n plan = (cache : List CacheEntry) (busy moved : ℕ) (first : List Line) →
+    Makes (calls_round n.node (with_client n.state (record (but_for n.state.client cache busy moved) { gifts = a.gifts })) a.going r (first ++ told)) (followed (but_for_these n.state cache busy moved) plan) (λ ls. first ++ ls) (outs_of plan)
 
 -- where an act came along its walk from the cache, with another cache
 abbrev pub over : Walked → List CacheEntry → Walked
@@ -122,7 +139,7 @@ abbrev pub whole_walk : ℕ → Going → List CacheEntry → Walked
 whole_walk clock act entries = walked (most_reads act) clock act entries
 
 -- an act walks as far as these entries show what it needs, behind lines that were told before, and this is planned then
-pub record IsWay (me : Node) (c : ClientState) (w : Walked) (entries : List CacheEntry) (told : List Line) (way : Way) : Type 0 where
+pub record IsWay (n : NodeState CopyState) (w : Walked) (entries : List CacheEntry) (told : List Line) (way : Way) : Type 0 where
   pub used : touched_all way.used.items entries ≡ w.cache
-  pub plan : PlansFor (λ d front. goes_on me d front (over w d.cache)) told c way.plan
-  pub follows : CanFollow c.last way.plan
+  pub plan : PlansFor (λ d front. goes_on n.node d front (over w d.cache)) told n way.plan
+  pub follows : CanFollow n.state.client.last way.plan

@@ -1,20 +1,24 @@
 -- What the location database answers, and what the act that asked does then.
-use Rattle.std.specs.Prelude.{◌≡◌, ℕ, List, [], Option, Some, None, Result, if◌then◌else◌}
+use Rattle.std.specs.Prelude.{◌≡◌, ℕ, List, Bool, false, Option, Some, None, Result, if◌then◌else◌}
 use Rattle.afs_num.specs.Nodes.{same_node}
+use Rattle.afs_num.specs.declared.types.Head.{Head}
 use Rattle.afs_num.specs.declared.types.Node.{Node}
 use Rattle.afs_num.specs.declared.location_calls.LocEntry.{LocEntry}
+use Rattle.afs_num.specs.declared.messages.Carried.{Carried}
+use Rattle.afs_num.specs.declared.messages.Message.{Message}
 use Rattle.afs_num.specs.declared.messages.Reply.{Reply}
 use Rattle.afs_num.specs.declared.messages.Reply.TheVariants as tell
 use Rattle.afs_history.specs.declared.acts.Operand.{Operand}
 use Rattle.afs_history.specs.declared.lines.Outs.{Outs}
 use Rattle.afs_model.specs.Steps.{NodeState}
+use Rattle.afs_copyrows.specs.CopyRow.{entry_told as entry_in_message, forgotten, renewing, tells_new}
+use Rattle.afs_copyrows.specs.Sites.{CopyState}
 use Rattle.afs_rows.specs.Going.{ClientState, Going, Left, Seek, filled, operand_in, volume_at}
 use Rattle.afs_rows.specs.States.{Location}
 use Rattle.afs_rows.specs.ClientRow.{call_of, callee_of, calls_again, entry_in, given, no_entry_code, sought_ends, volume_asked, walks_on}
 use Rattle.afs_rows.specs.Steps.{Step}
-use Rattle.afs_cache.specs.Acting.{IsAsking}
-use Rattle.afs_cache.specs.Managing.{Takes}
-use Rattle.afs_cache.specs.declared.acting.Asks.{Asks}
+use Rattle.afs_cache.specs.Managing.{sought_by_head, Takes}
+use Rattle.afs_asking.specs.Asking.{Asking}
 
 -- the operand in whose volume the act that runs calls
 abbrev pub operand_called : ClientState → Option Going → Option Operand
@@ -27,8 +31,8 @@ entry_told (tell.Location reply) = entry_in reply
 entry_told reply = None
 
 -- this becomes of the act that waits for the database
-abbrev pub Sought : {E : Type 0} → (ℕ → Seek → Step ClientState) → NodeState ClientState → NodeState ClientState → Result Outs E → Type 0
-Sought step old new r = (k : Seek) → old.state.seeking ≡ Some k → Takes (λ place. step place k) old new r
+abbrev pub Sought : {E : Type 0} → (ℕ → Seek → Step ClientState) → NodeState CopyState → NodeState CopyState → Result Outs E → Type 0
+Sought step old new r = (k : Seek) → old.state.client.seeking ≡ Some k → Takes (λ place. step place k) old new r
 
 -- the call that was refused is made anew, unless the table names the server that was left
 abbrev pub calls_elsewhere : Node → ClientState → ℕ → Going → Left → Step ClientState
@@ -66,7 +70,23 @@ abbrev pub filled_from : List Location → Option Seek → Option Going
 filled_from t None = None
 filled_from t (Some k) = Some (filled t k.act)
 
--- it has asked for what it needs
-abbrev pub AsksAnew : Node → ClientState → Option Seek → Asks → Type 0
-AsksAnew me c None a = Unit {0}
-AsksAnew me c (Some k) a = IsAsking me c k.act c.gifts [] a
+-- it has its call again
+abbrev pub IsAskedAnew : ClientState → Option Seek → Asking → Type 0
+IsAskedAnew c None a = Unit {0}
+IsAskedAnew c (Some k) a = a ≡ record { going = k.act; gifts = c.gifts }
+
+-- ---- the database tells an entry that is new
+
+-- the entry that a message tells which answers the act's question
+abbrev pub entry_answered : Node → ClientState → Head → Carried → Option Seek → Option LocEntry
+entry_answered me c head x o = if sought_by_head me c head x o then entry_in_message x else None
+
+-- the act as it goes on where the table is this one
+abbrev pub renewed_in : List Location → Option Seek → Option Seek
+renewed_in t None = None
+renewed_in t (Some k) = Some (record k { act = filled t (forgotten k.act) })
+
+-- where that is so
+abbrev pub renewed_by : Node → ClientState → Message → Option Seek → Option Seek
+renewed_by me c m None = None
+renewed_by me c m (Some k) = if tells_new me c m k then (renewing c k (entry_in_message m.carried)).seeking else None

@@ -8,7 +8,6 @@ use Rattle.afs_num.specs.declared.messages.Reply.{Reply}
 use Rattle.afs_num.specs.declared.messages.Reply.TheVariants as tell
 use Rattle.afs_num.specs.declared.calls.AfsFetchStatus.{AfsFetchStatus}
 use Rattle.afs_num.specs.declared.calls.FsCall.{FsCall}
-use Rattle.afs_num.specs.declared.calls.FsCall.TheVariants as calls
 use Rattle.afs_num.specs.declared.histories.ReadBody.TheVariants as seen
 use Rattle.afs_num.specs.declared.histories.ReadSource.TheVariants.{Fetched}
 use Rattle.afs_rows.specs.States.{CacheEntry}
@@ -16,41 +15,9 @@ use Rattle.afs_rows.specs.Going.{ClientState, Going, with_read}
 use Rattle.afs_rows.specs.ClientRow.{call_of, calls_again, dropped, given, goes_on, ignores, is_awaited, is_older, is_trusted, look_at, looked, put_entries, put_entry, read_lines, status_look, stays, takes_plain, takes_status, with_statuses}
 use Rattle.afs_rows.specs.Steps.{Step}
 use Rattle.afs_cache.specs.Managing.{hears_reply}
+pub use Rattle.afs_asking.specs.Wanted.{body_wanted, bytes_stored, fields_stored, is_gift, rights_wanted, status_wanted, statuses_wanted}
 
 -- ---- calls
-
--- the fid whose body is asked for
-abbrev pub body_wanted : FsCall → Option Fid
-body_wanted (calls.FetchData fid position wanted) = Some fid
-body_wanted call = None
-
-abbrev pub status_wanted : FsCall → Option Fid
-status_wanted (calls.FetchStatus fid) = Some fid
-status_wanted call = None
-
-abbrev pub statuses_wanted : FsCall → Option (List Fid)
-statuses_wanted (calls.BulkStatus fids) = Some fids
-statuses_wanted call = None
-
-abbrev pub rights_wanted : FsCall → Option Fid
-rights_wanted (calls.FetchAcl fid) = Some fid
-rights_wanted call = None
-
--- promises are given back
-abbrev pub is_gift : FsCall → Bool
-is_gift (calls.GiveUpCallBacks fids callbacks) = true
-is_gift call = false
-
--- the bytes that are stored, and of what
-abbrev pub bytes_stored : FsCall → Option (Fid × List ℕ)
-bytes_stored (calls.StoreData fid set position wanted file_length contents) = Some (fid, contents)
-bytes_stored call = None
-
--- the fid whose status or rights are stored
-abbrev pub fields_stored : FsCall → Option Fid
-fields_stored (calls.StoreAcl fid acl) = Some fid
-fields_stored (calls.StoreStatus fid set) = Some fid
-fields_stored call = None
 
 -- the unanswered call
 abbrev pub call_asked : ClientState → Option Going → Option FsCall

@@ -2,10 +2,13 @@
 //!
 //! What a step does is planned first, while the client is as it was; what changes then takes no memory.
 
-ghost use Rattle.std.specs.Prelude.{◌≡◌, ◌+◌, ◌<◌, ◌^◌, [], ◌++◌, ◌∷◌, map, None, Some, IfOk, OnErr, OnOk};
+ghost use Rattle.std.specs.Prelude.{◌≡◌, ◌+◌, ◌<◌, ◌^◌, [], ◌++◌, ◌∷◌, map, slice_get, None, Some, IfOk, OnErr, OnOk};
 ghost use Rattle.std.specs.List.{All};
 ghost use Rattle.std.specs.Option.{option_copied};
 ghost use Rattle.afs_num.specs.Nodes.{IsNode};
+ghost use Rattle.afs_num.specs.declared.types.Node.TheVariants.{Server};
+ghost use Rattle.afs_copyrows.specs.CopyRow.{copy_begin_row};
+ghost use Rattle.afs_copyrows.specs.Sites.{round_or, with_client};
 ghost use Rattle.afs_model.specs.Messages.{messages_spelled, parcels_read};
 ghost use Rattle.afs_rows.specs.Going.{began, next};
 ghost use Rattle.afs_rows.specs.ClientRow.{begin_row, begins_by, boot_of, call_by, calls_step, drop_line, ends_step, gift_of, gives_all, gives_by, goes_on, in_order, put_entries, put_entry, stays, trusted_in, walks_on};
@@ -13,15 +16,13 @@ ghost use Rattle.afs_history.specs.declared.lines.Line.TheVariants as told;
 ghost use Rattle.afs_acts.specs.Acts.{IsShortAct};
 ghost use Rattle.afs_acts.specs.Walks.{need_of};
 ghost use Rattle.afs_entries.specs.Cached.{entry_of, HasBody, touched_all};
-ghost use Rattle.afs_cache.specs.Asking.{asking_of, code_of, IsGift, is_giving};
-ghost use Rattle.afs_cache.specs.Acting.{called_by, CanFollow, followed, head_of, IsAsking, IsDropping, IsWay, outs_of, PlansFor, seen_with, sent_to, whole_walk};
-ghost use Rattle.afs_cache.specs.Managing.{Answers, Goes, number_limit};
+ghost use Rattle.afs_asking.specs.Asking.{asking_of, code_of, IsGift, is_giving};
+ghost use Rattle.afs_cache.specs.Acting.{called_by, CanFollow, followed, head_of, IsAsking, IsDropping, IsWay, outs_of, PlansFor, PlansRound, round_at, seen_with, sent_to, whole_walk};
+ghost use Rattle.afs_cache.specs.Managing.{Answers, AnswersCopy, Goes, number_limit};
 
-use crate::asked::{Asked, code_in, into_operand, is_giving};
-use crate::looks::{Walked, walk};
 use crate::node::CacheManager;
-use crate::seeking::Seeking;
 use afs_acts::{Going, Need, copy_act, next};
+use afs_asking::{Asked, Seeking, Walked, code_in, into_operand, is_giving, walk};
 use afs_calling::boots::boot_of;
 use afs_calling::messages::{outs_calling, quiet};
 use afs_calling::opcodes::file_opcode;
@@ -30,13 +31,16 @@ use afs_history::acts::{Act, SharedAct};
 use afs_history::lines::{Line, Lines, Outs};
 use afs_num::sequences::Sequence;
 use afs_num::types::{Code, Fid, Half, Head, Mem, Node};
+use afs_sites::Round;
 use std::alloc::Global;
+use std::mem::replace;
 
-/// What an act asks: this node, with these messages.
+/// What an act asks: this node, with these messages. A call of a read-only volume is in its round.
 #[derive(Drop)]
 pub struct Asks {
     pub asked: Asked,
     pub callee: Node,
+    pub round: Option<Round>,
     pub outs: Outs,
 }
 
@@ -90,7 +94,7 @@ impl CacheManager {
 
     /// The act that runs, with its call.
     pub(crate) fn running(&self) -> Option<&Asked>
-        ensures { option_copied result ≡ asking_of self.now.state.running self.now.state.gifts }
+        ensures { option_copied result ≡ asking_of self.now.state.client.running self.now.state.client.gifts }
     {
         match &self.asked {
             Some(asked) => Some(asked),
@@ -100,7 +104,7 @@ impl CacheManager {
 
     /// The header of a call under this number.
     fn head(&self, number: u32, callee: Node, boot: u32, asked: &Asked) -> Head
-        ensures { result ≡ head_of self.now.node self.now.state.epoch number callee boot (call_by asked.now.gifts (next asked.now.going)) }
+        ensures { result ≡ head_of self.now.node self.now.state.client.epoch number callee boot (call_by asked.now.gifts (next asked.now.going)) }
     {
         Head {
             half: Half::Call,
@@ -125,15 +129,15 @@ impl CacheManager {
     ) -> Mem<Outs>
         requires { IsNode callee }
         ensures lines { IfOk result (λ o. o.lines ≡ lines) }
-        ensures sent { IfOk result (λ o. parcels_read o.parcels ≡ messages_spelled (sent_to self.now.node self.now.state number callee boot (call_by asked.now.gifts (next asked.now.going)) ∷ [])) }
+        ensures sent { IfOk result (λ o. parcels_read o.parcels ≡ messages_spelled (sent_to self.now.node self.now.state.client number callee boot (call_by asked.now.gifts (next asked.now.going)) ∷ [])) }
     {
         let head = self.head(number, callee, boot, asked);
         outs_calling(self.alloc, lines, &head, self.user.as_slice(), asked.call())
     }
 
-    /// Whom an act asks.
-    fn callee(&self, asked: &Asked) -> Node
-        ensures value { result ≡ called_by (is_giving (next asked.now.going)) self.now.state.table asked.now.going asked.now.gifts (call_by asked.now.gifts (next asked.now.going)) }
+    /// Whom an act asks by the table.
+    pub(crate) fn callee(&self, asked: &Asked) -> Node
+        ensures value { result ≡ called_by (is_giving (next asked.now.going)) self.now.state.client.table asked.now.going asked.now.gifts (call_by asked.now.gifts (next asked.now.going)) }
         ensures node { IsNode result }
     {
         if asked.gives_back() {
@@ -146,30 +150,92 @@ impl CacheManager {
     /// What is given out behind these lines with the first call of what was asked.
     fn first_outs(&self, callee: Node, asked: &Asked, lines: Lines) -> Mem<Outs>
         requires node { IsNode callee }
-        requires last { self.now.state.last < number_limit }
+        requires last { self.now.state.client.last < number_limit }
         ensures lines { IfOk result (λ o. o.lines ≡ lines) }
-        ensures sent { IfOk result (λ o. parcels_read o.parcels ≡ messages_spelled (sent_to self.now.node self.now.state (self.now.state.last + 1) callee (boot_of callee self.now.state.boots) (call_by asked.now.gifts (next asked.now.going)) ∷ [])) }
+        ensures sent { IfOk result (λ o. parcels_read o.parcels ≡ messages_spelled (sent_to self.now.node self.now.state.client (self.now.state.client.last + 1) callee (boot_of callee self.now.state.client.boots) (call_by asked.now.gifts (next asked.now.going)) ∷ [])) }
     {
         let boot = boot_of(&callee, &self.boots);
         self.outs(self.calls.last + 1, callee, boot, asked, lines)
     }
 
-    /// Behind these lines an act asks what it needs.
-    pub(crate) fn asks(&self, going: Going, need: Need, gifts: Vec<Gift>, lines: Lines) -> Mem<Asks>
-        requires short { IsShortAct going.act }
-        requires need { need_of need ≡ next going }
-        requires nodes { All IsGift gifts.items }
-        requires last { self.now.state.last < number_limit }
-        ensures { IfOk result (λ a. IsAsking self.now.node self.now.state going gifts.items lines a) }
+    /// Behind these lines an act makes its call where the table names.
+    fn asks(&self, asked: Asked, lines: Lines) -> Mem<Asks>
+        requires { self.now.state.client.last < number_limit }
+        ensures { IfOk result (λ a. IsAsking self.now.node self.now.state.client asked.going asked.gifts lines a) }
     {
-        let asked = Asked::new(self.alloc, going, need, gifts)?;
         let callee = self.callee(&asked);
         let outs = self.first_outs(callee, &asked, lines)?;
         Ok(Asks {
             asked,
             callee,
+            round: None,
             outs,
         })
+    }
+
+    /// The round in whose volume an act calls.
+    pub(crate) fn round_for(&self, asked: &Asked) -> Mem<Option<Round>>
+        ensures { IfOk result (λ o. o ≡ round_at self.now.state asked.now) }
+    {
+        asked.round(self.alloc, self.round.as_ref(), &self.table)
+    }
+
+    /// Behind these lines an act makes its call at this site of its round.
+    fn asks_site(&self, asked: Asked, round: Round, site: u8, lines: Lines) -> Mem<Plan>
+        requires node { IsNode (Server site) }
+        requires site { Some site ≡ slice_get round.sites 0 }
+        requires last { self.now.state.client.last < number_limit }
+        ensures plan { IfOk result (PlansRound asked round lines self.now) }
+        ensures follows { IfOk result (CanFollow self.now.state.client.last) }
+    {
+        let callee = Node::Server(site);
+        let outs = self.first_outs(callee, &asked, lines)?;
+        Ok(Plan::Asks(Asks {
+            asked,
+            callee,
+            round: Some(round),
+            outs,
+        }))
+    }
+
+    /// Behind these lines an act is answered that has left all sites of its round.
+    fn leaves_all(&self, asked: &Asked, round: &Round, lines: Lines) -> Mem<Plan>
+        requires { None ≡ slice_get round.now.sites 0 }
+        ensures plan { IfOk result (PlansRound asked.now round.now lines self.now) }
+        ensures follows { IfOk result (CanFollow self.now.state.client.last) }
+    {
+        let _asked = asked;
+        let seen = self.seen.get(round.volume());
+        let mut lines = lines;
+        lines.push(round.left_line(self.node, seen))?;
+        Ok(Plan::Ends(quiet(self.alloc, lines)))
+    }
+
+    /// Behind these lines an act makes its call in this round: at the first site that it hasn't left.
+    pub(crate) fn plan_round(&self, asked: Asked, round: Round, lines: Lines) -> Mem<Plan>
+        requires { self.now.state.client.last < number_limit }
+        ensures plan { IfOk result (PlansRound asked round lines self.now) }
+        ensures follows { IfOk result (CanFollow self.now.state.client.last) }
+    {
+        match round.first() {
+            Some(site) => self.asks_site(asked, round, site, lines),
+            None => self.leaves_all(&asked, &round, lines),
+        }
+    }
+
+    /// Behind these lines an act makes its call.
+    pub(crate) fn plan_asked(&self, asked: Asked, lines: Lines) -> Mem<Plan>
+        requires { self.now.state.client.last < number_limit }
+        ensures plan { IfOk result (λ p. PlansFor (λ d front. calls_step self.now.node (record d { gifts = asked.gifts }) asked.going front) lines self.now p) }
+        ensures follows { IfOk result (CanFollow self.now.state.client.last) }
+    {
+        match self.round_for(&asked)? {
+            Some(round) => self.plan_round(asked, round, lines),
+            None => {
+                let asks = self.asks(asked, lines)?;
+                Ok(Plan::Asks(asks))
+            }
+        }
     }
 
     /// Behind these lines an act asks for this need.
@@ -177,21 +243,21 @@ impl CacheManager {
         requires short { IsShortAct going.act }
         requires need { need_of need ≡ next going }
         requires nodes { All IsGift gifts.items }
-        requires last { self.now.state.last < number_limit }
-        ensures plan { IfOk result (λ p. PlansFor (λ d front. calls_step self.now.node (record d { gifts = gifts.items }) going front) lines self.now.state p) }
-        ensures follows { IfOk result (CanFollow self.now.state.last) }
+        requires last { self.now.state.client.last < number_limit }
+        ensures plan { IfOk result (λ p. PlansFor (λ d front. calls_step self.now.node (record d { gifts = gifts.items }) going front) lines self.now p) }
+        ensures follows { IfOk result (CanFollow self.now.state.client.last) }
     {
-        let asks = self.asks(going, need, gifts, lines)?;
-        Ok(Plan::Asks(asks))
+        let asked = Asked::new(self.alloc, going, need, gifts)?;
+        self.plan_asked(asked, lines)
     }
 
     /// The same, where it hasn't been found yet what the act needs.
     fn plan_asking(&self, going: Going, gifts: Vec<Gift>, lines: Lines) -> Mem<Plan>
         requires short { IsShortAct going.act }
         requires nodes { All IsGift gifts.items }
-        requires last { self.now.state.last < number_limit }
-        ensures plan { IfOk result (λ p. PlansFor (λ d front. calls_step self.now.node (record d { gifts = gifts.items }) going front) lines self.now.state p) }
-        ensures follows { IfOk result (CanFollow self.now.state.last) }
+        requires last { self.now.state.client.last < number_limit }
+        ensures plan { IfOk result (λ p. PlansFor (λ d front. calls_step self.now.node (record d { gifts = gifts.items }) going front) lines self.now p) }
+        ensures follows { IfOk result (CanFollow self.now.state.client.last) }
     {
         let need = next(self.alloc, &going)?;
         self.plan_call(going, need, gifts, lines)
@@ -199,8 +265,8 @@ impl CacheManager {
 
     /// Behind these lines an act is answered.
     pub(crate) fn plan_ending(&self, code: Code, lines: Lines) -> Mem<Plan>
-        ensures plan { IfOk result (λ p. PlansFor (λ d front. ends_step self.now.node d d.cache front code) lines self.now.state p) }
-        ensures follows { IfOk result (CanFollow self.now.state.last) }
+        ensures plan { IfOk result (λ p. PlansFor (λ d front. ends_step self.now.node d d.cache front code) lines self.now p) }
+        ensures follows { IfOk result (CanFollow self.now.state.client.last) }
     {
         let mut lines = lines;
         lines.push(Line::Answer {
@@ -212,7 +278,7 @@ impl CacheManager {
 
     /// What the act that runs gives back still.
     pub(crate) fn copy_gifts(&self) -> Mem<Vec<Gift>>
-        ensures value { IfOk result (λ gs. gs.items ≡ self.now.state.gifts) }
+        ensures value { IfOk result (λ gs. gs.items ≡ self.now.state.client.gifts) }
         ensures nodes { IfOk result (λ gs. All IsGift gs.items) }
     {
         match &self.asked {
@@ -225,9 +291,9 @@ impl CacheManager {
     fn plan_next(&self, going: Going, need: Need, lines: Lines) -> Mem<Plan>
         requires short { IsShortAct going.act }
         requires need { need_of need ≡ next going }
-        requires last { self.now.state.last < number_limit }
-        ensures plan { IfOk result (λ p. PlansFor (λ d front. calls_step self.now.node (record d { gifts = self.now.state.gifts }) going front) lines self.now.state p) }
-        ensures follows { IfOk result (CanFollow self.now.state.last) }
+        requires last { self.now.state.client.last < number_limit }
+        ensures plan { IfOk result (λ p. PlansFor (λ d front. calls_step self.now.node (record d { gifts = self.now.state.client.gifts }) going front) lines self.now p) }
+        ensures follows { IfOk result (CanFollow self.now.state.client.last) }
     {
         let gifts = self.copy_gifts()?;
         self.plan_call(going, need, gifts, lines)
@@ -238,9 +304,9 @@ impl CacheManager {
         requires short { IsShortAct going.act }
         requires need { need_of need ≡ next going }
         requires none { code_of (need_of need) ≡ None }
-        requires last { self.now.state.last < number_limit }
-        ensures plan { IfOk result (λ p. PlansFor (λ d front. goes_on self.now.node d front (stays going d.cache)) lines self.now.state p) }
-        ensures follows { IfOk result (CanFollow self.now.state.last) }
+        requires last { self.now.state.client.last < number_limit }
+        ensures plan { IfOk result (λ p. PlansFor (λ d front. goes_on self.now.node d front (stays going d.cache)) lines self.now p) }
+        ensures follows { IfOk result (CanFollow self.now.state.client.last) }
     {
         match into_operand(need) {
             Ok(operand) => self.plan_seeking(going, operand, None, lines),
@@ -252,9 +318,9 @@ impl CacheManager {
     fn plan_by(&self, going: Going, need: Need, lines: Lines) -> Mem<Plan>
         requires short { IsShortAct going.act }
         requires need { need_of need ≡ next going }
-        requires last { self.now.state.last < number_limit }
-        ensures plan { IfOk result (λ p. PlansFor (λ d front. goes_on self.now.node d front (stays going d.cache)) lines self.now.state p) }
-        ensures follows { IfOk result (CanFollow self.now.state.last) }
+        requires last { self.now.state.client.last < number_limit }
+        ensures plan { IfOk result (λ p. PlansFor (λ d front. goes_on self.now.node d front (stays going d.cache)) lines self.now p) }
+        ensures follows { IfOk result (CanFollow self.now.state.client.last) }
     {
         match code_in(&need) {
             Some(code) => self.plan_ending(code, lines),
@@ -265,32 +331,41 @@ impl CacheManager {
     /// The same, where it hasn't been found yet what the act needs.
     pub(crate) fn plan(&self, going: Going, lines: Lines) -> Mem<Plan>
         requires short { IsShortAct going.act }
-        requires last { self.now.state.last < number_limit }
-        ensures plan { IfOk result (λ p. PlansFor (λ d front. goes_on self.now.node d front (stays going d.cache)) lines self.now.state p) }
-        ensures follows { IfOk result (CanFollow self.now.state.last) }
+        requires last { self.now.state.client.last < number_limit }
+        ensures plan { IfOk result (λ p. PlansFor (λ d front. goes_on self.now.node d front (stays going d.cache)) lines self.now p) }
+        ensures follows { IfOk result (CanFollow self.now.state.client.last) }
     {
         let need = next(self.alloc, &going)?;
         self.plan_by(going, need, lines)
     }
 
-    /// Behind these lines the call is made again under the next number.
-    pub(crate) fn plan_again(&self, asked: &Asked, lines: Lines) -> Mem<Plan>
-        requires last { self.now.state.last < number_limit }
-        ensures plan { IfOk result (λ p. PlansFor (λ d front. calls_step self.now.node (record d { gifts = asked.now.gifts }) asked.now.going front) lines self.now.state p) }
-        ensures follows { IfOk result (CanFollow self.now.state.last) }
+    /// The act with its call, anew.
+    pub(crate) fn asked_again(&self, asked: &Asked) -> Mem<Asked>
+        ensures { IfOk result (λ a. a ≡ asked.now) }
     {
         let gifts = asked.copy_gifts(self.alloc)?;
         let going = asked.copy_going(self.alloc)?;
-        self.plan_asking(going, gifts, lines)
+        let need = next(self.alloc, &going)?;
+        Asked::new(self.alloc, going, need, gifts)
+    }
+
+    /// Behind these lines the call is made again under the next number.
+    pub(crate) fn plan_again(&self, asked: &Asked, lines: Lines) -> Mem<Plan>
+        requires last { self.now.state.client.last < number_limit }
+        ensures plan { IfOk result (λ p. PlansFor (λ d front. calls_step self.now.node (record d { gifts = asked.now.gifts }) asked.now.going front) lines self.now p) }
+        ensures follows { IfOk result (CanFollow self.now.state.client.last) }
+    {
+        let asked = self.asked_again(asked)?;
+        self.plan_asked(asked, lines)
     }
 
     /// Behind these lines these promises are given back, or all of them were.
     pub(crate) fn plan_giving(&self, going: Going, gifts: Vec<Gift>, lines: Lines) -> Mem<Plan>
         requires short { IsShortAct going.act }
         requires nodes { All IsGift gifts.items }
-        requires last { self.now.state.last < number_limit }
-        ensures plan { IfOk result (λ p. PlansFor (λ d front. gives_by self.now.node d front going gifts.items) lines self.now.state p) }
-        ensures follows { IfOk result (CanFollow self.now.state.last) }
+        requires last { self.now.state.client.last < number_limit }
+        ensures plan { IfOk result (λ p. PlansFor (λ d front. gives_by self.now.node d front going gifts.items) lines self.now p) }
+        ensures follows { IfOk result (CanFollow self.now.state.client.last) }
     {
         if gifts.is_empty() {
             self.plan_ending(Code(0), lines)
@@ -299,10 +374,19 @@ impl CacheManager {
         }
     }
 
+    /// The act is in this round, if in one.
+    fn keep_round(&mut self, round: Option<Round>)
+        ensures { self.new ≡ record self.old { state = record self.old.state { round = round_or round self.old.state.round } } }
+    {
+        if let Some(round) = round {
+            self.round = Some(round);
+        }
+    }
+
     /// The act waits for what it asked.
     fn wait(&mut self, asks: Asks) -> Outs
         requires node { IsNode asks.callee }
-        requires last { self.old.state.last < number_limit }
+        requires last { self.old.state.client.last < number_limit }
         ensures outs { result ≡ asks.outs }
         ensures node { self.new.node ≡ self.old.node }
         ensures state { self.new.state ≡ followed self.old.state (Plan.Asks asks) }
@@ -310,8 +394,10 @@ impl CacheManager {
         let Asks {
             asked,
             callee,
+            round,
             outs,
         } = asks;
+        self.keep_round(round);
         self.calls.start(callee);
         self.spoiled = false;
         self.asked = Some(asked);
@@ -321,7 +407,7 @@ impl CacheManager {
 
     /// The act waits for the location database.
     fn wait_seeking(&mut self, seeks: Seeks) -> Outs
-        requires { self.old.state.last < number_limit }
+        requires { self.old.state.client.last < number_limit }
         ensures outs { result ≡ seeks.outs }
         ensures node { self.new.node ≡ self.old.node }
         ensures state { self.new.state ≡ followed self.old.state (Plan.Seeks seeks) }
@@ -336,7 +422,7 @@ impl CacheManager {
 
     /// What was planned is done. It takes no memory.
     pub(crate) fn follow(&mut self, plan: Plan) -> Outs
-        requires { CanFollow self.old.state.last plan }
+        requires { CanFollow self.old.state.client.last plan }
         ensures outs { result ≡ outs_of plan }
         ensures node { self.new.node ≡ self.old.node }
         ensures state { self.new.state ≡ followed self.old.state plan }
@@ -365,8 +451,8 @@ impl CacheManager {
         requires body { HasBody (option_copied fresh) }
         requires short { IsShortAct going.act }
         requires need { need_of need ≡ next going }
-        requires last { self.now.state.last < number_limit }
-        ensures { IfOk result (λ w. IsWay self.now.node self.now.state (whole_walk now going (seen_with self.now.state (option_copied fresh.entry))) (seen_with self.now.state (option_copied fresh.entry)) lines w) }
+        requires last { self.now.state.client.last < number_limit }
+        ensures { IfOk result (λ w. IsWay self.now (whole_walk now going (seen_with self.now.state.client (option_copied fresh.entry))) (seen_with self.now.state.client (option_copied fresh.entry)) lines w) }
     {
         let mut lines = lines;
         let sight = Sight {
@@ -384,8 +470,8 @@ impl CacheManager {
     fn begin_walking(&mut self, going: Going, need: Need, lines: Lines, now: u32) -> Mem<Outs>
         requires short { IsShortAct going.act }
         requires need { need_of need ≡ next going }
-        requires last { self.old.state.last < number_limit }
-        ensures { Goes (λ front. walks_on self.old.node (record self.old.state { busy = 0; moved = 0 }) now front going self.old.state.cache) lines self.old self.new result }
+        requires last { self.old.state.client.last < number_limit }
+        ensures { Goes (λ front. walks_on self.old.node (record self.old.state.client { busy = 0; moved = 0 }) now front going self.old.state.client.cache) lines self.old self.new result }
     {
         let Way { used, plan } = self.way(None, going, need, lines, now)?;
         self.cache.touch_all(&used);
@@ -398,8 +484,8 @@ impl CacheManager {
     pub(crate) fn walk_on(&mut self, going: Going, need: Need, lines: Lines, now: u32) -> Mem<Outs>
         requires short { IsShortAct going.act }
         requires need { need_of need ≡ next going }
-        requires last { self.old.state.last < number_limit }
-        ensures { Goes (λ front. walks_on self.old.node self.old.state now front going self.old.state.cache) lines self.old self.new result }
+        requires last { self.old.state.client.last < number_limit }
+        ensures { Goes (λ front. walks_on self.old.node self.old.state.client now front going self.old.state.client.cache) lines self.old self.new result }
     {
         let Way { used, plan } = self.way(None, going, need, lines, now)?;
         self.cache.touch_all(&used);
@@ -408,7 +494,7 @@ impl CacheManager {
 
     /// One entry comes into the cache.
     fn put_alone(&mut self, fresh: Fresh) -> Mem<()>
-        ensures ok { OnOk result (self.new ≡ record self.old { state = record self.old.state { cache = put_entry self.old.state.capacity (entry_of fresh) self.old.state.cache } }) }
+        ensures ok { OnOk result (self.new ≡ record self.old { state = with_client self.old.state (record self.old.state.client { cache = put_entry self.old.state.client.capacity (entry_of fresh) self.old.state.client.cache }) }) }
         ensures err { OnErr result (self.new ≡ self.old) }
     {
         self.cache.put(fresh)
@@ -416,7 +502,7 @@ impl CacheManager {
 
     /// One entry comes into the cache, and then some are used.
     fn put_used(&mut self, fresh: Fresh, used: &[Fid]) -> Mem<()>
-        ensures ok { OnOk result (self.new ≡ record self.old { state = record self.old.state { cache = touched_all used.now (put_entry self.old.state.capacity (entry_of fresh) self.old.state.cache) } }) }
+        ensures ok { OnOk result (self.new ≡ record self.old { state = with_client self.old.state (record self.old.state.client { cache = touched_all used.now (put_entry self.old.state.client.capacity (entry_of fresh) self.old.state.client.cache) }) }) }
         ensures err { OnErr result (self.new ≡ self.old) }
     {
         self.put_alone(fresh)?;
@@ -435,8 +521,8 @@ impl CacheManager {
     ) -> Mem<Outs>
         requires body { HasBody (Some fresh) }
         requires short { IsShortAct going.act }
-        requires last { self.old.state.last < number_limit }
-        ensures { Goes (λ front. walks_on self.old.node self.old.state now front going (put_entry self.old.state.capacity (entry_of fresh) self.old.state.cache)) lines self.old self.new result }
+        requires last { self.old.state.client.last < number_limit }
+        ensures { Goes (λ front. walks_on self.old.node self.old.state.client now front going (put_entry self.old.state.client.capacity (entry_of fresh) self.old.state.client.cache)) lines self.old self.new result }
     {
         let need = next(self.alloc, &going)?;
         let Way { used, plan } = self.way(Some(&fresh), going, need, lines, now)?;
@@ -447,8 +533,8 @@ impl CacheManager {
     /// The same, where a reply brought entries that show statuses: the act needs nothing more from the cache.
     pub(crate) fn go_with(&mut self, fresh: Vec<Fresh>, going: Going, lines: Lines) -> Mem<Outs>
         requires short { IsShortAct going.act }
-        requires last { self.old.state.last < number_limit }
-        ensures { Goes (λ front. goes_on self.old.node self.old.state front (stays going (put_entries self.old.state.capacity (map entry_of fresh.items) self.old.state.cache))) lines self.old self.new result }
+        requires last { self.old.state.client.last < number_limit }
+        ensures { Goes (λ front. goes_on self.old.node self.old.state.client front (stays going (put_entries self.old.state.client.capacity (map entry_of fresh.items) self.old.state.client.cache))) lines self.old self.new result }
     {
         let plan = self.plan(going, lines)?;
         self.cache.put_all(fresh)?;
@@ -470,7 +556,7 @@ impl CacheManager {
 
     /// Behind these lines it is told that entries go.
     pub(crate) fn dropping(&self, drops: &Drops, lines: Lines) -> Mem<Dropping>
-        ensures { IfOk result (IsDropping self.now.node self.now.state.cache drops.now lines) }
+        ensures { IfOk result (IsDropping self.now.node self.now.state.client.cache drops.now lines) }
     {
         let fids = self.cache.listed(self.alloc, drops)?;
         let mut lines = with_room(lines, fids.len())?;
@@ -480,7 +566,7 @@ impl CacheManager {
 
     /// The promises that can be given back now, in the order of their servers.
     fn promised(&self, now: u32) -> Mem<Vec<Gift>>
-        ensures value { IfOk result (λ gs. gs.items ≡ in_order (map gift_of (trusted_in now self.now.state.cache))) }
+        ensures value { IfOk result (λ gs. gs.items ≡ in_order (map gift_of (trusted_in now self.now.state.client.cache))) }
         ensures nodes { IfOk result (λ gs. All IsGift gs.items) }
     {
         let promised = self.cache.promised(self.alloc, now)?;
@@ -490,8 +576,8 @@ impl CacheManager {
     /// All entries that are trusted go, and then their servers are told.
     fn begin_giving(&mut self, going: Going, lines: Lines, now: u32) -> Mem<Outs>
         requires short { IsShortAct going.act }
-        requires last { self.old.state.last < number_limit }
-        ensures { Goes (λ front. gives_all self.old.node (record self.old.state { busy = 0; moved = 0 }) now going front) lines self.old self.new result }
+        requires last { self.old.state.client.last < number_limit }
+        ensures { Goes (λ front. gives_all self.old.node (record self.old.state.client { busy = 0; moved = 0 }) now going front) lines self.old self.new result }
     {
         let gifts = self.promised(now)?;
         let Dropping { fids, lines } = self.dropping(&Drops::Trusted(now), lines)?;
@@ -517,7 +603,7 @@ impl CacheManager {
     /// An act that has read nothing yet.
     fn began(&self, act: &SharedAct) -> Mem<Going>
         requires { IsShortAct act.now }
-        ensures value { IfOk result (λ g. g ≡ began self.now.state.table act.now) }
+        ensures value { IfOk result (λ g. g ≡ began self.now.state.client.table act.now) }
         ensures short { IfOk result (λ g. IsShortAct g.act) }
     {
         Going::began(self.alloc, &self.table, act)
@@ -526,8 +612,8 @@ impl CacheManager {
     /// What an act does first, behind the line of its begin.
     fn begin_going(&mut self, going: Going, lines: Lines, now: u32) -> Mem<Outs>
         requires short { IsShortAct going.act }
-        requires last { self.old.state.last < number_limit }
-        ensures { Goes (λ front. begins_by self.old.node (record self.old.state { busy = 0; moved = 0 }) now front going (next going)) lines self.old self.new result }
+        requires last { self.old.state.client.last < number_limit }
+        ensures { Goes (λ front. begins_by self.old.node (record self.old.state.client { busy = 0; moved = 0 }) now front going (next going)) lines self.old self.new result }
     {
         let need = next(self.alloc, &going)?;
         let gives = is_giving(&need);
@@ -538,15 +624,39 @@ impl CacheManager {
         }
     }
 
-    /// An act begins.
-    pub(crate) fn begin(&mut self, act: &Act, now: u32) -> Mem<Outs>
+    /// An act begins at a client that is in no round.
+    fn begin_act(&mut self, act: &Act, now: u32) -> Mem<Outs>
         requires short { IsShortAct act.now }
-        requires last { self.old.state.last < number_limit }
-        ensures { Answers (begin_row self.old.node self.old.state now act.now) self.old self.new result }
+        requires last { self.old.state.client.last < number_limit }
+        ensures { Answers (begin_row self.old.node self.old.state.client now act.now) self.old self.new result }
     {
         let act = SharedAct::new(self.alloc, copy_act(self.alloc, act)?)?;
         let lines = self.begin_lines(&act)?;
         let going = self.began(&act)?;
         self.begin_going(going, lines, now)
+    }
+
+    /// The client is in this round, or in none, and gives the one that it was in.
+    fn swap_round(&mut self, round: Option<Round>) -> Option<Round>
+        ensures new { self.new ≡ record self.old { state = record self.old.state { round = round } } }
+        ensures old { result ≡ self.old.state.round }
+    {
+        replace(&mut self.round, round)
+    }
+
+    /// An act begins, in no round; where memory is wanting the client is in the one that it was in.
+    pub(crate) fn begin(&mut self, act: &Act, now: u32) -> Mem<Outs>
+        requires short { IsShortAct act.now }
+        requires last { self.old.state.client.last < number_limit }
+        ensures { AnswersCopy (copy_begin_row self.old.node self.old.state now act.now) self.old self.new result }
+    {
+        let known = self.swap_round(None);
+        match self.begin_act(act, now) {
+            Ok(outs) => Ok(outs),
+            Err(fault) => {
+                let _round = self.swap_round(known);
+                Err(fault)
+            }
+        }
     }
 }

@@ -2,17 +2,12 @@
 #![tactic(auto)]
 
 mod acting;
-mod asked;
-mod breaks;
 mod locating;
-mod looks;
 mod node;
 mod refusing;
-mod replies;
-mod seeking;
+mod rounds;
 mod serving;
 mod storing;
 mod taking;
-mod wanted;
 
 pub use node::CacheManager;

@@ -6,15 +6,17 @@ ghost use Rattle.afs_num.specs.Nodes.{IsNode};
 ghost use Rattle.afs_model.specs.CellRows.{client_calls};
 ghost use Rattle.afs_model.specs.Heads.{user_limit};
 ghost use Rattle.afs_model.specs.Messages.{received_by};
-ghost use Rattle.afs_rows.specs.ClientRow.{act_of, begin_row, guest_row, new_client};
+ghost use Rattle.afs_rows.specs.ClientRow.{act_of, new_client};
+ghost use Rattle.afs_calling.specs.Stepping.{Answers, Takes};
+ghost use Rattle.afs_copyrows.specs.CopyRow.{copy_begin_row, copy_row};
+ghost use Rattle.afs_copyrows.specs.Sites.{new_copies};
 ghost use Rattle.afs_rows.specs.Runs.{locations_in};
 ghost use Rattle.afs_acts.specs.Acts.{HasServer, IsShortAct};
-ghost use Rattle.afs_cache.specs.Managing.{Answers, Takes, number_limit, times_out, waits};
+ghost use Rattle.afs_cache.specs.Managing.{copy_times_out, number_limit, waits};
 ghost use Rattle.afs_cache.specs.Lasting.{lasting};
 
-use crate::asked::Asked;
-use crate::seeking::Seeking;
 use afs_acts::{Location, locations};
+use afs_asking::{Asked, Seeking};
 use afs_call::{CallTable, Caller};
 use afs_calling::boots::KnownBoot;
 use afs_entries::Cache;
@@ -25,6 +27,7 @@ use afs_message::messages::read_message;
 use afs_message::spelled::SpelledMessage;
 use afs_num::sequences::Octets;
 use afs_num::types::{Key, Mem, Node};
+use afs_sites::{Releases, Round};
 use std::alloc::Global;
 use std::marker::Model;
 
@@ -52,16 +55,19 @@ pub struct CacheManager {
     pub(crate) seeking: Option<Seeking>,
     pub(crate) busy: u32,
     pub(crate) moved: u32,
+    /// The releases of read-only volumes that it has seen, and the round of its act.
+    pub(crate) seen: Releases,
+    pub(crate) round: Option<Round>,
 }
 
 impl Model for CacheManager {
     ghost use Rattle.afs_model.specs.Steps.{NodeState};
-    ghost use Rattle.afs_rows.specs.Going.{ClientState};
-    ghost use Rattle.afs_cache.specs.Asking.{FitsClient, gifts_of, running_of};
+    ghost use Rattle.afs_copyrows.specs.Sites.{CopyState};
+    ghost use Rattle.afs_asking.specs.Asking.{FitsClient, gifts_of, running_of};
 
-    ghost Value = { NodeState ClientState };
+    ghost Value = { NodeState CopyState };
 
-    ghost view = { λ c. record { node = c.node; state = record { epoch = c.callers.boot; last = c.calls.last; user = c.user; capacity = c.cache.capacity; table = c.table.items; boots = c.boots.items; seats = c.callers.seats; cache = c.cache.entries; running = running_of c.asked; busy = c.busy; callee = c.calls.callee; tries = c.calls.tries; spoiled = c.spoiled; gifts = gifts_of c.asked; seeking = c.seeking; moved = c.moved } } };
+    ghost view = { λ c. record { node = c.node; state = record { client = record { epoch = c.callers.boot; last = c.calls.last; user = c.user; capacity = c.cache.capacity; table = c.table.items; boots = c.boots.items; seats = c.callers.seats; cache = c.cache.entries; running = running_of c.asked; busy = c.busy; callee = c.calls.callee; tries = c.calls.tries; spoiled = c.spoiled; gifts = gifts_of c.asked; seeking = c.seeking; moved = c.moved }; seen = c.seen; round = c.round } } };
 
     ghost invariant = { λ c. FitsClient c.node c.user c.calls.callee };
 }
@@ -83,7 +89,7 @@ impl CacheManager {
         requires user { length user.now ≤ user_limit }
         requires servers { All HasServer volumes.now }
         ensures node { IfOk result (λ c. c.node ≡ node) }
-        ensures state { IfOk result (λ c. c.state ≡ new_client epoch capacity user.now (locations_in volumes.now)) }
+        ensures state { IfOk result (λ c. c.state ≡ new_copies (new_client epoch capacity user.now (locations_in volumes.now))) }
     {
         Ok(CacheManager {
             alloc,
@@ -99,29 +105,31 @@ impl CacheManager {
             seeking: None,
             busy: 0,
             moved: 0,
+            seen: Releases::new(alloc),
+            round: None,
         })
     }
 
     /// Begins an act, at this time in ticks.
     pub fn act(&mut self, act: &Act, now: u32) -> Mem<Outs>
-        requires idle { act_of self.old.state ≡ None }
-        requires last { self.old.state.last < number_limit }
+        requires idle { act_of self.old.state.client ≡ None }
+        requires last { self.old.state.client.last < number_limit }
         requires short { IsShortAct act.now }
-        ensures step { Answers (begin_row self.old.node self.old.state now act.now) self.old self.new result }
+        ensures step { Answers (copy_begin_row self.old.node self.old.state now act.now) self.old self.new result }
         // It makes one call at most.
-        ensures last { OnOk result (self.new.state.last ≤ self.old.state.last + 1) }
-        ensures lasting { lasting self.new.state ≡ lasting self.old.state }
+        ensures last { OnOk result (self.new.state.client.last ≤ self.old.state.client.last + 1) }
+        ensures lasting { lasting self.new.state.client ≡ lasting self.old.state.client }
     {
         self.begin(act, now)
     }
 
     /// One message, at this time in ticks.
     pub fn receive(&mut self, bytes: &[u8], now: u32) -> Mem<Outs>
-        requires last { self.old.state.last < number_limit }
-        ensures step { Takes (λ place. guest_row self.old.node self.old.state now place (received_by client_calls bytes.now)) self.old self.new result }
+        requires last { self.old.state.client.last < number_limit }
+        ensures step { Takes (λ place. copy_row self.old.node self.old.state now place (received_by client_calls bytes.now)) self.old self.new result }
         // The client makes one call at most.
-        ensures last { OnOk result (self.new.state.last ≤ self.old.state.last + 1) }
-        ensures lasting { lasting self.new.state ≡ lasting self.old.state }
+        ensures last { OnOk result (self.new.state.client.last ≤ self.old.state.client.last + 1) }
+        ensures lasting { lasting self.new.state.client ≡ lasting self.old.state.client }
     {
         let received = read_message(self.alloc, &CLIENT_CALLS, bytes)?;
         self.take_in(received, now)
@@ -129,11 +137,12 @@ impl CacheManager {
 
     /// The unanswered call has waited too long. What becomes of it doesn't depend on the time.
     pub fn timeout(&mut self, _now: u32) -> Mem<Outs>
-        requires waits { IsSome (act_of self.old.state) }
-        ensures step { Answers (times_out self.old.node self.old.state self.old.state.running) self.old self.new result }
-        // The call stays the client's last one.
-        ensures last { OnOk result (self.new.state.last ≡ self.old.state.last) }
-        ensures lasting { lasting self.new.state ≡ lasting self.old.state }
+        requires waits { IsSome (act_of self.old.state.client) }
+        requires last { self.old.state.client.last < number_limit }
+        ensures step { Answers (copy_times_out self.old.node self.old.state self.old.state.client.running) self.old self.new result }
+        // It makes one call at most: of the next site of a read-only volume.
+        ensures last { OnOk result (self.new.state.client.last ≤ self.old.state.client.last + 1) }
+        ensures lasting { lasting self.new.state.client ≡ lasting self.old.state.client }
     {
         self.time_out()
     }

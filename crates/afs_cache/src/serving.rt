@@ -1,6 +1,6 @@
 //! The calls of servers: they break promises, and ask whether the client is there.
 
-ghost use Rattle.std.specs.Prelude.{◌≡◌, ◌<◌, ◌||◌, [], ◌∷◌, false, map, IfOk, OnErr, OnOk, if◌then◌else◌};
+ghost use Rattle.std.specs.Prelude.{◌≡◌, ◌<◌, ◌||◌, [], ◌∷◌, false, map, IfOk, OnErr, OnOk, if◌then◌else◌, is_some};
 ghost use Rattle.afs_call.specs.Admitting.{means};
 ghost use Rattle.afs_model.specs.Calls.{admitted, call_seated, runs};
 ghost use Rattle.afs_model.specs.FsRows.{call_number};
@@ -12,11 +12,13 @@ ghost use Rattle.afs_rows.specs.ServerRow.{bad_fields, boot_told, not_served, re
 ghost use Rattle.afs_shape.specs.Tables.{is_among};
 ghost use Rattle.afs_model.specs.CellRows.{client_calls};
 ghost use Rattle.afs_entries.specs.Cached.{left, unlisted};
-ghost use Rattle.afs_cache.specs.Managing.{number_limit, Takes};
+ghost use Rattle.afs_copyrows.specs.CopyRow.{copy_row};
+ghost use Rattle.afs_copyrows.specs.Sites.{with_client};
+ghost use Rattle.afs_cache.specs.Managing.{number_limit, Takes, TakesCopy, TakesStill};
 ghost use Rattle.afs_cache.specs.Serving.{admits_asking, IsSoundAsking, runs_asking, takes_asking};
 
-use crate::breaks::{is_spoiled_by_all, names_call};
 use crate::node::{CLIENT_CALLS, CacheManager};
+use afs_asking::{is_spoiled_by_all, names_call};
 use afs_call::Admit;
 use afs_calling::messages::{boot_told, outs_with, replied};
 use afs_entries::Drops;
@@ -63,14 +65,14 @@ fn done(reply: FsReply) -> Carried
 impl CacheManager {
     /// A message is sent, and nothing else is done.
     fn tell(&self, message: SpelledMessage) -> Mem<Outs>
-        ensures { Takes (λ place. told_step self.now.state place (message ∷ [])) self.now self.now result }
+        ensures { TakesStill (λ place. told_step self.now.state.client place (message ∷ [])) self.now self.now result }
     {
         outs_with(self.alloc, Sequence::new(self.alloc), message)
     }
 
     /// A kept reply is sent again.
     fn tell_again(&self, reply: &SpelledMessage) -> Mem<Outs>
-        ensures { Takes (λ place. told_step self.now.state place (reply.now ∷ [])) self.now self.now result }
+        ensures { TakesStill (λ place. told_step self.now.state.client place (reply.now ∷ [])) self.now self.now result }
     {
         let reply = reply.copy(self.alloc)?;
         self.tell(reply)
@@ -78,8 +80,8 @@ impl CacheManager {
 
     /// A reply is kept for its caller.
     fn keep(&mut self, head: &Head, reply: SpelledMessage) -> Mem<()>
-        requires runs { admitted self.old.state.epoch self.old.state.seats head.now ≡ runs }
-        ensures ok { OnOk result (self.new ≡ record self.old { state = record self.old.state { seats = call_seated (seat_for head.now reply) self.old.state.seats } }) }
+        requires runs { admitted self.old.state.client.epoch self.old.state.client.seats head.now ≡ runs }
+        ensures ok { OnOk result (self.new ≡ record self.old { state = with_client self.old.state (record self.old.state.client { seats = call_seated (seat_for head.now reply) self.old.state.client.seats }) }) }
         ensures err { OnErr result (self.new ≡ self.old) }
     {
         self.callers.keep(head, reply)?;
@@ -88,9 +90,9 @@ impl CacheManager {
 
     /// A server's call is answered behind these lines, and the reply is kept.
     fn reply(&mut self, head: &Head, lines: Lines, carried: Carried) -> Mem<Outs>
-        requires runs { admitted self.old.state.epoch self.old.state.seats head.now ≡ runs }
-        requires spelling { HasSpelling (replied self.old.state.epoch head.now carried) }
-        ensures { Takes (λ place. replies_step self.old.state place head.now lines carried) self.old self.new result }
+        requires runs { admitted self.old.state.client.epoch self.old.state.client.seats head.now ≡ runs }
+        requires spelling { HasSpelling (replied self.old.state.client.epoch head.now carried) }
+        ensures { TakesStill (λ place. replies_step self.old.state.client place head.now lines carried) self.old self.new result }
     {
         let reply = replied(self.callers.boot(), head, carried);
         let reply = SpelledMessage::from_message(self.alloc, reply)?;
@@ -101,7 +103,7 @@ impl CacheManager {
 
     /// The entries of these fids go, and the reply to the call that waits is spoiled, if so.
     fn lose(&mut self, fids: &[Fid], is_spoiled: bool)
-        ensures { self.new ≡ record self.old { state = record self.old.state { cache = unlisted fids.now self.old.state.cache; spoiled = is_spoiled || self.old.state.spoiled } } }
+        ensures { self.new ≡ record self.old { state = with_client self.old.state (record self.old.state.client { cache = unlisted fids.now self.old.state.client.cache; spoiled = is_spoiled || self.old.state.client.spoiled }) } }
     {
         self.cache.drop_all(fids);
         self.spoiled = is_spoiled || self.spoiled;
@@ -109,26 +111,26 @@ impl CacheManager {
 
     /// A server's call is answered, and nothing else is told.
     fn reply_alone(&mut self, head: &Head, carried: Carried) -> Mem<Outs>
-        requires runs { admitted self.old.state.epoch self.old.state.seats head.now ≡ runs }
-        requires spelling { HasSpelling (replied self.old.state.epoch head.now carried) }
-        ensures { Takes (λ place. replies_step self.old.state place head.now [] carried) self.old self.new result }
+        requires runs { admitted self.old.state.client.epoch self.old.state.client.seats head.now ≡ runs }
+        requires spelling { HasSpelling (replied self.old.state.client.epoch head.now carried) }
+        ensures { TakesStill (λ place. replies_step self.old.state.client place head.now [] carried) self.old self.new result }
     {
         let lines = Sequence::new(self.alloc);
         self.reply(head, lines, carried)
     }
 
     fn refuse_call(&mut self, head: &Head, code: Code) -> Mem<Outs>
-        requires runs { admitted self.old.state.epoch self.old.state.seats head.now ≡ runs }
+        requires runs { admitted self.old.state.client.epoch self.old.state.client.seats head.now ≡ runs }
         requires head { IsSoundHead head.now }
         requires code { is_zero code.0 ≡ false }
-        ensures { Takes (λ place. replies_step self.old.state place head.now [] (Carried.Refusal code)) self.old self.new result }
+        ensures { TakesStill (λ place. replies_step self.old.state.client place head.now [] (Carried.Refusal code)) self.old self.new result }
     {
         self.reply_alone(head, Carried::Refusal { code })
     }
 
     /// Whether the reply of the call that waits is spoiled by a break on these fids.
     fn is_named(&self, fids: &[Fid]) -> bool
-        ensures { result ≡ names_act self.now.state fids.now self.now.state.running }
+        ensures { result ≡ names_act self.now.state.client fids.now self.now.state.client.running }
     {
         match &self.asked {
             Some(asked) => names_call(fids, asked.file_call()),
@@ -147,10 +149,10 @@ impl CacheManager {
 
     /// A break of the promises on these fids: their entries go, and a reply that names one of them is spoiled.
     fn break_fids(&mut self, head: &Head, fids: &[Fid]) -> Mem<Outs>
-        requires runs { admitted self.old.state.epoch self.old.state.seats head.now ≡ runs }
+        requires runs { admitted self.old.state.client.epoch self.old.state.client.seats head.now ≡ runs }
         requires head { IsSoundHead head.now }
         requires opcode { head.now.opcode ≡ 204 }
-        ensures { Takes (λ place. replies_step (without_fids self.old.state fids.now) place head.now (map (drop_line self.old.node) fids.now) (done_by FsReply.CallBack)) self.old self.new result }
+        ensures { TakesStill (λ place. replies_step (without_fids self.old.state.client fids.now) place head.now (map (drop_line self.old.node) fids.now) (done_by FsReply.CallBack)) self.old self.new result }
     {
         let lines = self.lines_dropped(fids)?;
         let is_named = self.is_named(fids);
@@ -161,7 +163,7 @@ impl CacheManager {
 
     /// Whether a reply of this server is awaited that a break of all its promises spoils.
     fn is_waiting(&self, head: &Head) -> bool
-        ensures { result ≡ is_waiting self.now.state head.now.from self.now.state.running }
+        ensures { result ≡ is_waiting self.now.state.client head.now.from self.now.state.client.running }
     {
         match &self.asked {
             Some(asked) => {
@@ -185,17 +187,17 @@ impl CacheManager {
 
     /// The fids of the entries that a server promised.
     fn promised_by(&self, server: Node) -> Mem<Vec<Fid>>
-        ensures { IfOk result (λ fs. unlisted fs.items self.now.state.cache ≡ left (Drops.Server server) self.now.state.cache) }
+        ensures { IfOk result (λ fs. unlisted fs.items self.now.state.client.cache ≡ left (Drops.Server server) self.now.state.client.cache) }
     {
         self.cache.listed(self.alloc, &Drops::Server(server))
     }
 
     /// A break of all that the server promised.
     fn break_all(&mut self, head: &Head) -> Mem<Outs>
-        requires runs { admitted self.old.state.epoch self.old.state.seats head.now ≡ runs }
+        requires runs { admitted self.old.state.client.epoch self.old.state.client.seats head.now ≡ runs }
         requires head { IsSoundHead head.now }
         requires opcode { head.now.opcode ≡ 205 }
-        ensures { Takes (λ place. breaks self.old.node self.old.state place head.now FsCall.InitCallBackState) self.old self.new result }
+        ensures { TakesStill (λ place. breaks self.old.node self.old.state.client place head.now FsCall.InitCallBackState) self.old self.new result }
     {
         let lines = self.line_dropped(head.from)?;
         let fids = self.promised_by(head.from)?;
@@ -207,10 +209,10 @@ impl CacheManager {
 
     /// A call of a server that runs.
     fn serve(&mut self, head: &Head, call: FsCall) -> Mem<Outs>
-        requires runs { admitted self.old.state.epoch self.old.state.seats head.now ≡ runs }
+        requires runs { admitted self.old.state.client.epoch self.old.state.client.seats head.now ≡ runs }
         requires head { IsSoundHead head.now }
         requires opcode { head.now.opcode ≡ call_number call }
-        ensures { Takes (λ place. breaks self.old.node self.old.state place head.now call) self.old self.new result }
+        ensures { TakesStill (λ place. breaks self.old.node self.old.state.client place head.now call) self.old self.new result }
     {
         match call {
             FsCall::CallBack { fids, .. } => self.break_fids(head, fids.as_slice()),
@@ -222,10 +224,10 @@ impl CacheManager {
 
     /// A call that runs: those of other interfaces aren't served.
     fn run_call(&mut self, head: &Head, call: Call) -> Mem<Outs>
-        requires runs { admitted self.old.state.epoch self.old.state.seats head.now ≡ runs }
+        requires runs { admitted self.old.state.client.epoch self.old.state.client.seats head.now ≡ runs }
         requires head { IsSoundHead head.now }
         requires asking { IsSoundAsking head.now.opcode (Asking.Call call) }
-        ensures { Takes (λ place. runs_asking self.old.node self.old.state place head.now (Asking.Call call)) self.old self.new result }
+        ensures { TakesStill (λ place. runs_asking self.old.node self.old.state.client place head.now (Asking.Call call)) self.old self.new result }
     {
         match call.into_file() {
             Some(call) => self.serve(head, call),
@@ -235,10 +237,10 @@ impl CacheManager {
 
     /// What a server asks runs.
     fn run(&mut self, head: &Head, asking: Asking) -> Mem<Outs>
-        requires runs { admitted self.old.state.epoch self.old.state.seats head.now ≡ runs }
+        requires runs { admitted self.old.state.client.epoch self.old.state.client.seats head.now ≡ runs }
         requires head { IsSoundHead head.now }
         requires asking { IsSoundAsking head.now.opcode asking }
-        ensures { Takes (λ place. runs_asking self.old.node self.old.state place head.now asking) self.old self.new result }
+        ensures { TakesStill (λ place. runs_asking self.old.node self.old.state.client place head.now asking) self.old self.new result }
     {
         match asking {
             Asking::Call(call) => self.run_call(head, call),
@@ -248,7 +250,7 @@ impl CacheManager {
 
     /// What becomes of a call with this header.
     fn admit(&self, head: &Head) -> Admit<'_, SpelledMessage>
-        ensures { means result ≡ admitted self.now.state.epoch self.now.state.seats head.now }
+        ensures { means result ≡ admitted self.now.state.client.epoch self.now.state.client.seats head.now }
     {
         self.callers.admit(head)
     }
@@ -256,7 +258,7 @@ impl CacheManager {
     /// The caller is told this client's boot number.
     fn tell_boot(&self, head: &Head) -> Mem<Outs>
         requires { IsSoundHead head.now }
-        ensures { Takes (λ place. told_step self.now.state place (boot_told self.now.state.epoch head.now ∷ [])) self.now self.now result }
+        ensures { TakesStill (λ place. told_step self.now.state.client place (boot_told self.now.state.client.epoch head.now ∷ [])) self.now self.now result }
     {
         let notice = boot_told(self.callers.boot(), head);
         let notice = SpelledMessage::from_message(self.alloc, notice)?;
@@ -267,7 +269,7 @@ impl CacheManager {
     fn called(&mut self, head: &Head, asking: Asking) -> Mem<Outs>
         requires head { IsSoundHead head.now }
         requires asking { IsSoundAsking head.now.opcode asking }
-        ensures { Takes (λ place. admits_asking self.old.node self.old.state place head.now asking (admitted self.old.state.epoch self.old.state.seats head.now)) self.old self.new result }
+        ensures { TakesStill (λ place. admits_asking self.old.node self.old.state.client place head.now asking (admitted self.old.state.client.epoch self.old.state.client.seats head.now)) self.old self.new result }
     {
         match self.admit(head) {
             Admit::Run => self.run(head, asking),
@@ -281,7 +283,7 @@ impl CacheManager {
     fn take_asking(&mut self, head: &Head, asking: Asking) -> Mem<Outs>
         requires head { IsSoundHead head.now }
         requires asking { IsSoundAsking head.now.opcode asking }
-        ensures { Takes (λ place. takes_asking self.old.node self.old.state place head.now asking) self.old self.new result }
+        ensures { TakesStill (λ place. takes_asking self.old.node self.old.state.client place head.now asking) self.old self.new result }
     {
         if head.to.is(&self.node) {
             self.called(head, asking)
@@ -293,8 +295,8 @@ impl CacheManager {
     /// What a message to this client carries.
     fn take_carried(&mut self, head: &Head, carried: Carried, now: u32) -> Mem<Outs>
         requires sound { HasSpelling (record { head = head.now; carried = carried }) }
-        requires last { self.old.state.last < number_limit }
-        ensures { Takes (λ place. hears self.old.node self.old.state now place head.now carried) self.old self.new result }
+        requires last { self.old.state.client.last < number_limit }
+        ensures { Takes (λ place. hears self.old.node self.old.state.client now place head.now carried) self.old self.new result }
     {
         match carried {
             Carried::Call { call, .. } => self.called(head, Asking::Call(call)),
@@ -307,8 +309,8 @@ impl CacheManager {
     /// What a message carries, if it is to this client.
     fn take_whole(&mut self, head: &Head, carried: Carried, now: u32) -> Mem<Outs>
         requires sound { HasSpelling (record { head = head.now; carried = carried }) }
-        requires last { self.old.state.last < number_limit }
-        ensures { Takes (λ place. takes_in self.old.node self.old.state now place (Received.Whole (record { head = head.now; carried = carried }))) self.old self.new result }
+        requires last { self.old.state.client.last < number_limit }
+        ensures { Takes (λ place. takes_in self.old.node self.old.state.client now place (Received.Whole (record { head = head.now; carried = carried }))) self.old self.new result }
     {
         if head.to.is(&self.node) {
             self.take_carried(head, carried, now)
@@ -318,10 +320,10 @@ impl CacheManager {
     }
 
     /// A message: while an act waits for the location database, what isn't its answer comes as to a client without an act.
-    fn take_message(&mut self, head: &Head, carried: Carried, now: u32) -> Mem<Outs>
+    pub(crate) fn take_guest(&mut self, head: &Head, carried: Carried, now: u32) -> Mem<Outs>
         requires sound { HasSpelling (record { head = head.now; carried = carried }) }
-        requires last { self.old.state.last < number_limit }
-        ensures { Takes (λ place. guest_row self.old.node self.old.state now place (Received.Whole (record { head = head.now; carried = carried }))) self.old self.new result }
+        requires last { self.old.state.client.last < number_limit }
+        ensures { Takes (λ place. guest_row self.old.node self.old.state.client now place (Received.Whole (record { head = head.now; carried = carried }))) self.old self.new result }
     {
         let sought = self.is_sought(head, &carried);
         if sought {
@@ -331,11 +333,32 @@ impl CacheManager {
         }
     }
 
+    /// Whether an act waits for the location database.
+    fn seeks(&self) -> bool
+        ensures { result ≡ is_some self.now.state.client.seeking }
+    {
+        self.seeking.is_some()
+    }
+
+    /// A message that was read.
+    fn take_message(&mut self, head: &Head, carried: Carried, now: u32) -> Mem<Outs>
+        requires sound { HasSpelling (record { head = head.now; carried = carried }) }
+        requires last { self.old.state.client.last < number_limit }
+        ensures { TakesCopy (λ place. copy_row self.old.node self.old.state now place (Received.Whole (record { head = head.now; carried = carried }))) self.old self.new result }
+    {
+        let seeks = self.seeks();
+        if seeks {
+            self.take_seeking(head, carried, now)
+        } else {
+            self.take_running(head, carried, now)
+        }
+    }
+
     /// What was received. A message to another node does nothing.
     pub(crate) fn take_in(&mut self, received: Received, now: u32) -> Mem<Outs>
         requires sound { IsSoundReceived received }
-        requires last { self.old.state.last < number_limit }
-        ensures { Takes (λ place. guest_row self.old.node self.old.state now place received) self.old self.new result }
+        requires last { self.old.state.client.last < number_limit }
+        ensures { TakesCopy (λ place. copy_row self.old.node self.old.state now place received) self.old self.new result }
     {
         match received {
             Received::Nothing => self.ignore(),

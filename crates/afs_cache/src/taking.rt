@@ -15,14 +15,17 @@ ghost use Rattle.afs_entries.specs.Cached.{drops_of, entry_of, HasBody, left};
 ghost use Rattle.afs_cache.specs.Acting.{sent_to};
 ghost use Rattle.afs_cache.specs.Wanted.{awaited_by, body_wanted, call_asked, counts_reply, holds_of, is_gift, rights_wanted, shows_rights, shows_status, shows_statuses, status_wanted, statuses_wanted, wanted_of};
 ghost use Rattle.std.specs.Option.{option_copied, option_map};
-ghost use Rattle.afs_cache.specs.Managing.{Answers, by_act, by_call, Goes, hears_refusal, hears_reply, number_limit, rests, spent_by, Takes};
+ghost use Rattle.afs_copyrows.specs.CopyRow.{offer_in};
+ghost use Rattle.afs_copyrows.specs.Sites.{with_client};
+ghost use Rattle.afs_cache.specs.Managing.{AnswersStill, by_act, by_call, Goes, hears_refusal, hears_reply, number_limit, rests, spent_by, Takes, TakesStill, telling};
 
 use crate::acting::Dropping;
-use crate::asked::Asked;
 use crate::node::CacheManager;
-use crate::replies::{body_told, entries_told, entry_told, is_any_spent, is_busy, status_told};
-use crate::wanted::{body_wanted, is_gift, rights_wanted, status_wanted, statuses_wanted};
 use afs_acts::{Going, copy_body, copy_read, volume_changed};
+use afs_asking::{
+    Asked, body_told, body_wanted, entries_told, entry_told, is_any_spent, is_busy, is_gift,
+    rights_wanted, status_told, status_wanted, statuses_wanted,
+};
 use afs_calling::boots::note_boot;
 use afs_calling::messages::quiet;
 use afs_calling::opcodes::file_opcode;
@@ -56,7 +59,7 @@ fn is_usable(callback: &AfsCallBack, now: u32) -> bool
 impl CacheManager {
     /// The unanswered call.
     pub(crate) fn call_asked(&self) -> Option<&FsCall>
-        ensures { option_copied result ≡ call_asked self.now.state self.now.state.running }
+        ensures { option_copied result ≡ call_asked self.now.state.client self.now.state.client.running }
     {
         match &self.asked {
             Some(asked) => Some(asked.file_call()),
@@ -66,7 +69,7 @@ impl CacheManager {
 
     /// The fid whose body it asks for.
     fn body_wanted(&self) -> Option<Fid>
-        ensures { result ≡ wanted_of body_wanted (call_asked self.now.state self.now.state.running) }
+        ensures { result ≡ wanted_of body_wanted (call_asked self.now.state.client self.now.state.client.running) }
     {
         match self.call_asked() {
             Some(call) => body_wanted(call),
@@ -76,7 +79,7 @@ impl CacheManager {
 
     /// The fid whose status it asks for.
     fn status_wanted(&self) -> Option<Fid>
-        ensures { result ≡ wanted_of status_wanted (call_asked self.now.state self.now.state.running) }
+        ensures { result ≡ wanted_of status_wanted (call_asked self.now.state.client self.now.state.client.running) }
     {
         match self.call_asked() {
             Some(call) => status_wanted(call),
@@ -86,7 +89,7 @@ impl CacheManager {
 
     /// The fids whose statuses it asks for.
     fn statuses_wanted(&self) -> Option<&[Fid]>
-        ensures { option_map (λ fs. fs.now) result ≡ wanted_of statuses_wanted (call_asked self.now.state self.now.state.running) }
+        ensures { option_map (λ fs. fs.now) result ≡ wanted_of statuses_wanted (call_asked self.now.state.client self.now.state.client.running) }
     {
         match self.call_asked() {
             Some(call) => statuses_wanted(call),
@@ -96,7 +99,7 @@ impl CacheManager {
 
     /// The fid whose rights it asks for.
     fn rights_wanted(&self) -> Option<Fid>
-        ensures { result ≡ wanted_of rights_wanted (call_asked self.now.state self.now.state.running) }
+        ensures { result ≡ wanted_of rights_wanted (call_asked self.now.state.client self.now.state.client.running) }
     {
         match self.call_asked() {
             Some(call) => rights_wanted(call),
@@ -106,7 +109,7 @@ impl CacheManager {
 
     /// Whether it gives promises back.
     fn has_given(&self) -> bool
-        ensures { result ≡ holds_of is_gift (call_asked self.now.state self.now.state.running) }
+        ensures { result ≡ holds_of is_gift (call_asked self.now.state.client self.now.state.client.running) }
     {
         match self.call_asked() {
             Some(call) => is_gift(call),
@@ -114,29 +117,53 @@ impl CacheManager {
         }
     }
 
-    /// Nothing but that the message was given.
-    pub(crate) fn ignore(&self) -> Mem<Outs>
-        ensures takes { Takes (λ place. ignores self.now.state place) self.now self.now result }
-        ensures answers { Answers (rests self.now.state) self.now self.now result }
+    /// Nothing happens.
+    fn rest(&self) -> Mem<Outs>
+        ensures still { TakesStill (λ place. ignores self.now.state.client place) self.now self.now result }
+        ensures answers { AnswersStill (rests self.now.state.client) self.now self.now result }
     {
         Ok(quiet(self.alloc, Sequence::new(self.alloc)))
     }
 
-    /// The call is made again under the next number.
-    fn call_again(&mut self) -> Mem<Outs>
-        requires last { self.old.state.last < number_limit }
-        ensures { Takes (λ place. by_act self.old.state place (calls_again self.old.node self.old.state place) self.old.state.running) self.old self.new result }
+    /// Nothing but that the message was given.
+    pub(crate) fn ignore(&self) -> Mem<Outs>
+        ensures takes { Takes (λ place. ignores self.now.state.client place) self.now self.now result }
+        ensures still { TakesStill (λ place. ignores self.now.state.client place) self.now self.now result }
+        ensures answers { AnswersStill (rests self.now.state.client) self.now self.now result }
+    {
+        self.rest()
+    }
+
+    /// The same behind these lines.
+    pub(crate) fn ignore_behind(&self, lines: Lines) -> Mem<Outs>
+        ensures { TakesStill (λ place. telling lines (ignores self.now.state.client place)) self.now self.now result }
+    {
+        Ok(quiet(self.alloc, lines))
+    }
+
+    /// Behind these lines the call is made again under the next number.
+    fn call_again_behind(&mut self, lines: Lines) -> Mem<Outs>
+        requires last { self.old.state.client.last < number_limit }
+        ensures { Takes (λ place. telling lines (by_act self.old.state.client place (calls_again self.old.node self.old.state.client place) self.old.state.client.running)) self.old self.new result }
     {
         let Some(asked) = self.running() else {
-            return self.ignore();
+            return self.ignore_behind(lines);
         };
-        let lines = self.no_lines();
         let plan = self.plan_again(asked, lines)?;
         Ok(self.follow(plan))
     }
 
+    /// The call is made again under the next number.
+    fn call_again(&mut self) -> Mem<Outs>
+        requires last { self.old.state.client.last < number_limit }
+        ensures { Takes (λ place. by_act self.old.state.client place (calls_again self.old.node self.old.state.client place) self.old.state.client.running) self.old self.new result }
+    {
+        let lines = self.no_lines();
+        self.call_again_behind(lines)
+    }
+
     pub(crate) fn answer(&mut self, code: Code) -> Mem<Outs>
-        ensures { Takes (λ place. answers_step self.old.node self.old.state place code) self.old self.new result }
+        ensures { Takes (λ place. answers_step self.old.node self.old.state.client place code) self.old self.new result }
     {
         let lines = self.no_lines();
         let plan = self.plan_ending(code, lines)?;
@@ -155,15 +182,6 @@ impl CacheManager {
         })
     }
 
-    /// The line of a read that a reply shows.
-    fn read_lines(&self, fid: Fid, index: u32, body: ReadBody) -> Mem<Lines>
-        ensures { IfOk result (λ ls. ls ≡ told.Read self.now.node fid index WasFetched body ∷ []) }
-    {
-        let mut lines = Sequence::new(self.alloc);
-        self.tell_read(fid, index, body, &mut lines)?;
-        Ok(lines)
-    }
-
     /// What an act has read behind this.
     fn read_on(&self, asked: &Asked, fid: Fid, body: ReadBody) -> Mem<Going>
         ensures value { IfOk result (λ g. g ≡ with_read fid body asked.now.going) }
@@ -174,14 +192,22 @@ impl CacheManager {
         Ok(going)
     }
 
-    /// A read that a reply shows: what the act has read then, and the line.
-    fn with_read(&self, asked: &Asked, fid: Fid, index: u32, body: ReadBody) -> Mem<Seen>
+    /// A read that a reply shows, behind these lines: what the act has read then, and the line.
+    fn with_read(
+        &self,
+        asked: &Asked,
+        fid: Fid,
+        index: u32,
+        body: ReadBody,
+        lines: Lines,
+    ) -> Mem<Seen>
         ensures going { IfOk result (λ s. s.going ≡ with_read fid body asked.now.going) }
-        ensures lines { IfOk result (λ s. s.lines ≡ told.Read self.now.node fid index WasFetched body ∷ []) }
+        ensures lines { IfOk result (λ s. s.lines ≡ lines ++ told.Read self.now.node fid index WasFetched body ∷ []) }
         ensures short { IfOk result (λ s. IsShortAct s.going.act) }
     {
+        let mut lines = lines;
         let shown = copy_read(self.alloc, &body)?;
-        let lines = self.read_lines(fid, index, body)?;
+        self.tell_read(fid, index, body, &mut lines)?;
         let going = self.read_on(asked, fid, shown)?;
         Ok(Seen { going, lines })
     }
@@ -195,7 +221,7 @@ impl CacheManager {
         sync: &AfsVolSync,
         body: Option<Body>,
     ) -> Fresh
-        ensures value { entry_of result ≡ entry_told self.now.state.callee fid status.now callback.now sync.now body }
+        ensures value { entry_of result ≡ entry_told self.now.state.client.callee fid status.now callback.now sync.now body }
         ensures body { IsSome body → HasBody (Some result) }
     {
         Fresh {
@@ -212,18 +238,19 @@ impl CacheManager {
         status: &AfsFetchStatus,
         callback: &AfsCallBack,
         sync: &AfsVolSync,
+        lines: Lines,
         now: u32,
     ) -> Mem<Outs>
-        requires last { self.old.state.last < number_limit }
-        ensures { Takes (λ place. by_act self.old.state place (λ act. takes_entry self.old.node self.old.state now place act (entry_told self.old.state.callee fid status.now callback.now sync.now (Some (body_told status.now.file_type contents))) (ReadBody.Contents (body_told status.now.file_type contents))) self.old.state.running) self.old self.new result }
+        requires last { self.old.state.client.last < number_limit }
+        ensures { Takes (λ place. telling lines (by_act self.old.state.client place (λ act. takes_entry self.old.node self.old.state.client now place act (entry_told self.old.state.client.callee fid status.now callback.now sync.now (Some (body_told status.now.file_type contents))) (ReadBody.Contents (body_told status.now.file_type contents))) self.old.state.client.running)) self.old self.new result }
     {
         let alloc = self.alloc;
         let Some(asked) = self.running() else {
-            return self.ignore();
+            return self.ignore_behind(lines);
         };
         let usable = is_usable(callback, now);
         if !usable {
-            return self.call_again();
+            return self.call_again_behind(lines);
         }
         let body = body_told(alloc, status.file_type, contents)?;
         let kept = copy_body(alloc, &body)?;
@@ -232,6 +259,7 @@ impl CacheManager {
             fid,
             status.sync_counter,
             ReadBody::Contents(body),
+            lines,
         )?;
         let fresh = self.fresh(fid, status, callback, sync, Some(kept));
         self.walk_with(fresh, going, lines, now)
@@ -244,14 +272,15 @@ impl CacheManager {
         status: &AfsFetchStatus,
         callback: &AfsCallBack,
         sync: &AfsVolSync,
+        lines: Lines,
         now: u32,
     ) -> Mem<Outs>
-        requires last { self.old.state.last < number_limit }
-        ensures { Takes (λ place. by_call self.old.state place (λ act. takes_data self.old.node self.old.state now place act contents status.now callback.now sync.now) self.old.state.running) self.old self.new result }
+        requires last { self.old.state.client.last < number_limit }
+        ensures { Takes (λ place. telling lines (by_call self.old.state.client place (λ act. takes_data self.old.node self.old.state.client now place act contents status.now callback.now sync.now) self.old.state.client.running)) self.old self.new result }
     {
         match self.body_wanted() {
-            Some(fid) => self.take_body(fid, contents, status, callback, sync, now),
-            None => self.take_plain(),
+            Some(fid) => self.take_body(fid, contents, status, callback, sync, lines, now),
+            None => self.take_plain_behind(lines),
         }
     }
 
@@ -271,20 +300,21 @@ impl CacheManager {
         status: &AfsFetchStatus,
         callback: &AfsCallBack,
         sync: &AfsVolSync,
+        lines: Lines,
         now: u32,
     ) -> Mem<Outs>
-        requires last { self.old.state.last < number_limit }
-        ensures { Takes (λ place. by_act self.old.state place (λ act. shows_status self.old.node self.old.state now place act (entry_told self.old.state.callee fid status.now callback.now sync.now None)) self.old.state.running) self.old self.new result }
+        requires last { self.old.state.client.last < number_limit }
+        ensures { Takes (λ place. telling lines (by_act self.old.state.client place (λ act. shows_status self.old.node self.old.state.client now place act (entry_told self.old.state.client.callee fid status.now callback.now sync.now None)) self.old.state.client.running)) self.old self.new result }
     {
         let Some(asked) = self.running() else {
-            return self.ignore();
+            return self.ignore_behind(lines);
         };
         let usable = is_usable(callback, now);
         if !usable {
-            return self.call_again();
+            return self.call_again_behind(lines);
         }
         let body = ReadBody::Status(status_told(status));
-        let Seen { going, lines } = self.with_read(asked, fid, status.sync_counter, body)?;
+        let Seen { going, lines } = self.with_read(asked, fid, status.sync_counter, body, lines)?;
         let fresh = self.fresh(fid, status, callback, sync, None);
         let all = self.alone(fresh)?;
         self.go_with(all, going, lines)
@@ -296,14 +326,15 @@ impl CacheManager {
         status: &AfsFetchStatus,
         callback: &AfsCallBack,
         sync: &AfsVolSync,
+        lines: Lines,
         now: u32,
     ) -> Mem<Outs>
-        requires last { self.old.state.last < number_limit }
-        ensures { Takes (λ place. by_call self.old.state place (λ act. takes_shown self.old.node self.old.state now place act status.now callback.now sync.now) self.old.state.running) self.old self.new result }
+        requires last { self.old.state.client.last < number_limit }
+        ensures { Takes (λ place. telling lines (by_call self.old.state.client place (λ act. takes_shown self.old.node self.old.state.client now place act status.now callback.now sync.now) self.old.state.client.running)) self.old self.new result }
     {
         match self.status_wanted() {
-            Some(fid) => self.take_seen(fid, status, callback, sync, now),
-            None => self.take_plain(),
+            Some(fid) => self.take_seen(fid, status, callback, sync, lines, now),
+            None => self.take_plain_behind(lines),
         }
     }
 
@@ -324,31 +355,31 @@ impl CacheManager {
         Ok(())
     }
 
-    /// What an act has read behind these statuses, and the lines of that.
-    fn with_all(&self, asked: &Asked, all: &[Fresh]) -> Mem<Seen>
+    /// What an act has read behind these statuses, and the lines of that, behind these.
+    fn with_all(&self, asked: &Asked, all: &[Fresh], lines: Lines) -> Mem<Seen>
         ensures going { IfOk result (λ s. s.going ≡ with_statuses (map entry_of all.now) asked.now.going) }
-        ensures lines { IfOk result (λ s. s.lines ≡ looked self.now.node (map status_look (map entry_of all.now)) []) }
+        ensures lines { IfOk result (λ s. s.lines ≡ lines ++ looked self.now.node (map status_look (map entry_of all.now)) []) }
         ensures short { IfOk result (λ s. IsShortAct s.going.act) }
     {
         let mut going = asked.copy_going(self.alloc)?;
-        let mut lines = self.no_lines();
+        let mut lines = lines;
         self.read_all(all, &mut going, &mut lines)?;
         Ok(Seen { going, lines })
     }
 
     /// These entries come. Their statuses are read in their order, once all of them stand in the cache.
-    fn take_all(&mut self, all: Vec<Fresh>, now: u32) -> Mem<Outs>
-        requires last { self.old.state.last < number_limit }
-        ensures { Takes (λ place. by_act self.old.state place (λ act. shows_statuses self.old.node self.old.state now place act (map entry_of all.items)) self.old.state.running) self.old self.new result }
+    fn take_all(&mut self, all: Vec<Fresh>, lines: Lines, now: u32) -> Mem<Outs>
+        requires last { self.old.state.client.last < number_limit }
+        ensures { Takes (λ place. telling lines (by_act self.old.state.client place (λ act. shows_statuses self.old.node self.old.state.client now place act (map entry_of all.items)) self.old.state.client.running)) self.old self.new result }
     {
         let Some(asked) = self.running() else {
-            return self.ignore();
+            return self.ignore_behind(lines);
         };
         let spent = is_any_spent(&all, now);
         if spent {
-            return self.call_again();
+            return self.call_again_behind(lines);
         }
-        let Seen { going, lines } = self.with_all(asked, &all)?;
+        let Seen { going, lines } = self.with_all(asked, &all, lines)?;
         self.go_with(all, going, lines)
     }
 
@@ -360,7 +391,7 @@ impl CacheManager {
         callbacks: &CallBacks,
         sync: &AfsVolSync,
     ) -> Mem<Vec<Fresh>>
-        ensures { IfOk result (λ all. map entry_of all.items ≡ entries_told self.now.state.callee sync.now fids.now statuses.now callbacks.now) }
+        ensures { IfOk result (λ all. map entry_of all.items ≡ entries_told self.now.state.client.callee sync.now fids.now statuses.now callbacks.now) }
     {
         let statuses = statuses.as_slice();
         let callbacks = callbacks.as_slice();
@@ -380,25 +411,26 @@ impl CacheManager {
         statuses: &Statuses,
         callbacks: &CallBacks,
         sync: &AfsVolSync,
+        lines: Lines,
         now: u32,
     ) -> Mem<Outs>
-        requires last { self.old.state.last < number_limit }
-        ensures { Takes (λ place. by_call self.old.state place (λ act. takes_bulk self.old.node self.old.state now place act statuses.now callbacks.now sync.now) self.old.state.running) self.old self.new result }
+        requires last { self.old.state.client.last < number_limit }
+        ensures { Takes (λ place. telling lines (by_call self.old.state.client place (λ act. takes_bulk self.old.node self.old.state.client now place act statuses.now callbacks.now sync.now) self.old.state.client.running)) self.old self.new result }
     {
         match self.statuses_wanted() {
             Some(fids) => {
                 let all = self.all_fresh(fids, statuses, callbacks, sync)?;
-                self.take_all(all, now)
+                self.take_all(all, lines, now)
             }
-            None => self.take_plain(),
+            None => self.take_plain_behind(lines),
         }
     }
 
     /// Behind a read entries go, and the act goes on.
     fn go_dropping(&mut self, drops: &Drops, seen: Seen) -> Mem<Outs>
         requires short { IsShortAct seen.going.act }
-        requires last { self.old.state.last < number_limit }
-        ensures { Goes (λ front. goes_on self.old.node self.old.state (λ ls. front (dropped self.old.node (filter (drops_of drops.now) self.old.state.cache) ls)) (stays seen.going (left drops.now self.old.state.cache))) seen.lines self.old self.new result }
+        requires last { self.old.state.client.last < number_limit }
+        ensures { Goes (λ front. goes_on self.old.node self.old.state.client (λ ls. front (dropped self.old.node (filter (drops_of drops.now) self.old.state.client.cache) ls)) (stays seen.going (left drops.now self.old.state.client.cache))) seen.lines self.old self.new result }
     {
         let Seen { going, lines } = seen;
         let Dropping { fids, lines } = self.dropping(drops, lines)?;
@@ -408,14 +440,21 @@ impl CacheManager {
     }
 
     /// The rights on this fid come, without a promise: an entry of an older index or release goes behind the read.
-    fn take_list(&mut self, fid: Fid, text: Octets, index: u32, release: u32) -> Mem<Outs>
-        requires last { self.old.state.last < number_limit }
-        ensures { Takes (λ place. by_act self.old.state place (λ act. shows_rights self.old.node self.old.state place act fid index release text) self.old.state.running) self.old self.new result }
+    fn take_list(
+        &mut self,
+        fid: Fid,
+        text: Octets,
+        index: u32,
+        release: u32,
+        lines: Lines,
+    ) -> Mem<Outs>
+        requires last { self.old.state.client.last < number_limit }
+        ensures { Takes (λ place. telling lines (by_act self.old.state.client place (λ act. shows_rights self.old.node self.old.state.client place act fid index release text) self.old.state.client.running)) self.old self.new result }
     {
         let Some(asked) = self.running() else {
-            return self.ignore();
+            return self.ignore_behind(lines);
         };
-        let seen = self.with_read(asked, fid, index, ReadBody::AccessList(text))?;
+        let seen = self.with_read(asked, fid, index, ReadBody::AccessList(text), lines)?;
         self.go_dropping(
             &Drops::Older {
                 fid,
@@ -427,20 +466,26 @@ impl CacheManager {
     }
 
     /// Rights come.
-    fn take_rights(&mut self, text: Octets, status: &AfsFetchStatus, sync: &AfsVolSync) -> Mem<Outs>
-        requires last { self.old.state.last < number_limit }
-        ensures { (clock : ℕ) → Takes (λ place. by_call self.old.state place (λ act. takes_list self.old.node self.old.state clock place act text status.now sync.now) self.old.state.running) self.old self.new result }
+    fn take_rights(
+        &mut self,
+        text: Octets,
+        status: &AfsFetchStatus,
+        sync: &AfsVolSync,
+        lines: Lines,
+    ) -> Mem<Outs>
+        requires last { self.old.state.client.last < number_limit }
+        ensures { (clock : ℕ) → Takes (λ place. telling lines (by_call self.old.state.client place (λ act. takes_list self.old.node self.old.state.client clock place act text status.now sync.now) self.old.state.client.running)) self.old self.new result }
     {
         match self.rights_wanted() {
-            Some(fid) => self.take_list(fid, text, status.sync_counter, sync.release),
-            None => self.take_plain(),
+            Some(fid) => self.take_list(fid, text, status.sync_counter, sync.release, lines),
+            None => self.take_plain_behind(lines),
         }
     }
 
     /// What is given back behind the batch that was goes next.
     fn give_on(&mut self) -> Mem<Outs>
-        requires last { self.old.state.last < number_limit }
-        ensures { Takes (λ place. by_act self.old.state place (λ act. gives_by self.old.node self.old.state (given place) act (behind_batch self.old.state.gifts)) self.old.state.running) self.old self.new result }
+        requires last { self.old.state.client.last < number_limit }
+        ensures { Takes (λ place. by_act self.old.state.client place (λ act. gives_by self.old.node self.old.state.client (given place) act (behind_batch self.old.state.client.gifts)) self.old.state.client.running) self.old self.new result }
     {
         let alloc = self.alloc;
         let Some(asked) = self.running() else {
@@ -455,8 +500,8 @@ impl CacheManager {
 
     /// So many promises were given back.
     fn take_given(&mut self) -> Mem<Outs>
-        requires last { self.old.state.last < number_limit }
-        ensures { Takes (λ place. by_call self.old.state place (λ act. takes_given self.old.node self.old.state place act) self.old.state.running) self.old self.new result }
+        requires last { self.old.state.client.last < number_limit }
+        ensures { Takes (λ place. by_call self.old.state.client place (λ act. takes_given self.old.node self.old.state.client place act) self.old.state.client.running) self.old self.new result }
     {
         let given = self.has_given();
         if given {
@@ -468,27 +513,28 @@ impl CacheManager {
 
     /// A reply that is used.
     fn take(&mut self, reply: FsReply, now: u32) -> Mem<Outs>
-        requires last { self.old.state.last < number_limit }
-        ensures { Takes (λ place. by_call self.old.state place (λ act call. takes self.old.node self.old.state now place act call reply) self.old.state.running) self.old self.new result }
+        requires last { self.old.state.client.last < number_limit }
+        ensures { Takes (λ place. by_call self.old.state.client place (λ act call. takes self.old.node self.old.state.client now place act call reply) self.old.state.client.running) self.old self.new result }
     {
+        let lines = self.no_lines();
         match reply {
             FsReply::FetchData {
                 contents,
                 status,
                 callback,
                 sync,
-            } => self.take_data(contents, &status, &callback, &sync, now),
-            FsReply::FetchAcl { acl, status, sync } => self.take_rights(acl, &status, &sync),
+            } => self.take_data(contents, &status, &callback, &sync, lines, now),
+            FsReply::FetchAcl { acl, status, sync } => self.take_rights(acl, &status, &sync, lines),
             FsReply::FetchStatus {
                 status,
                 callback,
                 sync,
-            } => self.take_shown(&status, &callback, &sync, now),
+            } => self.take_shown(&status, &callback, &sync, lines, now),
             FsReply::BulkStatus {
                 statuses,
                 callbacks,
                 sync,
-            } => self.take_bulk(&statuses, &callbacks, &sync, now),
+            } => self.take_bulk(&statuses, &callbacks, &sync, lines, now),
             FsReply::StoreData { status, .. } => self.take_set(&status, now),
             FsReply::StoreAcl { status, .. } => self.take_set(&status, now),
             FsReply::StoreStatus { status, .. } => self.take_set(&status, now),
@@ -497,27 +543,57 @@ impl CacheManager {
         }
     }
 
+    /// A reply to a reading call that is used, behind these lines.
+    pub(crate) fn take_reading(&mut self, reply: FsReply, lines: Lines, now: u32) -> Mem<Outs>
+        requires reads { IsSome (offer_in reply) }
+        requires last { self.old.state.client.last < number_limit }
+        ensures { Takes (λ place. telling lines (by_call self.old.state.client place (λ act call. takes self.old.node self.old.state.client now place act call reply) self.old.state.client.running)) self.old self.new result }
+    {
+        match reply {
+            FsReply::FetchData {
+                contents,
+                status,
+                callback,
+                sync,
+            } => self.take_data(contents, &status, &callback, &sync, lines, now),
+            FsReply::FetchAcl { acl, status, sync } => {
+                self.take_rights(acl, &status, &sync, lines)
+            }
+            FsReply::FetchStatus {
+                status,
+                callback,
+                sync,
+            } => self.take_shown(&status, &callback, &sync, lines, now),
+            FsReply::BulkStatus {
+                statuses,
+                callbacks,
+                sync,
+            } => self.take_bulk(&statuses, &callbacks, &sync, lines, now),
+            _ => self.ignore(),
+        }
+    }
+
     /// Whether an act is told to wait by this code, and asks again.
     fn asks_again(&self, code: Code) -> bool
-        ensures value { result ≡ (is_busy_code code && nat_lt self.now.state.busy most_busy) }
-        ensures few { IsTrue result → self.now.state.busy < 8 }
+        ensures value { result ≡ (is_busy_code code && nat_lt self.now.state.client.busy most_busy) }
+        ensures few { IsTrue result → self.now.state.client.busy < 8 }
     {
         is_busy(code) && self.busy < MOST_BUSY
     }
 
     /// The act was told to wait once more.
     fn wait_more(&mut self)
-        requires { self.old.state.busy < 8 }
-        ensures { self.new ≡ record self.old { state = record self.old.state { busy = self.old.state.busy + 1 } } }
+        requires { self.old.state.client.busy < 8 }
+        ensures { self.new ≡ record self.old { state = with_client self.old.state (record self.old.state.client { busy = self.old.state.client.busy + 1 }) } }
     {
         self.busy += 1;
     }
 
     /// An act that was told to wait asks again.
     fn call_later(&mut self) -> Mem<Outs>
-        requires few { self.old.state.busy < 8 }
-        requires last { self.old.state.last < number_limit }
-        ensures { Takes (λ place. by_act self.old.state place (calls_again self.old.node (record self.old.state { busy = self.old.state.busy + 1 }) place) self.old.state.running) self.old self.new result }
+        requires few { self.old.state.client.busy < 8 }
+        requires last { self.old.state.client.last < number_limit }
+        ensures { Takes (λ place. by_act self.old.state.client place (calls_again self.old.node (record self.old.state.client { busy = self.old.state.client.busy + 1 }) place) self.old.state.client.running) self.old self.new result }
     {
         let Some(asked) = self.running() else {
             return self.ignore();
@@ -530,8 +606,8 @@ impl CacheManager {
 
     /// A refusal: an act that is told to wait asks again, so often.
     fn refuse(&mut self, code: Code) -> Mem<Outs>
-        requires last { self.old.state.last < number_limit }
-        ensures { Takes (λ place. by_act self.old.state place (λ act. refuses self.old.node self.old.state place act code) self.old.state.running) self.old self.new result }
+        requires last { self.old.state.client.last < number_limit }
+        ensures { Takes (λ place. by_act self.old.state.client place (λ act. refuses self.old.node self.old.state.client place act code) self.old.state.client.running) self.old self.new result }
     {
         let again = self.asks_again(code);
         if again {
@@ -542,8 +618,8 @@ impl CacheManager {
     }
 
     /// A reply to a reading call that a break overtook isn't used.
-    fn is_spent(&self) -> bool
-        ensures { result ≡ spent_by self.now.state self.now.state.running }
+    pub(crate) fn is_spent(&self) -> bool
+        ensures { result ≡ spent_by self.now.state.client self.now.state.client.running }
     {
         match &self.asked {
             Some(asked) => self.spoiled && volume_changed(asked.file_call()).is_none(),
@@ -554,7 +630,7 @@ impl CacheManager {
     /// What is given out where the call is sent again with this boot number.
     fn resent(&self, asked: &Asked, boot: u32) -> Mem<Outs>
         ensures lines { IfOk result (λ o. o.lines ≡ []) }
-        ensures sent { IfOk result (λ o. parcels_read o.parcels ≡ messages_spelled (sent_to self.now.node self.now.state self.now.state.last self.now.state.callee boot (call_by asked.now.gifts (next asked.now.going)) ∷ [])) }
+        ensures sent { IfOk result (λ o. parcels_read o.parcels ≡ messages_spelled (sent_to self.now.node self.now.state.client self.now.state.client.last self.now.state.client.callee boot (call_by asked.now.gifts (next asked.now.going)) ∷ [])) }
     {
         self.outs(
             self.calls.last,
@@ -567,7 +643,7 @@ impl CacheManager {
 
     /// A boot number is noted for the callee.
     fn note(&mut self, boot: u32) -> Mem<()>
-        ensures ok { OnOk result (self.new ≡ record self.old { state = booted self.old.state boot }) }
+        ensures ok { OnOk result (self.new ≡ record self.old { state = with_client self.old.state (booted self.old.state.client boot) }) }
         ensures err { OnErr result (self.new ≡ self.old) }
     {
         note_boot(&mut self.boots, self.calls.callee, boot)
@@ -575,7 +651,7 @@ impl CacheManager {
 
     /// The call is sent again with the boot number that its callee told.
     fn resend(&mut self, boot: u32) -> Mem<Outs>
-        ensures { Takes (λ place. by_act self.old.state place (λ act. resends_step self.old.node self.old.state place act boot) self.old.state.running) self.old self.new result }
+        ensures { TakesStill (λ place. by_act self.old.state.client place (λ act. resends_step self.old.node self.old.state.client place act boot) self.old.state.client.running) self.old self.new result }
     {
         let Some(asked) = self.running() else {
             return self.ignore();
@@ -587,8 +663,8 @@ impl CacheManager {
 
     /// Whether a message with this header answers the call that waits: it comes from its callee, and has its key and its
     /// opcode.
-    fn is_awaited(&self, head: &Head) -> bool
-        ensures { result ≡ awaited_by self.now.state head.now self.now.state.running }
+    pub(crate) fn is_awaited(&self, head: &Head) -> bool
+        ensures { result ≡ awaited_by self.now.state.client head.now self.now.state.client.running }
     {
         match &self.asked {
             Some(asked) => {
@@ -602,8 +678,8 @@ impl CacheManager {
     }
 
     fn hear_refusal(&mut self, code: Code) -> Mem<Outs>
-        requires last { self.old.state.last < number_limit }
-        ensures { Takes (λ place. by_act self.old.state place (λ act. hears_refusal self.old.node self.old.state place act code) self.old.state.running) self.old self.new result }
+        requires last { self.old.state.client.last < number_limit }
+        ensures { Takes (λ place. by_act self.old.state.client place (λ act. hears_refusal self.old.node self.old.state.client place act code) self.old.state.client.running) self.old self.new result }
     {
         let spent = self.is_spent();
         if spent {
@@ -613,8 +689,8 @@ impl CacheManager {
     }
 
     fn hear_reply(&mut self, reply: FsReply, now: u32) -> Mem<Outs>
-        requires last { self.old.state.last < number_limit }
-        ensures { Takes (λ place. by_act self.old.state place (λ act. hears_reply self.old.node self.old.state now place act reply) self.old.state.running) self.old self.new result }
+        requires last { self.old.state.client.last < number_limit }
+        ensures { Takes (λ place. by_act self.old.state.client place (λ act. hears_reply self.old.node self.old.state.client now place act reply) self.old.state.client.running) self.old self.new result }
     {
         let spent = self.is_spent();
         if spent {
@@ -625,8 +701,8 @@ impl CacheManager {
 
     /// A reply to the call that waits.
     fn count_reply(&mut self, reply: Reply, now: u32) -> Mem<Outs>
-        requires last { self.old.state.last < number_limit }
-        ensures { Takes (λ place. by_act self.old.state place (λ act. counts_reply self.old.node self.old.state now place act reply) self.old.state.running) self.old self.new result }
+        requires last { self.old.state.client.last < number_limit }
+        ensures { Takes (λ place. by_act self.old.state.client place (λ act. counts_reply self.old.node self.old.state.client now place act reply) self.old.state.client.running) self.old self.new result }
     {
         match reply.into_file() {
             Some(reply) => self.hear_reply(reply, now),
@@ -636,8 +712,8 @@ impl CacheManager {
 
     /// What answers the call that waits.
     fn count(&mut self, head: &Head, carried: Carried, now: u32) -> Mem<Outs>
-        requires last { self.old.state.last < number_limit }
-        ensures { Takes (λ place. by_act self.old.state place (λ act. counts self.old.node self.old.state now place act head.now carried) self.old.state.running) self.old self.new result }
+        requires last { self.old.state.client.last < number_limit }
+        ensures { Takes (λ place. by_act self.old.state.client place (λ act. counts self.old.node self.old.state.client now place act head.now carried) self.old.state.client.running) self.old self.new result }
     {
         match carried {
             Carried::Refusal { code } => self.hear_refusal(code),
@@ -649,8 +725,8 @@ impl CacheManager {
 
     /// A reply or a notice: what isn't awaited does nothing.
     pub(crate) fn hear(&mut self, head: &Head, carried: Carried, now: u32) -> Mem<Outs>
-        requires last { self.old.state.last < number_limit }
-        ensures { Takes (λ place. awaits self.old.node self.old.state now place head.now carried self.old.state.running) self.old self.new result }
+        requires last { self.old.state.client.last < number_limit }
+        ensures { Takes (λ place. awaits self.old.node self.old.state.client now place head.now carried self.old.state.client.running) self.old self.new result }
     {
         let awaited = self.is_awaited(head);
         if awaited {

@@ -14,8 +14,9 @@ use Rattle.afs_history.specs.declared.acts.Operand.{Operand}
 use Rattle.afs_history.specs.declared.acts.Operand.TheVariants as operands
 use Rattle.afs_acts.specs.Acts.{AreShort, IsShortAct, IsShortCall, IsShortIfAny, IsShortOperand}
 use Rattle.afs_model.specs.FsRows.{name_limit}
+use Rattle.afs_copyrows.specs.Sites.{new_copies, CopyState}
 use Rattle.afs_rows.specs.ClientRow.{new_client}
-use Rattle.afs_rows.specs.Going.{ClientState, operands_of}
+use Rattle.afs_rows.specs.Going.{operands_of}
 use Rattle.afs_rows.specs.Runs.{locations, user_at}
 use Rattle.afs_schedule.specs.Schedules.{client_act, doer, tasks_of}
 use Rattle.afs_words.specs.declared.nodes.Counts.{Counts}
@@ -121,7 +122,7 @@ pub rest_short : (old new : List Task) → new ≡ drop 1 old → All IsShortTas
 rest_short [] new e all = subst (All IsShortTask) (sym e) all
 rest_short (t ∷ ts) new e all = subst (All IsShortTask) (sym e) (All-tail IsShortTask t ts all)
 
-pub first_client : (s : Script) (n : ℕ) (seat : ClientSeat) → IsCellScript s → seat.client.node ≡ Client n → seat.client.state ≡ new_client 1 s.cache (user_at s n) (locations s) → seat.is_away ≡ false → seat.plan ≡ tasks_of (Client n) s.tasks → seat.epoch ≡ 1 → IsFirstClient s n seat
+pub first_client : (s : Script) (n : ℕ) (seat : ClientSeat) → IsCellScript s → seat.client.node ≡ Client n → seat.client.state ≡ new_copies (new_client 1 s.cache (user_at s n) (locations s)) → seat.is_away ≡ false → seat.plan ≡ tasks_of (Client n) s.tasks → seat.epoch ≡ 1 → IsFirstClient s n seat
 first_client s n seat h node state up plan epoch = record {
   state = state;
   up = up;
@@ -129,9 +130,9 @@ first_client s n seat h node state up plan epoch = record {
   epoch = epoch;
   handed = record {
     node = node;
-    epoch = ap (λ (c : ClientState). c.epoch) state ∙ sym epoch;
-    capacity = ap (λ (c : ClientState). c.capacity) state;
-    user = ap (λ (c : ClientState). c.user) state;
+    epoch = ap (λ (c : CopyState). c.client.epoch) state ∙ sym epoch;
+    capacity = ap (λ (c : CopyState). c.client.capacity) state;
+    user = ap (λ (c : CopyState). c.client.user) state;
     acts = subst (λ (more : List Task). All IsShortTask more) (sym plan) (tasks_short (counts_of s) (Client n) s.tasks h.tasks);
   };
 }

@@ -15,13 +15,15 @@ use Rattle.afs_history.specs.declared.lines.Outs.{Outs}
 use Rattle.afs_history.specs.declared.scripts.Event.TheVariants as events
 use Rattle.afs_history.specs.declared.scripts.Script.{Script}
 use Rattle.afs_model.specs.Messages.{messages_spelled, parcels_read, received}
-use Rattle.afs_rows.specs.ClientRow.{act_of, begin_row, guest_row, reborn}
+use Rattle.afs_copyrows.specs.CopyRow.{copies_reborn, copy_begin_row, copy_row}
+use Rattle.afs_copyrows.specs.Sites.{CopyState}
+use Rattle.afs_rows.specs.ClientRow.{act_of}
 use Rattle.afs_rows.specs.Going.{ClientState, Going}
 use Rattle.afs_rows.specs.Runs.{locations, server_waits, sets_fail, sets_stop, starts_again, stops, wakes, Outcome}
 use Rattle.afs_runs.specs.NodeRuns.{usual, CellInput}
 use Rattle.afs_rows.specs.Steps.{Step}
 use Rattle.afs_schedule.specs.Schedules.{at_server, client_act, IsInput, IsRestart, Turn}
-pub use Rattle.afs_cache.specs.Managing.{seek_times_out, times_out}
+pub use Rattle.afs_cache.specs.Managing.{copy_seek_times_out, copy_times_out}
 use Rattle.afs_clients.specs.Places.{put_place}
 use Rattle.afs_clients.specs.Seating.{IsHanded}
 use Rattle.afs_clients.specs.declared.clients.ClientSeat.{ClientSeat}
@@ -71,7 +73,7 @@ pub record NoneHappened {A : Type 0} (i : ℕ) (old new : List A) (what : Happen
 -- ---- clients
 
 -- the client made this step of its row, and gave this out behind these lines; what it was handed stays
-pub record ClientMakes (front : List Line) (step : Step ClientState) (old new : ClientSeat) (outs : Outs) : Type 0 where
+pub record ClientMakes (front : List Line) (step : Step CopyState) (old new : ClientSeat) (outs : Outs) : Type 0 where
   pub up : old.is_away ≡ false
   pub stays_up : new.is_away ≡ false
   pub state : new.client.state ≡ step.state
@@ -87,21 +89,21 @@ pub record HasBegun (n clock : ℕ) (old new : ClientSeat) (outs : Outs) : Type 
   pub act : Act
   pub next : client_act (slice_get old.plan 0) ≡ Some act
   pub plan : new.plan ≡ drop 1 old.plan
-  pub idle : act_of old.client.state ≡ None
-  pub makes : ClientMakes [] (begin_row (Client n) old.client.state clock act) old new outs
+  pub idle : act_of old.client.state.client ≡ None
+  pub makes : ClientMakes [] (copy_begin_row (Client n) old.client.state clock act) old new outs
 
 pub record HasTimedOut (n : ℕ) (callee : Node) (old new : ClientSeat) (outs : Outs) : Type 0 where
   pub act : Going
-  pub waits : act_of old.client.state ≡ Some act
-  pub callee_is : same_node old.client.state.callee callee ≡ true
-  pub makes : ClientMakes [] (times_out (Client n) old.client.state old.client.state.running) old new outs
+  pub waits : act_of old.client.state.client ≡ Some act
+  pub callee_is : same_node old.client.state.client.callee callee ≡ true
+  pub makes : ClientMakes [] (copy_times_out (Client n) old.client.state old.client.state.client.running) old new outs
   pub plan : new.plan ≡ old.plan
 
 -- it will begin with the script's table
 pub record HasFallen (s : Script) (n : ℕ) (old new : ClientSeat) (outs : Outs) : Type 0 where
   pub up : old.is_away ≡ false
   pub away : new.is_away ≡ true
-  pub state : new.client.state ≡ reborn (locations s) old.client.state
+  pub state : new.client.state ≡ copies_reborn (locations s) old.client.state
   pub plan : new.plan ≡ old.plan
   pub tells : ClientTells (lines.Crash (Client n)) outs
 
@@ -110,10 +112,10 @@ pub record HasRisen (n : ℕ) (old new : ClientSeat) (outs : Outs) : Type 0 wher
   pub up : new.is_away ≡ false
   pub state : new.client.state ≡ old.client.state
   pub plan : new.plan ≡ old.plan
-  pub tells : ClientTells (lines.Restart (Client n) old.client.state.epoch) outs
+  pub tells : ClientTells (lines.Restart (Client n) old.client.state.client.epoch) outs
 
 pub record ClientHears (n clock place : ℕ) (bytes : List ℕ) (old new : ClientSeat) (outs : Outs) : Type 0 where
-  pub makes : (m : Message) → received bytes ≡ Whole m → ClientMakes (lines.Given place ∷ []) (guest_row (Client n) old.client.state clock place (Whole m)) old new outs
+  pub makes : (m : Message) → received bytes ≡ Whole m → ClientMakes (lines.Given place ∷ []) (copy_row (Client n) old.client.state clock place (Whole m)) old new outs
   pub plan : new.plan ≡ old.plan
 
 abbrev pub ClientTakes : Script → ℕ → ℕ → ClientInput → ClientSeat → ClientSeat → Outs → Type 0
@@ -141,8 +143,8 @@ abbrev pub IsBusy : ClientState → Type 0
 IsBusy c = (act : Going) × (act_of c ≡ Some act)
 
 abbrev pub IsVoidClient : ClientInput → ClientSeat → Type 0
-IsVoidClient client.Act seat = (seat.is_away ≡ true) ⊎ (IsBusy seat.client.state ⊎ (client_act (slice_get seat.plan 0) ≡ None))
-IsVoidClient (client.TimeOut callee) seat = (seat.is_away ≡ true) ⊎ ((act_of seat.client.state ≡ None) ⊎ (same_node seat.client.state.callee callee ≡ false))
+IsVoidClient client.Act seat = (seat.is_away ≡ true) ⊎ (IsBusy seat.client.state.client ⊎ (client_act (slice_get seat.plan 0) ≡ None))
+IsVoidClient (client.TimeOut callee) seat = (seat.is_away ≡ true) ⊎ ((act_of seat.client.state.client ≡ None) ⊎ (same_node seat.client.state.client.callee callee ≡ false))
 IsVoidClient client.Crash seat = seat.is_away ≡ true
 IsVoidClient client.Restart seat = seat.is_away ≡ false
 
@@ -160,7 +162,7 @@ ClientHappens IsVoid Takes old new what = DisklessHappens IsVoid Takes old new w
 pub record ClientGoes (s : Script) (n : ℕ) (old new : ClientSeat) (what : Happened) : Type 0 where
   pub handed : IsHanded s n new
   pub epoch : new.epoch ≤ old.epoch + 1
-  pub last : new.client.state.last ≤ old.client.state.last + 1
+  pub last : new.client.state.client.last ≤ old.client.state.client.last + 1
 
 pub record ClientHappened (s : Script) (n : ℕ) (IsVoid : ClientSeat → Type 0) (Takes : ClientSeat → ClientSeat → Outs → Type 0) (old new : List ClientSeat) (what : Happened) : Type 0 where
   pub was : ClientSeat

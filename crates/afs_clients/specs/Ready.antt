@@ -10,7 +10,7 @@ use Rattle.afs_clients.specs.declared.clients.ClientSeat.{ClientSeat}
 pub record IsReadySeatOf (s : Script) (n : ℕ) (seat : ClientSeat) : Type 0 where
   pub handed : IsHanded s n seat
   pub number : (1 ≤ n) × (n ≤ 16)
-  pub last : seat.client.state.last < number_limit
+  pub last : seat.client.state.client.last < number_limit
   pub epoch : seat.epoch < 4294967295
 
 abbrev pub AllReady : Script → List ClientSeat → Type 0

@@ -6,6 +6,7 @@ use Rattle.afs_num.specs.declared.types.Node.{Node}
 use Rattle.afs_num.specs.declared.types.Node.TheVariants.{Client}
 use Rattle.afs_history.specs.declared.scripts.Script.{Script}
 use Rattle.afs_cache.specs.Lasting.{lasting}
+use Rattle.afs_copyrows.specs.Sites.{new_copies}
 use Rattle.afs_rows.specs.ClientRow.{new_client}
 use Rattle.afs_rows.specs.Going.{ClientState, Going}
 use Rattle.afs_rows.specs.Runs.{locations, user_at}
@@ -23,9 +24,9 @@ IsShortTask (tasks.Admin n act) = Unit {0}
 -- What a client was handed at its start, or when it began again, and keeps, is the script's; so are the acts that it has not begun.
 pub record IsHanded (s : Script) (n : ℕ) (seat : ClientSeat) : Type 0 where
   pub node : seat.client.node ≡ Client n
-  pub epoch : seat.client.state.epoch ≡ seat.epoch
-  pub capacity : seat.client.state.capacity ≡ s.cache
-  pub user : seat.client.state.user ≡ user_at s n
+  pub epoch : seat.client.state.client.epoch ≡ seat.epoch
+  pub capacity : seat.client.state.client.capacity ≡ s.cache
+  pub user : seat.client.state.client.user ≡ user_at s n
   pub acts : All IsShortTask seat.plan
 
 -- it waits for the reply of this node
@@ -36,14 +37,14 @@ awaits c callee (Some act) = same_node c.callee callee
 -- what a step leaves as it is: what the client was handed, and its epoch; it makes one call at most
 pub record GoesOn (old new : ClientSeat) : Type 0 where
   pub node : new.client.node ≡ old.client.node
-  pub kept : lasting new.client.state ≡ lasting old.client.state
+  pub kept : lasting new.client.state.client ≡ lasting old.client.state.client
   pub epoch : new.epoch ≡ old.epoch
-  pub last : new.client.state.last ≤ old.client.state.last + 1
+  pub last : new.client.state.client.last ≤ old.client.state.client.last + 1
   pub acts : All IsShortTask old.plan → All IsShortTask new.plan
 
 -- a client at set-up
 pub record IsFirstClient (s : Script) (n : ℕ) (seat : ClientSeat) : Type 0 where
-  pub state : seat.client.state ≡ new_client 1 s.cache (user_at s n) (locations s)
+  pub state : seat.client.state ≡ new_copies (new_client 1 s.cache (user_at s n) (locations s))
   pub up : seat.is_away ≡ false
   pub plan : seat.plan ≡ tasks_of (Client n) s.tasks
   pub epoch : seat.epoch ≡ 1

@@ -5,6 +5,7 @@ ghost use Rattle.std.specs.List.{All};
 ghost use Rattle.afs_num.specs.declared.types.Node.TheVariants.{Client};
 ghost use Rattle.afs_cache.specs.Managing.{number_limit};
 ghost use Rattle.afs_grammar.specs.CellScripts.{IsCellScript};
+ghost use Rattle.afs_copyrows.specs.Sites.{new_copies};
 ghost use Rattle.afs_rows.specs.ClientRow.{act_of, new_client};
 ghost use Rattle.afs_rows.specs.Runs.{locations, user_at, user_in};
 ghost use Rattle.afs_clients.specs.Happening.{ClientGoes, ClientHappens, ClientHears, ClientTakes, HasBegun, HasFallen, HasRisen, HasTimedOut, IsVoidClient};
@@ -62,7 +63,7 @@ fn manager(alloc: Global, script: &Script, client: u8, epoch: u32) -> Mem<CacheM
     requires script { IsCellScript script.now }
     requires client { (1 ≤ client) × (client ≤ 16) }
     ensures node { IfOk result (λ c. c.node ≡ Client client) }
-    ensures state { IfOk result (λ c. c.state ≡ new_client epoch script.now.cache (user_at script.now client) (locations script.now)) }
+    ensures state { IfOk result (λ c. c.state ≡ new_copies (new_client epoch script.now.cache (user_at script.now client) (locations script.now))) }
 {
     CacheManager::new(
         alloc,
@@ -91,14 +92,14 @@ impl<'a> ClientSeat<'a> {
 
     /// Whether an act runs, or waits for the location database.
     fn is_busy(&self) -> bool
-        ensures { result ≡ is_some (act_of self.now.client.state) }
+        ensures { result ≡ is_some (act_of self.now.client.state.client) }
     {
         self.client.waits_on().is_some()
     }
 
     /// Whether it waits for the reply of this node.
     fn waits_for(&self, callee: Node) -> bool
-        ensures { result ≡ awaits self.now.client.state callee (act_of self.now.client.state) }
+        ensures { result ≡ awaits self.now.client.state.client callee (act_of self.now.client.state.client) }
     {
         match self.client.waits_on() {
             Some((node, _)) => node.is(&callee),
@@ -110,7 +111,7 @@ impl<'a> ClientSeat<'a> {
     #[tactic(auto, using(crate::proofs::Shortened::first_short, crate::proofs::Shortened::rest_short))]
     fn begin(&mut self, client: u8, now: u32) -> Happened
         requires node { self.old.client.node ≡ Client client }
-        requires last { self.old.client.state.last < number_limit }
+        requires last { self.old.client.state.client.last < number_limit }
         requires short { All IsShortTask self.old.plan }
         ensures happens { ClientHappens (IsVoidClient input.Act) (HasBegun client now) self.old self.new result }
         ensures goes_on { GoesOn self.old self.new }
@@ -133,7 +134,7 @@ impl<'a> ClientSeat<'a> {
     /// It is given a message, if it is up.
     pub fn hear(&mut self, client: u8, bytes: &[u8], now: u32) -> Happened
         requires node { self.old.client.node ≡ Client client }
-        requires last { self.old.client.state.last < number_limit }
+        requires last { self.old.client.state.client.last < number_limit }
         ensures happens { (place : ℕ) → ClientHappens (λ seat. seat.is_away ≡ true) (ClientHears client now place bytes.now) self.old self.new result }
         ensures goes_on { GoesOn self.old self.new }
     {
@@ -149,6 +150,7 @@ impl<'a> ClientSeat<'a> {
     /// Its unanswered call to this node times out.
     fn time_out(&mut self, client: u8, callee: Node, now: u32) -> Happened
         requires node { self.old.client.node ≡ Client client }
+        requires last { self.old.client.state.client.last < number_limit }
         ensures happens { ClientHappens (IsVoidClient (input.TimeOut callee)) (HasTimedOut client callee) self.old self.new result }
         ensures goes_on { GoesOn self.old self.new }
     {
@@ -171,7 +173,7 @@ impl<'a> ClientSeat<'a> {
         ensures happens { ClientHappens (IsVoidClient input.Crash) (HasFallen script.now client) self.old self.new result }
         ensures handed { IsHanded script.now client self.new }
         ensures epoch { self.new.epoch ≤ self.old.epoch + 1 }
-        ensures last { self.new.client.state.last ≤ self.old.client.state.last + 1 }
+        ensures last { self.new.client.state.client.last ≤ self.old.client.state.client.last + 1 }
     {
         if self.is_away {
             return Happened::Nothing;
@@ -191,7 +193,7 @@ impl<'a> ClientSeat<'a> {
 
     /// It is up again.
     fn restart(&mut self, alloc: Global, client: u8) -> Happened
-        requires epoch { self.old.client.state.epoch ≡ self.old.epoch }
+        requires epoch { self.old.client.state.client.epoch ≡ self.old.epoch }
         ensures happens { ClientHappens (IsVoidClient input.Restart) (HasRisen client) self.old self.new result }
         ensures goes_on { GoesOn self.old self.new }
     {
@@ -221,7 +223,7 @@ impl<'a> ClientSeat<'a> {
         requires script { IsCellScript script.now }
         requires client { (1 ≤ client) × (client ≤ 16) }
         requires handed { IsHanded script.now client self.old }
-        requires last { self.old.client.state.last < number_limit }
+        requires last { self.old.client.state.client.last < number_limit }
         requires epoch { self.old.epoch < 4294967295 }
         ensures happens { ClientHappens (IsVoidClient given) (ClientTakes script.now client now given) self.old self.new result }
         ensures goes { ClientGoes script.now client self.old self.new result }

@@ -259,11 +259,11 @@ new_site = refl
 abbrev middle : Round
 middle = record { volume = copy; sites = 3 ∷ []; offered = Some 1; refusal = None }
 
-fixed : round_in (record (client (entry_with []) 2) { rounds = middle ∷ [] }) (began [] looks) copy ≡ Some middle
+fixed : round_in (record (client (entry_with []) 2) { round = Some middle }) (began [] looks) copy ≡ Some middle
 fixed = refl
 
 -- each act begins at the first site
-begins_anew : run_of (record (client entry 2) { rounds = middle ∷ [] }) [] ≡ record { calls = Server 2 ∷ []; told = begun ∷ [] }
+begins_anew : run_of (record (client entry 2) { round = Some middle }) [] ≡ record { calls = Server 2 ∷ []; told = begun ∷ [] }
 unfolding copy_begin_row begin_row
 begins_anew = refl
 

@@ -1,2 +1,3 @@
 pub mod PlainCopies
+pub mod Sited
 mod CopyWorked

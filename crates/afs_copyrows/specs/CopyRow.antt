@@ -2,7 +2,6 @@
 -- replies of a site are used. Where its act calls in no read-only volume, and the location database tells it nothing new, it is that row.
 use Rattle.std.specs.Prelude.{ℕ, List, [], ◌∷◌, ◌++◌, Bool, true, false, not, ◌&&◌, ◌||◌, Option, Some, None, is_some, nat_eq, nat_lt, map, filter, if◌then◌else◌}
 use Rattle.std.specs.List.{list_any}
-use Rattle.std.specs.Option.{option_map}
 use Rattle.afs_history.specs.declared.acts.Act.{Act}
 use Rattle.afs_history.specs.declared.lines.Line.{Line}
 use Rattle.afs_history.specs.declared.lines.Line.TheVariants as lines
@@ -22,7 +21,7 @@ use Rattle.afs_num.specs.declared.types.Code.{Code}
 use Rattle.afs_num.specs.declared.types.Node.{Node}
 use Rattle.afs_num.specs.Nodes.{same_node}
 use Rattle.afs_model.specs.Calls.{is_sent_again, last_timeout}
-use Rattle.afs_rows.specs.ClientRow.{begin_row, call_of, dropped, entry_in, given_up_in, guest_row, has_location, is_awaited, is_busy_code, is_sought, is_spent, left_in, reborn, seek_timeout_row, timeout_line, timeout_row}
+use Rattle.afs_rows.specs.ClientRow.{begin_row, call_of, dropped, entry_in, given_up_in, guest_row, has_location, is_awaited, is_busy_code, is_sought, is_spent, left_in, put_location, reborn, seek_timeout_row, timeout_line, timeout_row}
 use Rattle.afs_rows.specs.Going.{filled, locates, next, ClientState, Going, Need, Seek}
 use Rattle.afs_rows.specs.States.{CacheEntry, Location}
 use Rattle.afs_rows.specs.Steps.{Step}
@@ -30,7 +29,7 @@ use Rattle.afs_copyrows.specs.Sites.{as_it_is, calls_round, leaves_site, new_cop
 
 -- an act begins, in no round
 unfoldable pub copy_begin_row : Node → CopyState → ℕ → Act → Step CopyState
-copy_begin_row me c clock act = sited me (record c { rounds = [] }) (begin_row me c.client clock act)
+copy_begin_row me c clock act = sited me (record c { round = None }) (begin_row me c.client clock act)
 
 -- ---- what the first site of a round answers
 
@@ -72,11 +71,12 @@ abbrev pub behind_given : List Line → List Line → List Line
 behind_given drops [] = drops
 behind_given drops (l ∷ ls) = l ∷ (drops ++ ls)
 
-abbrev pub dropping : Node → List CacheEntry → Step CopyState → Step CopyState
+abbrev pub dropping : Node → List CacheEntry → Step ClientState → Step ClientState
 dropping me entries s = record s { lines = behind_given (dropped me entries []) s.lines }
 
 abbrev pub uses_newer : Node → CopyState → ℕ → ℕ → Message → ℕ → ℕ → Step CopyState
-uses_newer me c clock place m id n = dropping me (filter (is_below_release id n) c.client.cache) (uses me (without_older c id n) clock place m)
+uses_newer me c clock place m id n =
+    sited me (without_older c id n) (dropping me (filter (is_below_release id n) c.client.cache) (guest_row me (without_older c id n).client clock place (Whole m)))
 
 -- a release below the highest seen isn't used, and the site is left
 abbrev pub by_release : Node → CopyState → ℕ → ℕ → Message → Going → Round → ℕ → Step CopyState
@@ -111,8 +111,8 @@ abbrev pub answers_to : Node → CopyState → ℕ → ℕ → Message → Optio
 answers_to me c clock place m None = uses me c clock place m
 answers_to me c clock place m (Some act) = if (same_node m.head.to me && is_awaited c.client act m.head) then answers_in me c clock place m act (round_of c act) else uses me c clock place m
 
--- ---- the location database tells an entry that is new to the table: then the volume of an act's second operand is looked up anew, unless the
--- act has begun to walk there
+-- ---- the location database tells an entry that is new to the table: then the volume of an act's second operand is looked up in the table with
+-- that entry, unless the act has begun to walk there
 
 abbrev pub without_second : Going → Going
 without_second act = record act { homes = record act.homes { second = None } }
@@ -128,11 +128,12 @@ walks_second act = is_some act.homes.first && is_location (next (without_second 
 abbrev pub forgotten : Going → Going
 forgotten act = if walks_second act then act else without_second act
 
-abbrev pub forgetting : ClientState → Seek → ClientState
-forgetting k s = record k { seeking = Some (record s { act = forgotten s.act }) }
+abbrev pub renewed : List Location → Seek → Seek
+renewed table s = record s { act = filled table (forgotten s.act) }
 
-abbrev pub filling : Step CopyState → Step CopyState
-filling s = record s { state = with_client s.state (record s.state.client { running = option_map (filled s.state.client.table) s.state.client.running }) }
+abbrev pub renewing : ClientState → Seek → Option LocEntry → ClientState
+renewing k s None = k
+renewing k s (Some e) = record k { seeking = Some (renewed (put_location e k.table) s) }
 
 abbrev pub entry_told : Carried → Option LocEntry
 entry_told (carried.Reply (tell.Location reply)) = entry_in reply
@@ -147,7 +148,7 @@ tells_new me k m s = is_sought me k s m.head m.carried && is_new_entry k.table (
 
 abbrev pub hears_by : Node → CopyState → ℕ → ℕ → Message → Option Seek → Step CopyState
 hears_by me c clock place m None = answers_to me c clock place m c.client.running
-hears_by me c clock place m (Some s) = if tells_new me c.client m s then filling (uses me (with_client c (forgetting c.client s)) clock place m) else uses me c clock place m
+hears_by me c clock place m (Some s) = if tells_new me c.client m s then uses me (with_client c (renewing c.client s (entry_told m.carried))) clock place m else uses me c clock place m
 
 -- the client `me`, given the message of this place
 unfoldable pub copy_row : Node → CopyState → ℕ → ℕ → Received → Step CopyState

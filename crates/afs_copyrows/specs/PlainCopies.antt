@@ -7,16 +7,16 @@ use Rattle.afs_num.specs.declared.location_calls.LocEntry.{LocEntry}
 use Rattle.afs_num.specs.declared.messages.Received.{Received}
 use Rattle.afs_num.specs.declared.messages.Received.TheVariants.{Whole}
 use Rattle.afs_num.specs.declared.types.Node.{Node}
-use Rattle.afs_rows.specs.ClientRow.{begin_row, guest_row, timeout_row}
+use Rattle.afs_rows.specs.ClientRow.{begin_row, guest_row, reborn, seek_timeout_row, timeout_row}
 use Rattle.afs_rows.specs.Going.{ClientState, Going, Seek}
 use Rattle.afs_rows.specs.States.{Location}
 use Rattle.afs_rows.specs.Steps.{Step}
-use Rattle.afs_copyrows.specs.CopyRow.{copy_begin_row, copy_row, copy_timeout_row, tells_new}
+use Rattle.afs_copyrows.specs.CopyRow.{copies_reborn, copy_begin_row, copy_row, copy_seek_row, copy_timeout_row, tells_new}
 use Rattle.afs_copyrows.specs.Sites.{new_copies, CopyState}
 
 -- no entry has a read-only volume
-abbrev pub KnowsNoCopies : List Location → Type 0
-KnowsNoCopies table = AllByRecursion (λ (e : LocEntry). e.read_only ≡ 0) table
+abbrev pub KnowsNoReadOnly : List Location → Type 0
+KnowsNoReadOnly table = AllByRecursion (λ (e : LocEntry). e.read_only ≡ 0) table
 
 -- it has seen no release, and is in no round
 abbrev pub plain_step : Step ClientState → Step CopyState
@@ -27,7 +27,10 @@ abbrev pub TellsNothingNew : Node → ClientState → Received → Type 0
 TellsNothingNew me k (Whole m) = (s : Seek) → k.seeking ≡ Some s → tells_new me k m s ≡ false
 TellsNothingNew me k r = ⊤
 
+-- as it begins an act, is given a message, times out a call of a server or one of the location database, and begins again
 pub record CopiesArePlain : Type 0 where
-  pub begins : (me : Node) (k : ClientState) (clock : ℕ) (act : Act) → KnowsNoCopies (begin_row me k clock act).state.table → copy_begin_row me (new_copies k) clock act ≡ plain_step (begin_row me k clock act)
-  pub hears : (me : Node) (k : ClientState) (clock place : ℕ) (r : Received) → KnowsNoCopies k.table → TellsNothingNew me k r → KnowsNoCopies (guest_row me k clock place r).state.table → copy_row me (new_copies k) clock place r ≡ plain_step (guest_row me k clock place r)
-  pub waits : (me : Node) (k : ClientState) (act : Going) → KnowsNoCopies k.table → copy_timeout_row me (new_copies k) act ≡ plain_step (timeout_row me k act)
+  pub begins : (me : Node) (k : ClientState) (clock : ℕ) (act : Act) → KnowsNoReadOnly (begin_row me k clock act).state.table → copy_begin_row me (new_copies k) clock act ≡ plain_step (begin_row me k clock act)
+  pub hears : (me : Node) (k : ClientState) (clock place : ℕ) (r : Received) → KnowsNoReadOnly k.table → TellsNothingNew me k r → KnowsNoReadOnly (guest_row me k clock place r).state.table → copy_row me (new_copies k) clock place r ≡ plain_step (guest_row me k clock place r)
+  pub waits : (me : Node) (k : ClientState) (act : Going) → KnowsNoReadOnly k.table → copy_timeout_row me (new_copies k) act ≡ plain_step (timeout_row me k act)
+  pub seeks : (me : Node) (k : ClientState) (s : Seek) → copy_seek_row me (new_copies k) s ≡ plain_step (seek_timeout_row me k s)
+  pub reborn : (table : List Location) (k : ClientState) → copies_reborn table (new_copies k) ≡ new_copies (reborn table k)

@@ -1,5 +1,5 @@
 -- What a client keeps that reads read-only volumes too, and to which of their sites its calls go.
-use Rattle.std.specs.Prelude.{ℕ, List, [], ◌∷◌, ◌++◌, Bool, not, ◌&&◌, Option, Some, None, nat_eq, nat_lt, map, filter, find, if◌then◌else◌}
+use Rattle.std.specs.Prelude.{ℕ, List, [], ◌∷◌, ◌++◌, Bool, not, ◌&&◌, Option, Some, None, nat_eq, nat_lt, map, filter, if◌then◌else◌}
 use Rattle.afs_history.specs.declared.acts.Operand.{Operand}
 use Rattle.afs_history.specs.declared.lines.Line.{Line}
 use Rattle.afs_history.specs.declared.lines.Line.TheVariants as lines
@@ -26,16 +26,16 @@ pub record Round : Type 0 where
   pub offered : Option ℕ
   pub refusal : Option Code
 
--- A client, the highest release that it has seen of each read-only volume since it last began, and the rounds of its act. A release counts
--- as seen where the reply that told it was used.
+-- A client, the highest release that it has seen of each read-only volume since it last began, and the round in which its act made its last
+-- call in such a volume. A release counts as seen where the reply that told it was used.
 pub record CopyState : Type 0 where
   pub client : ClientState
   pub seen : Table ℕ
-  pub rounds : List Round
+  pub round : Option Round
 
 -- a client that has seen no release and is in no round
 abbrev pub new_copies : ClientState → CopyState
-new_copies k = record { client = k; seen = []; rounds = [] }
+new_copies k = record { client = k; seen = []; round = None }
 
 abbrev pub with_client : CopyState → ClientState → CopyState
 with_client c k = record c { client = k }
@@ -66,24 +66,23 @@ abbrev pub entry_at : List Location → Option Operand → Option LocEntry
 entry_at table None = None
 entry_at table (Some o) = find_location table o
 
-abbrev pub is_round_of : ℕ → Round → Bool
-is_round_of id r = nat_eq r.volume id
+abbrev pub round_begun : ℕ → Option Round → Option Round
+round_begun id None = None
+round_begun id (Some r) = if nat_eq r.volume id then Some r else None
 
 abbrev pub round_or : Option Round → Option Round → Option Round
 round_or None o = o
 round_or (Some r) o = Some r
 
 -- The round that the act's first call in the volume began: its sites are those that the entry had then. Before that call a new one, where the
--- volume is the read-only one of its operand's entry. There is none where it isn't.
+-- volume is the read-only one of its operand's entry. There is none where it isn't. One round is kept: an act that went on from one volume to
+-- another makes no more calls in the first.
 abbrev pub round_in : CopyState → Going → ℕ → Option Round
-round_in c act id = round_or (find (is_round_of id) c.rounds) (round_by_entry id (entry_at c.client.table (operand_in act id)))
+round_in c act id = round_or (round_begun id c.round) (round_by_entry id (entry_at c.client.table (operand_in act id)))
 
 -- the one in whose volume the act calls
 abbrev pub round_of : CopyState → Going → Option Round
 round_of c act = round_in c act (volume_asked (call_of c.client act))
-
-abbrev pub put_round : Round → List Round → List Round
-put_round r rounds = r ∷ filter (λ (s : Round). not (is_round_of r.volume s)) rounds
 
 -- ---- the act calls the first site that it hasn't left; where it has left all, it is answered
 
@@ -115,7 +114,7 @@ leaves_all me c r ls = record { state = with_client c (ended c.client c.client.c
 
 abbrev pub goes_round : Node → CopyState → Going → Round → List ℕ → List Line → Step CopyState
 goes_round me c act r [] ls = leaves_all me c r ls
-goes_round me c act r (server ∷ others) ls = calls_site me (record c { rounds = put_round r c.rounds }) act server ls
+goes_round me c act r (server ∷ others) ls = calls_site me (record c { round = Some r }) act server ls
 
 -- behind these lines
 abbrev pub calls_round : Node → CopyState → Going → Round → List Line → Step CopyState

@@ -8,3 +8,4 @@ pub mod Placing
 pub mod Behind
 pub mod Coming
 pub mod Alone
+pub mod Leaving

@@ -131,6 +131,7 @@ of_one (drops.Older g index release) f q e h =
 of_one (drops.Volume id) f q e h = absurd cc
 of_one (drops.Server s) f q e h = absurd cc
 of_one (drops.Trusted now) f q e h = absurd cc
+of_one (drops.Below id release) f q e h = absurd cc
 
 found_under_by : (b : Bool) (f : Fid) (x e : CacheEntry) (o : Option CacheEntry) → same_fid x.fid f ≡ b → (o ≡ Some e → e.fid ≡ f) → cond b (Some x) o ≡ Some e → e.fid ≡ f
 found_under_by true f x e o t h q = let same : x ≡ e = cc in sym (ap (λ (y : CacheEntry). y.fid) same) ∙ same_fid-true x.fid f t

@@ -75,6 +75,7 @@ drops_of drops.Nothing e = false
 drops_of (drops.Fid f) e = same_fid f e.fid
 drops_of (drops.Older f index release) e = is_older f index release e
 drops_of (drops.Volume id) e = nat_eq e.fid.volume id
+drops_of (drops.Below id release) e = nat_eq e.fid.volume id && nat_lt e.release release
 drops_of (drops.Server s) e = same_node e.server s
 drops_of (drops.Trusted now) e = is_trusted now e
 
@@ -175,6 +176,10 @@ raised s v es = (s, v) ∷ remove_entry (same_slot s) es
 
 abbrev pub KeepsKeys : LruCache Slot Entry → LruCache Slot Entry → Type 0
 KeepsKeys old new = (s : Slot) → HasKey s old → HasKey s new
+
+-- a pair comes behind others, unless its entry goes
+abbrev pub with_left : Drops → Slot × Entry → List (Slot × Entry) → List (Slot × Entry)
+with_left d p es = if drops_of d (cached p) then es else es ++ p ∷ []
 
 -- ---- gifts
 

@@ -6,6 +6,7 @@ ghost use Rattle.afs_num.specs.Nodes.{IsNode};
 ghost use Rattle.afs_rows.specs.ClientRow.{find_cached, gift_of, is_trusted, put_entries, put_entry, refreshed, trusted_in};
 ghost use Rattle.afs_entries.specs.Cached.{entry_at, entry_of, evicted, fid_dropped, fid_in, is_fid, IsSound, last_fid, left, listed, made_of, slot_of, taken_by, touched, touched_all, unlisted, without, without_all};
 
+use crate::copies::copy_left;
 use crate::drops::Drops;
 use crate::gifts::Gift;
 use crate::putting::{put_alone, put_fresh};
@@ -291,6 +292,16 @@ impl Cache {
         let _count = self.entries.len();
         let fids = self.found(alloc, drops)?;
         Ok(fids)
+    }
+
+    /// A cache that has copies of the entries that don't go.
+    pub fn without(&self, alloc: Global, drops: &Drops) -> Mem<Cache>
+        ensures { IfOk result (λ c. c ≡ record self.now { entries = left drops.now self.now.entries }) }
+    {
+        Ok(Cache {
+            entries: copy_left(alloc, &self.entries, drops)?,
+            capacity: self.capacity,
+        })
     }
 
     /// The promises of the entries that are trusted.

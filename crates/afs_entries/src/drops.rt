@@ -9,13 +9,14 @@ use crate::cache::Entry;
 use afs_num::types::{Fid, Node};
 
 /// The entries that go: none; that of a fid; that of a fid, where it is of an older index or release; those of a volume;
-/// those that a server promised; or those that are trusted at this time in ticks.
+/// those of a volume that are of a lower release; those that a server promised; or those that are trusted at this time in ticks.
 #[derive(Drop)]
 pub enum Drops {
     Nothing,
     Fid(Fid),
     Older { fid: Fid, index: u32, release: u32 },
     Volume(u32),
+    Below { volume: u32, release: u32 },
     Server(Node),
     Trusted(u32),
 }
@@ -34,6 +35,7 @@ impl Drops {
                 release,
             } => *fid == *of && (entry.index < *index || entry.release < *release),
             Drops::Volume(volume) => fid.volume == *volume,
+            Drops::Below { volume, release } => fid.volume == *volume && entry.release < *release,
             Drops::Server(server) => entry.server.is(server),
             Drops::Trusted(now) => entry.is_trusted(*now),
         }

@@ -2,6 +2,7 @@
 #![tactic(auto)]
 
 mod cache;
+mod copies;
 mod drops;
 mod gifts;
 mod putting;

@@ -32,7 +32,7 @@ fn blank() -> Entry {
 }
 
 /// A key that has no place gets the last one.
-fn add_last(entries: &mut Entries, slot: Slot, entry: Entry) -> Mem<()>
+pub fn add_last(entries: &mut Entries, slot: Slot, entry: Entry) -> Mem<()>
     requires wide { entries.old.cap ≡ 18446744073709551615 }
     requires missing { lookup (same_slot slot) entries.old.entries ≡ None }
     ensures ok { OnOk result (entries.new ≡ lru_cache (entries.old.entries ++ (slot, entry) ∷ []) entries.old.cap) }

@@ -53,7 +53,7 @@ either_quiet : (t : Bool) (seats : List Seat) (a b : Step ClientState) → Quiet
 either_quiet true seats a b h k = h
 either_quiet false seats a b h k = k
 
-dropped_still : (me : Node) (es : List CacheEntry) → IsFront (dropped me es)
+pub dropped_still : (me : Node) (es : List CacheEntry) → IsFront (dropped me es)
 dropped_still me [] ls h = h
 dropped_still me (e ∷ es) ls h = dropped_still me es ls h
 

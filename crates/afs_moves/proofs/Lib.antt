@@ -8,6 +8,7 @@ pub mod ServerSends
 pub mod AdminSteps
 pub mod LocSteps
 pub mod ClientSteps
+pub mod CopySteps
 pub mod FirstVolumes
 pub mod Walk
 mod Worked

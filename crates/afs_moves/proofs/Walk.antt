@@ -13,8 +13,10 @@ use Rattle.afs_ideal.specs.Tables.{AscendsFrom}
 use Rattle.afs_adminrows.specs.AdminRow.{admin_reborn, AdminState}
 use Rattle.afs_adminrows.specs.declared.turns.Running.{Running}
 use Rattle.afs_rows.specs.Callbacks.{put}
-use Rattle.afs_rows.specs.ClientRow.{act_of, guest_row, reborn}
-use Rattle.afs_rows.specs.Going.{ClientState, Going, Seek}
+use Rattle.afs_rows.specs.ClientRow.{act_of}
+use Rattle.afs_rows.specs.Going.{Going, Seek}
+use Rattle.afs_copyrows.specs.CopyRow.{copies_reborn, copy_row}
+use Rattle.afs_copyrows.specs.Sites.{CopyState}
 use Rattle.afs_rows.specs.Hosts.{at_rest, begun_from, comes_up, crashed, ends, fails_early, fails_midway, in_boot, in_step, is_full, restarted, served, served_by, set_to_fail, set_to_stop, settled, struck, Blow, Fall, HostStep, Luck, Outcome}
 use Rattle.afs_rows.specs.LocRow.{LocState}
 use Rattle.afs_rows.specs.LocSteps.{loc_kind}
@@ -36,8 +38,8 @@ use Rattle.afs_moves.proofs.Copies.{all_more, decided_copies, placed_copies, All
 use Rattle.afs_moves.proofs.ServerSends.{back_sends, piece_sends, risen_sends, row_sends, saved_has, woken_sends, FileHas, NodeHas}
 use Rattle.afs_moves.proofs.AdminSteps as admins
 use Rattle.afs_moves.proofs.AdminSteps.{AdminQuiet}
-use Rattle.afs_moves.proofs.ClientSteps as clients
-use Rattle.afs_moves.proofs.ClientSteps.{Quiet}
+use Rattle.afs_moves.proofs.CopySteps as clients
+use Rattle.afs_moves.proofs.CopySteps.{CopyQuiet}
 use Rattle.afs_moves.proofs.LocSteps.{loc_crashed, loc_fail_set, loc_restarted as database_restarted, loc_served, loc_stop_set, LocCopies, LocQuiet}
 use Rattle.afs_moves.proofs.FirstVolumes.{first_ascends, first_serves}
 
@@ -57,7 +59,7 @@ record HostHas (h : NodeHost) : Type 0 where
 
 record CellHas (c : NodeCell) : Type 0 where
   hosts : (i : ℕ) → HostHas (c.hosts i)
-  clients : (n : ℕ) → SeatsCopy (c.clients n).seats
+  clients : (n : ℕ) → SeatsCopy (c.clients n).client.seats
   admins : (n : ℕ) → SeatsCopy (c.admins n).seats
   loc : LocCopies c.loc.state
   sent : AllCopies c.sent
@@ -221,9 +223,9 @@ woken_moved c i h = let z = woken_sends (Server i) (c.hosts i).state c.clock (h.
 
 -- ---- clients, administrators and the database
 
-client_moved : (c : NodeCell) (n : ℕ) (s : Step ClientState) → CellHas c → Quiet (c.clients n).seats s → Moved c (client_moves c n s)
+client_moved : (c : NodeCell) (n : ℕ) (s : Step CopyState) → CellHas c → CopyQuiet (c.clients n).client.seats s → Moved c (client_moves c n s)
 client_moved c n s h q = record {
-  has = record { hosts = h.hosts; clients = all_put n (λ (x : ClientState). SeatsCopy x.seats) s.state c.clients (q.seats' (h.clients n)) h.clients; admins = h.admins; loc = h.loc; sent = all_more Copies c.sent s.sent h.sent q.sent };
+  has = record { hosts = h.hosts; clients = all_put n (λ (x : CopyState). SeatsCopy x.client.seats) s.state c.clients (q.seats' (h.clients n)) h.clients; admins = h.admins; loc = h.loc; sent = all_more Copies c.sent s.sent h.sent q.sent };
   told = λ id i. still_turned id (Server i) (serves_at c id i) s.lines q.told;
   good = λ id i. still_good id (Server i) (serves_at c id i) s.lines q.told false;
 }
@@ -248,25 +250,25 @@ loc_risen c after o None h = void c h
 loc_risen c after o (Some fall) h = loc_moved c (restarted loc_kind c.loc c.clock c.count after o fall) None h (database_restarted c.loc c.clock c.count after o fall h.loc)
 
 begun_moved : (c : NodeCell) (n : ℕ) (act : Act) (o : Option Going) → CellHas c → Moved c (begun_by c n act o)
-begun_moved c n act None h = client_moved c n _ h (clients.begun_quiet (Client n) (c.clients n) c.clock act)
+begun_moved c n act None h = client_moved c n _ h (clients.copy_begun_quiet (Client n) (c.clients n) c.clock act)
 begun_moved c n act (Some other) h = void c h
 
 sought_moved : (c : NodeCell) (n : ℕ) (o : Option Seek) → CellHas c → Moved c (sought_for c n o)
 sought_moved c n None h = void c h
-sought_moved c n (Some k) h = client_moved c n _ h (clients.missed_quiet (Client n) (c.clients n) k)
+sought_moved c n (Some k) h = client_moved c n _ h (clients.copy_missed_quiet (Client n) (c.clients n) k)
 
 waited_moved : (c : NodeCell) (n : ℕ) (o : Option Going) → CellHas c → Moved c (waited_by c n o)
-waited_moved c n None h = sought_moved c n (c.clients n).seeking h
-waited_moved c n (Some act) h = client_moved c n _ h (clients.waited_quiet (Client n) (c.clients n) act)
+waited_moved c n None h = sought_moved c n (c.clients n).client.seeking h
+waited_moved c n (Some act) h = client_moved c n _ h (clients.copy_waited_quiet (Client n) (c.clients n) act)
 
 falls_moved : (c : NodeCell) (n : ℕ) → CellHas c → Moved c (client_falls c n)
 falls_moved c n h =
-    let z = client_moved c n (record { state = reborn c.handed (c.clients n); lines = lines.Crash (Client n) ∷ []; sent = [] }) h (record { told = refl; sent = tt; seats' = λ k. tt }) in
+    let z = client_moved c n (record { state = copies_reborn c.handed (c.clients n); lines = lines.Crash (Client n) ∷ []; sent = [] }) h (record { told = refl; sent = tt; seats' = λ k. tt }) in
     record { has = record { hosts = z.has.hosts; clients = z.has.clients; admins = z.has.admins; loc = z.has.loc; sent = z.has.sent }; told = z.told; good = z.good }
 
 rises_moved : (c : NodeCell) (n : ℕ) → CellHas c → Moved c (client_rises c n)
 rises_moved c n h =
-    let z = client_moved c n (record { state = c.clients n; lines = lines.Restart (Client n) (c.clients n).epoch ∷ []; sent = [] }) h (record { told = refl; sent = tt; seats' = λ k. k }) in
+    let z = client_moved c n (record { state = c.clients n; lines = lines.Restart (Client n) (c.clients n).client.epoch ∷ []; sent = [] }) h (record { told = refl; sent = tt; seats' = λ k. k }) in
     record { has = record { hosts = z.has.hosts; clients = z.has.clients; admins = z.has.admins; loc = z.has.loc; sent = z.has.sent }; told = z.told; good = z.good }
 
 admin_begun_moved : (c : NodeCell) (n : ℕ) (act : AdminAct) (o : Option Running) → CellHas c → Moved c (admin_begun c n act o)
@@ -300,7 +302,7 @@ found_sent (suc (suc n)) (x ∷ ms) m h e = found_sent (suc n) ms m h.1 e
 to_moved : (c : NodeCell) (place : ℕ) (luck : Luck) (m : Message) (n : Node) → CellHas c → Copies m → Moved c (given_to c place luck m n)
 to_moved c place luck m (Server i) h k =
     either (has_host c i) c _ _ (up_moved c i (served (node_kind (Server i)) (c.hosts i) c.clock place luck m) (c.hosts i).down h (λ up. host_served i (c.hosts i) c.clock place luck m (h.hosts i) up k)) (void c h)
-to_moved c place luck m (Client n) h k = either (is_away c n) c _ _ (void c h) (client_moved c n (guest_row (Client n) (c.clients n) c.clock place (Whole m)) h (clients.guest_quiet (Client n) (c.clients n) c.clock place m (h.clients n)))
+to_moved c place luck m (Client n) h k = either (is_away c n) c _ _ (void c h) (client_moved c n (copy_row (Client n) (c.clients n) c.clock place (Whole m)) h (clients.copy_quiet (Client n) (c.clients n) c.clock place m (h.clients n)))
 to_moved c place luck m Loc h k = loc_moved c (served loc_kind c.loc c.clock place luck m) c.loc.down h (loc_served c.loc c.clock place luck m h.loc)
 to_moved c place luck m (Admin n) h k = either (is_gone c n) c _ _ (void c h) (admin_moved c n _ h (admins.given_quiet (Admin n) (c.admins n) place m (h.admins n)))
 
@@ -324,9 +326,9 @@ ticked_moved c n h = record { has = record { hosts = h.hosts; clients = h.client
 
 usual_moved : (c : NodeCell) (x : Input) → CellHas c → Moved c (usually_moved c x)
 unfolding usually_moved
-usual_moved c (begins n act) h = either (is_away c n) c _ _ (void c h) (begun_moved c n act (act_of (c.clients n)) h)
+usual_moved c (begins n act) h = either (is_away c n) c _ _ (void c h) (begun_moved c n act (act_of (c.clients n).client) h)
 usual_moved c (gives place luck) h = at_moved c place luck (message_at c.sent place) h refl
-usual_moved c (waits n) h = either (is_away c n) c _ _ (void c h) (waited_moved c n (c.clients n).running h)
+usual_moved c (waits n) h = either (is_away c n) c _ _ (void c h) (waited_moved c n (c.clients n).client.running h)
 usual_moved c (ticks zero) h = void c h
 usual_moved c (ticks (suc n)) h = ticked_moved c (suc n) h
 usual_moved c (client_stops n) h = either (is_away c n) c _ _ (void c h) (falls_moved c n h)

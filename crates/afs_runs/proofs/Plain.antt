@@ -1,22 +1,37 @@
--- A cell without administrators, of nodes of two halves whose volume servers rest, does what the cell of their file servers does.
-use Rattle.std.specs.Prelude.{nat_eq, nat_lt, ◌<◌}
+-- A cell without administrators, of nodes of two halves whose volume servers rest, and of clients that know no read-only volumes, does what the
+-- cell of their file servers does.
+use Rattle.std.specs.Prelude.{nat_eq, nat_lt, ◌&&◌, ◌<◌}
 use Rattle.std.proofs.lemmas.Bool.{ltb-true}
-use Rattle.std.proofs.Common.{◌≡◌, ℕ, zero, suc, Bool, true, false, cond, map, List, [], ◌∷◌, ◌++◌, Option, Some, None, refl, ap, ap₂, arith, sym, subst, ◌∙◌}
+use Rattle.std.proofs.Common.{◌≡◌, ℕ, zero, suc, Bool, true, false, cond, map, List, [], ◌∷◌, ◌++◌, Option, Some, None, refl, ap, ap₂, arith, sym, subst, ◌∙◌, not, eq-eqb}
+use Rattle.afs_num.specs.declared.location_calls.LocEntry.{LocEntry}
+use Rattle.afs_num.specs.declared.messages.Carried.{Carried}
+use Rattle.afs_num.specs.declared.messages.Carried.TheVariants as carried
 use Rattle.afs_num.specs.declared.messages.Message.{Message}
+use Rattle.afs_num.specs.declared.messages.Received.TheVariants.{Whole}
+use Rattle.afs_num.specs.declared.messages.Reply.TheVariants as tell
 use Rattle.afs_num.specs.declared.types.Node.{Node}
 use Rattle.afs_num.specs.declared.types.Node.TheVariants.{Loc, Server, Client, Admin}
 use Rattle.afs_adminrows.specs.AdminRow.{AdminState}
 use Rattle.afs_history.specs.declared.acts.Act.{Act}
+use Rattle.afs_history.specs.declared.lines.Line.TheVariants as lines
 use Rattle.afs_history.specs.declared.scripts.Script.{Script}
+use Rattle.afs_history.specs.declared.scripts.VolumeLine.{VolumeLine}
 use Rattle.afs_ideal.specs.Tables.{Table}
 use Rattle.afs_ideal.specs.Volumes.{Volume}
-use Rattle.afs_rows.specs.Going.{Going, Seek}
+use Rattle.afs_copyrows.specs.CopyRow.{copy_row, entry_told, is_new_entry, tells_new}
+use Rattle.afs_copyrows.specs.PlainCopies.{plain_step, KnowsNoReadOnly}
+use Rattle.afs_copyrows.specs.Sites.{new_copies, CopyState}
+use Rattle.afs_copyrows.proofs.PlainCopies.{copies_plain}
+use Rattle.afs_rows.specs.Callbacks.{put}
+use Rattle.afs_rows.specs.ClientRow.{act_of, begin_row, guest_row, is_sought, reborn, seek_timeout_row}
+use Rattle.afs_rows.specs.Going.{ClientState, Going, Seek}
 use Rattle.afs_rows.specs.Hosts.{at_rest, crashed, in_boot, in_step, restarted, served, set_to_fail, set_to_stop, Fall, HostStep, Luck, Outcome}
 use Rattle.afs_rows.specs.LocRow.{LocState}
 use Rattle.afs_rows.specs.ServerHosts.{server_kind, timed_out, woken, ServerHost}
 use Rattle.afs_rows.specs.ServerRow.{is_client}
-use Rattle.afs_rows.specs.States.{BackCall, Seat, ServerState}
-use Rattle.afs_rows.specs.Runs.{back_timed, begins, begun_by, client_starts, client_stops, given_at, given_to, gives, has_host, is_away, loc_restarted, loc_up, message_at, moved, nothing, placed, server_armed, server_given, server_restarted, server_stopped, server_timed, server_waits, server_wakes, sets_fail, sets_stop, sought_for, start, starts_again, stops, ticks, voided, waited_by, waits, wakes, Cell, Entry, Input, Leads, Moved, RunsTo}
+use Rattle.afs_rows.specs.States.{BackCall, Location, Seat, ServerState}
+use Rattle.afs_rows.specs.Steps.{Step}
+use Rattle.afs_rows.specs.Runs.{back_timed, begins, begun_by, client_falls, client_moves, client_rises, client_starts, client_stops, counts_later, given_at, given_to, gives, has_host, is_away, loc_restarted, loc_up, location_by, locations, locations_in, message_at, moved, nothing, placed, server_armed, server_given, server_restarted, server_stopped, server_timed, server_waits, server_wakes, sets_fail, sets_stop, sought_for, start, starts_again, stops, ticks, turned, voided, waited_by, waits, wakes, Cell, Entry, Input, Leads, Moved, RunsTo}
 use Rattle.afs_volrows.specs.CellLaws.{HasOpenHosts}
 use Rattle.afs_volrows.specs.NodeHosts.{node_kind, node_timed_out, node_woken, NodeHost}
 use Rattle.afs_volrows.specs.RestingHosts.{begun_there, callers_after, ended_there, resting_host, resting_step, IsOfClient}
@@ -28,12 +43,17 @@ use Rattle.afs_law.specs.Clientele.{ServesClients}
 use Rattle.afs_law.proofs.Assembled.{run_legal}
 use Rattle.afs_law.proofs.Clientele.{cells_serve_clients}
 use Rattle.afs_law.proofs.Ends.{run_ends}
+use Rattle.afs_law.proofs.Origins.{asked_at, told_in, AskedIn}
+use Rattle.afs_law.specs.Ideal.{set_up}
+use Rattle.afs_law.specs.LocLaws.{IsToldIn}
+use Rattle.afs_law.specs.Once.{past_of}
 use Rattle.afs_runs.specs.NodeRuns.{admin_begins, admin_starts, admin_stops, admin_waits, bare_entry, node_moved, node_start, usual, usually_moved, CellInput, NodeCell, NodeLeads, NodeMoved, NodeRunsTo}
 use Rattle.afs_runs.specs.NodeRuns as nodes
 use Rattle.afs_runs.proofs.Unmade.{unmade_restarted, unmade_served, unmade_timed, unmade_woken, MakesNothing}
 use Rattle.afs_runs.specs.PlainRuns.{file_cell, file_host, plain_input, NodeRunsAreLegal, NodeRunsEndWell, PlainRunsAreFileRuns, PlainRunsBringNothing}
 
--- ---- a cell of nodes that rest is one of file servers with some nodes as its servers; these would be its administrators, if it had any
+-- ---- a cell of nodes that rest is one of file servers with some nodes as its servers, and with its clients in no round; these would be its
+-- administrators, if it had any
 
 abbrev with_nodes : (ℕ → NodeHost) → (ℕ → AdminState) → Cell → NodeCell
 with_nodes hosts admins c = record {
@@ -41,7 +61,7 @@ with_nodes hosts admins c = record {
   host_count = c.host_count;
   hosts = hosts;
   count = c.count;
-  clients = c.clients;
+  clients = λ n. new_copies (c.clients n);
   away = c.away;
   handed = c.handed;
   admin_count = 0;
@@ -76,6 +96,52 @@ either : (b : Bool) (n p : NodeMoved) (m o : Moved) → IsAlike n m → IsAlike 
 either true n p m o h k = h
 either false n p m o h k = k
 
+-- no client knows a read-only volume behind the step
+abbrev StayPlain : Moved → Type 0
+StayPlain m = (i : ℕ) → KnowsNoReadOnly (m.cell.clients i).table
+
+either_plain : (b : Bool) (n p : NodeMoved) (m o : Moved) → (StayPlain m → IsAlike n m) → (StayPlain o → IsAlike p o) → StayPlain (cond b m o) → IsAlike (cond b n p) (cond b m o)
+either_plain true n p m o h k plain = h plain
+either_plain false n p m o h k plain = k plain
+
+-- ---- clients
+
+put_copy : (b : Bool) (x y : ClientState) → cond b (new_copies x) (new_copies y) ≡ new_copies (cond b x y)
+put_copy true x y = refl
+put_copy false x y = refl
+
+put_copies : (n : ℕ) (x : ClientState) (clients : ℕ → ClientState) → put n (new_copies x) (λ (i : ℕ). new_copies (clients i)) ≡ (λ (i : ℕ). new_copies (put n x clients i))
+put_copies n x clients = λ j. λ (i : ℕ). (put_copy (nat_eq n i) x (clients i)) j
+
+-- no volume of a script is read-only
+none_by : (b : Bool) (v : VolumeLine) (ls : List Location) → KnowsNoReadOnly ls → KnowsNoReadOnly (location_by b v ls)
+none_by true v ls h = h
+none_by false v ls h = (refl, h)
+
+first_none : (vs : List VolumeLine) → KnowsNoReadOnly (locations_in vs)
+first_none [] = tt
+first_none (v ∷ vs) = none_by (counts_later v.id vs) v (locations_in vs) (first_none vs)
+
+known_none : (s : Script) (c : Cell) (past : List Entry) → AskedIn s c past → (i : ℕ) → KnowsNoReadOnly (c.clients i).table
+known_none s c past asked i = subst KnowsNoReadOnly (sym (asked.table i)) (first_none s.volumes)
+
+-- what the location database tells, each client was handed
+not_new : (s : Script) (x : Carried) → IsToldIn s x → is_new_entry (locations s) (entry_told x) ≡ false
+not_new s (carried.Call user call) w = refl
+not_new s (carried.Refusal code) w = refl
+not_new s (carried.Reply (tell.File reply)) w = refl
+not_new s (carried.Reply (tell.Volume reply)) w = refl
+not_new s (carried.Reply (tell.Location reply)) w = subst (λ (o : Option LocEntry). is_new_entry (locations s) o ≡ false) (sym w.1.0) (ap not w.1.1)
+not_new s carried.Notice w = refl
+
+module _ (s : Script) (c : Cell) (past : List Entry) (asked : AskedIn s c past) (n place : ℕ) (m : Message) (at : message_at c.sent place ≡ Some m) (q : Seek) where
+  none_by_answer : (b : Bool) → is_sought (Client n) (c.clients n) q m.head m.carried ≡ b → (b && is_new_entry (c.clients n).table (entry_told m.carried)) ≡ false
+  none_by_answer true e = subst (λ (t : List Location). is_new_entry t (entry_told m.carried) ≡ false) (sym (asked.table n)) (not_new s m.carried (told_in s c past n place m q asked at e))
+  none_by_answer false e = refl
+
+  none_new : tells_new (Client n) (c.clients n) m q ≡ false
+  none_new = none_by_answer (is_sought (Client n) (c.clients n) q m.head m.carried) refl
+
 -- no number is below 0
 below_none : (n : ℕ) (b : Bool) → nat_lt n 0 ≡ b → b ≡ false
 below_none n true h = let below : n < 0 = ltb-true n 0 h in absurd (omega (arith, below))
@@ -84,7 +150,9 @@ below_none n false h = refl
 none_below : (n : ℕ) → nat_lt n 0 ≡ false
 none_below n = below_none n (nat_lt n 0) refl
 
-module _ (hs : ℕ → NodeHost) (ads : ℕ → AdminState) (c : Cell) (rest : (i : ℕ) → RestsAs (hs i) (c.hosts i)) (open' : HasOpenHosts c) (serves : ServesClients c) where
+-- ---- each step
+
+module _ (s : Script) (past : List Entry) (hs : ℕ → NodeHost) (ads : ℕ → AdminState) (c : Cell) (rest : (i : ℕ) → RestsAs (hs i) (c.hosts i)) (open' : HasOpenHosts c) (serves : ServesClients c) (asked : AskedIn s c past) where
   -- ---- what no server does
 
   stays : (m : Moved) → m.cell.hosts ≡ c.hosts → m.entry.volumes ≡ [] → IsAlike (record { entry = m.entry; cell = with_nodes hs ads m.cell }) m
@@ -101,17 +169,51 @@ module _ (hs : ℕ → NodeHost) (ads : ℕ → AdminState) (c : Cell) (rest : (
   loc_risen after o None = void
   loc_risen after o (Some fall) = stays (loc_restarted c after o (Some fall)) refl refl
 
-  begun_alike : (n : ℕ) (act : Act) (o : Option Going) → IsAlike (nodes.begun_by (with_nodes hs ads c) n act o) (begun_by c n act o)
-  begun_alike n act None = stays (begun_by c n act None) refl refl
-  begun_alike n act (Some other) = void
+  -- ---- a client's step
+
+  client_alike : (n : ℕ) (t : Step CopyState) (p : Step ClientState) → t ≡ plain_step p → IsAlike (nodes.client_moves (with_nodes hs ads c) n t) (client_moves c n p)
+  client_alike n t p is =
+      subst (λ (u : Step CopyState). IsAlike (nodes.client_moves (with_nodes hs ads c) n u) (client_moves c n p)) (sym is)
+      (record {
+        entry = refl;
+        brings = refl;
+        resting = record { is = ap (λ (clients : ℕ → CopyState). record (with_nodes hs ads (client_moves c n p).cell) { clients = clients }) (put_copies n p.state c.clients); hosts = rest };
+      })
+
+  turned_alike : (n : ℕ) (away : Bool) (t : NodeMoved) (m : Moved) → IsAlike t m → IsAlike (nodes.turned n away t) (turned n away m)
+  turned_alike n away t m h = record {
+    entry = h.entry;
+    brings = h.brings;
+    resting = record { is = ap (λ (k : NodeCell). record k { away = put n away k.away }) h.resting.is; hosts = h.resting.hosts };
+  }
+
+  -- behind a client's own step
+  own_plain : (n : ℕ) (p : Step ClientState) → StayPlain (client_moves c n p) → KnowsNoReadOnly p.state.table
+  own_plain n p plain = subst (λ (b : Bool). KnowsNoReadOnly (cond b p.state (c.clients n)).table) (eq-eqb n n refl) (plain n)
+
+  begun_alike : (n : ℕ) (act : Act) (o : Option Going) → StayPlain (begun_by c n act o) → IsAlike (nodes.begun_by (with_nodes hs ads c) n act o) (begun_by c n act o)
+  begun_alike n act None plain = client_alike n _ _ (copies_plain.begins (Client n) (c.clients n) c.clock act (own_plain n (begin_row (Client n) (c.clients n) c.clock act) plain))
+  begun_alike n act (Some other) plain = void
 
   sought_alike : (n : ℕ) (o : Option Seek) → IsAlike (nodes.sought_for (with_nodes hs ads c) n o) (sought_for c n o)
   sought_alike n None = void
-  sought_alike n (Some k) = stays (sought_for c n (Some k)) refl refl
+  sought_alike n (Some k) = client_alike n (plain_step (seek_timeout_row (Client n) (c.clients n) k)) (seek_timeout_row (Client n) (c.clients n) k) refl
 
   waited_alike : (n : ℕ) (o : Option Going) → IsAlike (nodes.waited_by (with_nodes hs ads c) n o) (waited_by c n o)
   waited_alike n None = sought_alike n (c.clients n).seeking
-  waited_alike n (Some act) = stays (waited_by c n (Some act)) refl refl
+  waited_alike n (Some act) = client_alike n _ _ (copies_plain.waits (Client n) (c.clients n) act (known_none s c past asked n))
+
+  heard_alike : (n place : ℕ) (m : Message) → message_at c.sent place ≡ Some m → StayPlain (client_moves c n (guest_row (Client n) (c.clients n) c.clock place (Whole m))) →
+      IsAlike (nodes.client_moves (with_nodes hs ads c) n (copy_row (Client n) (new_copies (c.clients n)) c.clock place (Whole m))) (client_moves c n (guest_row (Client n) (c.clients n) c.clock place (Whole m)))
+  heard_alike n place m at plain =
+      client_alike n _ _
+      (copies_plain.hears (Client n) (c.clients n) c.clock place (Whole m) (known_none s c past asked n) (λ q z. none_new s c past asked n place m at q) (own_plain n (guest_row (Client n) (c.clients n) c.clock place (Whole m)) plain))
+
+  falls_alike : (n : ℕ) → IsAlike (nodes.client_falls (with_nodes hs ads c) n) (client_falls c n)
+  falls_alike n = turned_alike n true _ _ (client_alike n _ (record { state = reborn c.handed (c.clients n); lines = lines.Crash (Client n) ∷ []; sent = [] }) refl)
+
+  rises_alike : (n : ℕ) → IsAlike (nodes.client_rises (with_nodes hs ads c) n) (client_rises c n)
+  rises_alike n = turned_alike n false _ _ (client_alike n _ (record { state = c.clients n; lines = lines.Restart (Client n) (c.clients n).epoch ∷ []; sent = [] }) refl)
 
   -- ---- there is no administrator
 
@@ -182,15 +284,15 @@ module _ (hs : ℕ → NodeHost) (ads : ℕ → AdminState) (c : Cell) (rest : (
       (hosts_rest.served_it (Server i) (callers_at i) (c.hosts i) c.clock place luck m client ∙ ap (resting_step (callers_at i)) (hosts_plain.served_it (Server i) (c.hosts i) c.clock place luck m (open' i)))
       (unmade_served (Server i) (c.hosts i) c.clock place luck m))
 
-  to_alike : (place : ℕ) (luck : Luck) (m : Message) (n : Node) → ((i : ℕ) → n ≡ Server i → is_client m.head.from ≡ true) → IsAlike (nodes.given_to (with_nodes hs ads c) place luck m n) (given_to c place luck m n)
-  to_alike place luck m (Server i) of = either (has_host c i) _ _ _ _ (server_alike i place luck m (of i refl)) void
-  to_alike place luck m (Client n) of = either (is_away c n) _ _ _ _ void (stays _ refl refl)
-  to_alike place luck m Loc of = loc_alike _ c.loc.down
-  to_alike place luck m (Admin n) of = gone_alike n _
+  to_alike : (place : ℕ) (luck : Luck) (m : Message) (n : Node) → message_at c.sent place ≡ Some m → ((i : ℕ) → n ≡ Server i → is_client m.head.from ≡ true) → StayPlain (given_to c place luck m n) → IsAlike (nodes.given_to (with_nodes hs ads c) place luck m n) (given_to c place luck m n)
+  to_alike place luck m (Server i) at of plain = either (has_host c i) _ _ _ _ (server_alike i place luck m (of i refl)) void
+  to_alike place luck m (Client n) at of plain = either_plain (is_away c n) _ _ _ _ (λ stay. void) (heard_alike n place m at) plain
+  to_alike place luck m Loc at of plain = loc_alike _ c.loc.down
+  to_alike place luck m (Admin n) at of plain = gone_alike n _
 
-  at_alike : (place : ℕ) (luck : Luck) (o : Option Message) → message_at c.sent place ≡ o → IsAlike (nodes.given_at (with_nodes hs ads c) place luck o) (given_at c place luck o)
-  at_alike place luck None is = void
-  at_alike place luck (Some m) is = to_alike place luck m m.head.to (λ i to. serves.given i place m is to)
+  at_alike : (place : ℕ) (luck : Luck) (o : Option Message) → message_at c.sent place ≡ o → StayPlain (given_at c place luck o) → IsAlike (nodes.given_at (with_nodes hs ads c) place luck o) (given_at c place luck o)
+  at_alike place luck None is plain = void
+  at_alike place luck (Some m) is plain = to_alike place luck m m.head.to is (λ i to. serves.given i place m is to) plain
 
   -- ---- no message
 
@@ -254,39 +356,44 @@ module _ (hs : ℕ → NodeHost) (ads : ℕ → AdminState) (c : Cell) (rest : (
 
   -- ---- each input
 
-  usually_alike : (x : Input) → IsAlike (usually_moved (with_nodes hs ads c) x) (moved c x)
+  usually_alike : (x : Input) → StayPlain (moved c x) → IsAlike (usually_moved (with_nodes hs ads c) x) (moved c x)
   unfolding moved usually_moved
-  usually_alike (begins n act) = either (is_away c n) _ _ _ _ void (begun_alike n act _)
-  usually_alike (gives place luck) = at_alike place luck (message_at c.sent place) refl
-  usually_alike (waits n) = either (is_away c n) _ _ _ _ void (waited_alike n (c.clients n).running)
-  usually_alike (ticks zero) = void
-  usually_alike (ticks (suc n)) = stays _ refl refl
-  usually_alike (client_stops n) = either (is_away c n) _ _ _ _ void (stays _ refl refl)
-  usually_alike (client_starts n) = either (c.away n) _ _ _ _ (stays _ refl refl) void
-  usually_alike (stops zero) = loc_alike _ c.loc.down
-  usually_alike (stops (suc i)) = either (has_host c (suc i)) _ _ _ _ (stop_alike (suc i)) void
-  usually_alike (starts_again zero after o) = loc_risen after o c.loc.down
-  usually_alike (starts_again (suc i) after o) = either (has_host c (suc i)) _ _ _ _ (risen_alike (suc i) after o) void
-  usually_alike (sets_stop zero calls pick) = loc_alike _ c.loc.down
-  usually_alike (sets_stop (suc i) calls pick) = either (has_host c (suc i)) _ _ _ _ (set_stop_alike (suc i) calls pick) void
-  usually_alike (sets_fail zero call) = loc_alike _ c.loc.down
-  usually_alike (sets_fail (suc i) call) = either (has_host c (suc i)) _ _ _ _ (set_fail_alike (suc i) call) void
-  usually_alike (server_waits i n) = either (has_host c i) _ _ _ _ (timed_alike i n) void
-  usually_alike (wakes i) = either (has_host c i) _ _ _ _ (woken_alike i) void
-  usually_alike nothing = void
+  usually_alike (begins n act) plain = either_plain (is_away c n) _ _ _ _ (λ stay. void) (begun_alike n act (act_of (c.clients n))) plain
+  usually_alike (gives place luck) plain = at_alike place luck (message_at c.sent place) refl plain
+  usually_alike (waits n) plain = either (is_away c n) _ _ _ _ void (waited_alike n (c.clients n).running)
+  usually_alike (ticks zero) plain = void
+  usually_alike (ticks (suc n)) plain = stays _ refl refl
+  usually_alike (client_stops n) plain = either (is_away c n) _ _ _ _ void (falls_alike n)
+  usually_alike (client_starts n) plain = either (c.away n) _ _ _ _ (rises_alike n) void
+  usually_alike (stops zero) plain = loc_alike _ c.loc.down
+  usually_alike (stops (suc i)) plain = either (has_host c (suc i)) _ _ _ _ (stop_alike (suc i)) void
+  usually_alike (starts_again zero after o) plain = loc_risen after o c.loc.down
+  usually_alike (starts_again (suc i) after o) plain = either (has_host c (suc i)) _ _ _ _ (risen_alike (suc i) after o) void
+  usually_alike (sets_stop zero calls pick) plain = loc_alike _ c.loc.down
+  usually_alike (sets_stop (suc i) calls pick) plain = either (has_host c (suc i)) _ _ _ _ (set_stop_alike (suc i) calls pick) void
+  usually_alike (sets_fail zero call) plain = loc_alike _ c.loc.down
+  usually_alike (sets_fail (suc i) call) plain = either (has_host c (suc i)) _ _ _ _ (set_fail_alike (suc i) call) void
+  usually_alike (server_waits i n) plain = either (has_host c i) _ _ _ _ (timed_alike i n) void
+  usually_alike (wakes i) plain = either (has_host c i) _ _ _ _ (woken_alike i) void
+  usually_alike nothing plain = void
 
-  moves_alike : (x : CellInput) → IsAlike (node_moved (with_nodes hs ads c) x) (moved c (plain_input x))
+  moves_alike : (x : CellInput) → StayPlain (moved c (plain_input x)) → IsAlike (node_moved (with_nodes hs ads c) x) (moved c (plain_input x))
   unfolding moved
-  moves_alike (usual x) = usually_alike x
-  moves_alike (admin_begins n act) = gone_alike n _
-  moves_alike (admin_waits n) = gone_alike n _
-  moves_alike (admin_stops n) = gone_alike n _
-  moves_alike (admin_starts n) = void
+  moves_alike (usual x) plain = usually_alike x plain
+  moves_alike (admin_begins n act) plain = gone_alike n _
+  moves_alike (admin_waits n) plain = gone_alike n _
+  moves_alike (admin_stops n) plain = gone_alike n _
+  moves_alike (admin_starts n) plain = void
 
 -- ---- a run
 
-alike : (n : NodeCell) (c : Cell) (x : CellInput) → IsResting n c → HasOpenHosts c → ServesClients c → IsAlike (node_moved n x) (moved c (plain_input x))
-alike n c x resting open' serves = subst (λ (m : NodeCell). IsAlike (node_moved m x) (moved c (plain_input x))) (sym resting.is) (moves_alike n.hosts n.admins c resting.hosts open' serves x)
+alike : (s : Script) (past : List Entry) (n : NodeCell) (c : Cell) (x : CellInput) → IsResting n c → HasOpenHosts c → ServesClients c → AskedIn s c past → StayPlain (moved c (plain_input x)) → IsAlike (node_moved n x) (moved c (plain_input x))
+alike s past n c x resting open' serves asked plain =
+    subst (λ (m : NodeCell). IsAlike (node_moved m x) (moved c (plain_input x))) (sym resting.is) (moves_alike s past n.hosts n.admins c resting.hosts open' serves asked x plain)
+
+-- behind any run
+known_of : (s : Script) (inputs : List Input) (history : List Entry) (c : Cell) → Leads (start s) inputs history c → AskedIn s c (past_of (set_up s ∷ []) history)
+known_of s inputs history c led = (asked_at s history c (record { inputs = inputs; leads = led })).1
 
 -- one input more
 leads_behind : (c : Cell) (xs : List Input) (es : List Entry) (end : Cell) (x : Input) → Leads c xs es end → Leads c (xs ++ x ∷ []) (es ++ (moved end x).entry ∷ []) (moved end x).cell
@@ -310,8 +417,13 @@ go_on s before past c n [] [] end led resting is = record { cell = c; leads = re
 go_on s before past c n [] (e ∷ es) end led resting h = absurd h
 go_on s before past c n (x ∷ xs) [] end led resting h = absurd h
 go_on s before past c n (x ∷ xs) (e ∷ es) end led resting h =
-    let one = alike n c x resting (cells_open.runs s before past c led) (cells_serve_clients s past c (record { inputs = before; leads = led })) in
-    let more = go_on s (before ++ plain_input x ∷ []) (past ++ (moved c (plain_input x)).entry ∷ []) (moved c (plain_input x)).cell (node_moved n x).cell xs es end (leads_behind (start s) before past c (plain_input x) led) one.resting h.1 in
+    let inputs = before ++ plain_input x ∷ [] in
+    let entries = past ++ (moved c (plain_input x)).entry ∷ [] in
+    let next = (moved c (plain_input x)).cell in
+    let leads = leads_behind (start s) before past c (plain_input x) led in
+    let plain = known_none s next (past_of (set_up s ∷ []) entries) (known_of s inputs entries next leads) in
+    let one = alike s (past_of (set_up s ∷ []) past) n c x resting (cells_open.runs s before past c led) (cells_serve_clients s past c (record { inputs = before; leads = led })) (known_of s before past c led) plain in
+    let more = go_on s inputs entries next (node_moved n x).cell xs es end leads one.resting h.1 in
     record { cell = more.cell; leads = (h.0 ∙ one.entry, more.leads); brings = ap₂ (λ (y : Entry) (ys : List Entry). y ∷ ys) (is_bare e (ap (λ (y : Entry). y.volumes) (h.0 ∙ one.entry) ∙ one.brings)) more.brings; resting = more.resting }
 
 -- at the set-up of a script that has no administrators
@@ -328,6 +440,7 @@ plain_runs s inputs history end none leads =
     record {
       leads = subst (λ (c : Cell). Leads (start s) (map plain_input inputs) history c) is all.leads;
       rests = λ i. subst (λ (c : Cell). RestsAs (end.hosts i) (c.hosts i)) is (all.resting.hosts i);
+      plain = λ i. ap (λ (k : NodeCell). k.clients i) all.resting.is ∙ sym (ap (λ (k : NodeCell). new_copies (k.clients i).client) all.resting.is);
     }
 
 pub plain_runs_bring : PlainRunsBringNothing

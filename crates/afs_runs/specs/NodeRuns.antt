@@ -16,8 +16,10 @@ use Rattle.afs_records.specs.Durable.{Stored}
 use Rattle.afs_adminrows.specs.AdminRow.{admin_begin_row, admin_reborn, admin_row, admin_timeout_row, new_admin, AdminState}
 use Rattle.afs_adminrows.specs.declared.turns.Running.{Running}
 use Rattle.afs_rows.specs.Callbacks.{put}
-use Rattle.afs_rows.specs.ClientRow.{act_of, begin_row, guest_row, reborn, seek_timeout_row, timeout_row}
-use Rattle.afs_rows.specs.Going.{ClientState, Going, Seek}
+use Rattle.afs_copyrows.specs.CopyRow.{copies_reborn, copy_begin_row, copy_row, copy_seek_row, copy_timeout_row}
+use Rattle.afs_copyrows.specs.Sites.{new_copies, CopyState}
+use Rattle.afs_rows.specs.ClientRow.{act_of}
+use Rattle.afs_rows.specs.Going.{Going, Seek}
 use Rattle.afs_rows.specs.Hosts.{crashed, restarted, served, set_to_fail, set_to_stop, unarmed, Fall, HostStep, Luck, Outcome}
 use Rattle.afs_rows.specs.LocRow.{LocState}
 use Rattle.afs_rows.specs.LocSteps.{loc_kind, LocHost}
@@ -35,7 +37,7 @@ pub record NodeCell : Type 0 where
   pub host_count : ℕ
   pub hosts : ℕ → NodeHost
   pub count : ℕ
-  pub clients : ℕ → ClientState
+  pub clients : ℕ → CopyState
   pub away : ℕ → Bool
   pub handed : List Location
   pub admin_count : ℕ
@@ -134,7 +136,7 @@ loc_restarted c after o (Some fall) = loc_placed c (restarted loc_kind c.loc c.c
 -- ---- clients
 
 -- the cell after this step of its client of this number, and the entry of that
-abbrev pub client_moves : NodeCell → ℕ → Step ClientState → NodeMoved
+abbrev pub client_moves : NodeCell → ℕ → Step CopyState → NodeMoved
 client_moves c n s = record {
   entry = record { actor = actors.Node (Client n); lines = s.lines; sent = s.sent; volumes = [] };
   cell = record c { clients = put n s.state c.clients; sent = c.sent ++ s.sent };
@@ -146,26 +148,26 @@ is_away c n = not (has_client c.count n) || c.away n
 
 -- an act begins where none is running
 abbrev pub begun_by : NodeCell → ℕ → Act → Option Going → NodeMoved
-begun_by c n act None = client_moves c n (begin_row (Client n) (c.clients n) c.clock act)
+begun_by c n act None = client_moves c n (copy_begin_row (Client n) (c.clients n) c.clock act)
 begun_by c n act (Some other) = voided c
 
 abbrev pub sought_for : NodeCell → ℕ → Option Seek → NodeMoved
 sought_for c n None = voided c
-sought_for c n (Some k) = client_moves c n (seek_timeout_row (Client n) (c.clients n) k)
+sought_for c n (Some k) = client_moves c n (copy_seek_row (Client n) (c.clients n) k)
 
 abbrev pub waited_by : NodeCell → ℕ → Option Going → NodeMoved
-waited_by c n None = sought_for c n (c.clients n).seeking
-waited_by c n (Some act) = client_moves c n (timeout_row (Client n) (c.clients n) act)
+waited_by c n None = sought_for c n (c.clients n).client.seeking
+waited_by c n (Some act) = client_moves c n (copy_timeout_row (Client n) (c.clients n) act)
 
 -- a client's step after which it is down, or up
 abbrev pub turned : ℕ → Bool → NodeMoved → NodeMoved
 turned n away m = record { entry = m.entry; cell = record m.cell { away = put n away m.cell.away } }
 
 abbrev pub client_falls : NodeCell → ℕ → NodeMoved
-client_falls c n = turned n true (client_moves c n (record { state = reborn c.handed (c.clients n); lines = lines.Crash (Client n) ∷ []; sent = [] }))
+client_falls c n = turned n true (client_moves c n (record { state = copies_reborn c.handed (c.clients n); lines = lines.Crash (Client n) ∷ []; sent = [] }))
 
 abbrev pub client_rises : NodeCell → ℕ → NodeMoved
-client_rises c n = turned n false (client_moves c n (record { state = c.clients n; lines = lines.Restart (Client n) (c.clients n).epoch ∷ []; sent = [] }))
+client_rises c n = turned n false (client_moves c n (record { state = c.clients n; lines = lines.Restart (Client n) (c.clients n).client.epoch ∷ []; sent = [] }))
 
 -- ---- administrators
 
@@ -203,7 +205,7 @@ admin_rises c n = admin_turned n false (admin_moves c n (record { state = c.admi
 
 abbrev pub given_to : NodeCell → ℕ → Luck → Message → Node → NodeMoved
 given_to c place luck m (Server i) = if_host c i (server_up c i (served (node_kind (Server i)) (c.hosts i) c.clock place luck m) (c.hosts i).down)
-given_to c place luck m (Client n) = cond (is_away c n) (voided c) (client_moves c n (guest_row (Client n) (c.clients n) c.clock place (Whole m)))
+given_to c place luck m (Client n) = cond (is_away c n) (voided c) (client_moves c n (copy_row (Client n) (c.clients n) c.clock place (Whole m)))
 given_to c place luck m Loc = loc_up c (served loc_kind c.loc c.clock place luck m) c.loc.down
 given_to c place luck m (Admin n) = cond (is_gone c n) (voided c) (admin_moves c n (admin_row (Admin n) (c.admins n) place (Whole m)))
 
@@ -217,9 +219,9 @@ abbrev pub ticked : NodeCell → ℕ → NodeMoved
 ticked c n = record { entry = record { actor = actors.Clock; lines = lines.Tick n ∷ []; sent = []; volumes = [] }; cell = record c { clock = c.clock + n } }
 
 unfoldable pub usually_moved : NodeCell → Input → NodeMoved
-usually_moved c (begins n act) = cond (is_away c n) (voided c) (begun_by c n act (act_of (c.clients n)))
+usually_moved c (begins n act) = cond (is_away c n) (voided c) (begun_by c n act (act_of (c.clients n).client))
 usually_moved c (gives place luck) = given_at c place luck (message_at c.sent place)
-usually_moved c (waits n) = cond (is_away c n) (voided c) (waited_by c n (c.clients n).running)
+usually_moved c (waits n) = cond (is_away c n) (voided c) (waited_by c n (c.clients n).client.running)
 usually_moved c (ticks zero) = voided c
 usually_moved c (ticks (suc n)) = ticked c (suc n)
 usually_moved c (client_stops n) = cond (is_away c n) (voided c) (client_falls c n)
@@ -265,7 +267,7 @@ node_start s = record {
   host_count = s.servers;
   hosts = first_node s;
   count = s.clients;
-  clients = first_client s;
+  clients = λ n. new_copies (first_client s n);
   away = λ n. false;
   handed = locations s;
   admin_count = s.admins;
@@ -275,8 +277,7 @@ node_start s = record {
   clock = 0;
 }
 
--- The history is a run of the script, which ends in this cell. Clients don't choose among the sites of a read-only volume yet, which only acts
--- of administrators make.
+-- the history is a run of the script, which ends in this cell
 pub record NodeRunsTo (history : List Entry) (script : Script) (end : NodeCell) : Type 0 where
   pub inputs : List CellInput
   pub leads : NodeLeads (node_start script) inputs history end

@@ -1,7 +1,8 @@
 -- What the cell of nodes of two halves has to do with that of file servers alone, where it has no administrators: its servers' callers are
--- clients then.
+-- clients then, and no volume is read-only.
 use Rattle.std.specs.Prelude.{◌≡◌, ℕ, List, map}
 use Rattle.afs_history.specs.declared.scripts.Script.{Script}
+use Rattle.afs_copyrows.specs.Sites.{new_copies}
 use Rattle.afs_law.specs.Cells.{IsOfCell}
 use Rattle.afs_law.specs.Laws.{EndsWell}
 use Rattle.afs_law.specs.Legal.{Legal}
@@ -17,14 +18,14 @@ use Rattle.afs_runs.specs.NodeRuns.{bare_entry, node_start, usual, CellInput, No
 abbrev pub file_host : NodeHost → ServerHost
 file_host n = record { state = n.state.file; down = n.down; armed = n.armed }
 
--- the cell of its file servers
+-- the cell of its file servers, with clients that know no read-only volumes
 abbrev pub file_cell : NodeCell → Cell
 file_cell c = record {
   loc = c.loc;
   host_count = c.host_count;
   hosts = λ i. file_host (c.hosts i);
   count = c.count;
-  clients = c.clients;
+  clients = λ i. (c.clients i).client;
   away = c.away;
   handed = c.handed;
   sent = c.sent;
@@ -40,10 +41,12 @@ abbrev pub plain_input : CellInput → Input
 plain_input (usual x) = x
 plain_input x = nothing
 
--- a run of it is a run of the cell of file servers, by these inputs and with the same history, and all its volume servers rest
+-- A run of it is a run of the cell of file servers, by these inputs and with the same history. All its volume servers rest, and its clients have
+-- seen no release, and are in no round.
 pub record IsFileRun (s : Script) (inputs : List CellInput) (history : List Entry) (end : NodeCell) : Type 0 where
   pub leads : Leads (files.start s) (map plain_input inputs) history (file_cell end)
   pub rests : (i : ℕ) → Rests (end.hosts i)
+  pub plain : (i : ℕ) → end.clients i ≡ new_copies (end.clients i).client
 
 abbrev pub PlainRunsAreFileRuns : Type 0
 PlainRunsAreFileRuns = (s : Script) (inputs : List CellInput) (history : List Entry) (end : NodeCell) → s.admins ≡ 0 → NodeLeads (node_start s) inputs history end → IsFileRun s inputs history end

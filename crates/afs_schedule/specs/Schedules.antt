@@ -84,7 +84,7 @@ is_idle (Some act) = false
 -- a client that is up and idle begins its next act; else nothing happens
 abbrev pub act_input : NodeCell → ℕ → Option Act → Input
 act_input c n None = nothing
-act_input c n (Some act) = if not (is_away c n) && is_idle (act_of (c.clients n)) then begins n act else nothing
+act_input c n (Some act) = if not (is_away c n) && is_idle (act_of (c.clients n).client) then begins n act else nothing
 
 -- only the call to this node times out
 abbrev pub timeout_input : ClientState → ℕ → Node → Input
@@ -130,7 +130,7 @@ IsInput t (events.Act (Admin n)) x = x ≡ admin_act_input t.cell n (admin_act (
 IsInput t (events.Act node) x = x ≡ usual nothing
 IsInput t (events.Deliver place) x = (luck : Luck) × ((x ≡ usual (gives place luck)) × IsLuck luck)
 IsInput t events.Drain x = ⊥
-IsInput t (events.Timeout (Client n) callee) x = x ≡ usual (timeout_input (t.cell.clients n) n callee)
+IsInput t (events.Timeout (Client n) callee) x = x ≡ usual (timeout_input (t.cell.clients n).client n callee)
 IsInput t (events.Timeout (Admin n) callee) x = x ≡ admin_timeout_input (t.cell.admins n) n callee
 IsInput t (events.Timeout (Server i) callee) x = x ≡ usual (server_waits i callee)
 IsInput t (events.Timeout Loc callee) x = x ≡ usual nothing

@@ -11,6 +11,6 @@ pub returns : goal.returns
 returns c =
     let old = c.args.self.now in
     let told = c.no_lines-lines.result in
-    plan_taken (λ (d : ClientState) (front : List Line → List Line). ends_step old.node d d.cache front c.args.code) (λ (place : ℕ). answers_step old.node old.state place c.args.code)
-    told old.state c.in_ok-plan.plan old c.follow.new.self c.follow.result old.state.cache old.state.busy old.state.moved c.in_ok-plan.ensures.plan c.follow.ensures.node c.follow.ensures.state c.follow.ensures.outs
-    (λ place. ends_alone old.node old.state old.state.cache place told c.args.code c.no_lines-lines.ensures)
+    plan_taken (λ (d : ClientState) (front : List Line → List Line). ends_step old.node d d.cache front c.args.code) (λ (place : ℕ). answers_step old.node old.state.client place c.args.code)
+    told c.in_ok-plan.plan old c.follow.new.self c.follow.result old.state.client.cache old.state.client.busy old.state.client.moved c.in_ok-plan.ensures.plan c.follow.ensures.node c.follow.ensures.state c.follow.ensures.outs
+    (λ place. ends_alone old.node old.state.client old.state.client.cache place told c.args.code c.no_lines-lines.ensures)

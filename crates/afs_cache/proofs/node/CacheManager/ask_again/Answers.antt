@@ -5,5 +5,4 @@ use Rattle.afs_cache.proofs.node.CacheManager.ask_again.Goals as goal
 
 pub returns : goal.returns
 returns c =
-    let old = c.args.self.now in
-    again_taken old.node old.state c.args.boot c.sought.result.now old c.note_database.new.self c.in_ok-outs.outs c.sought.ensures c.in_ok-note_database.ensures.ok c.in_ok-outs.ensures.lines c.in_ok-outs.ensures.sent
+    again_taken c.args.self.now c.note_database.new.self c.args.boot c.sought.result.now c.in_ok-outs.outs c.sought.ensures c.in_ok-note_database.ensures.ok c.in_ok-outs.ensures.lines c.in_ok-outs.ensures.sent

@@ -11,4 +11,4 @@ pub returns : goal.returns
 returns c =
     let h = c.in_ok-outs.ensures in
     let k = c.lose.ensures in
-    breaks_by c.args.self.now c.reply.new.self c.lose.new.self c.args.head.now (map (drop_line c.args.self.now.node) c.args.fids.now) c.in_ok-lines.lines (done replies.CallBack) c.done.result (c.args.fids.now) (names_act c.args.self.now.state c.args.fids.now c.args.self.now.state.running) c.is_named-is_named.result (unlisted c.args.fids.now c.args.self.now.state.cache) c.in_ok-outs.outs h c.in_ok-lines.ensures c.done.ensures c.is_named-is_named.ensures refl k
+    breaks_by c.args.self.now c.reply.new.self c.lose.new.self c.args.head.now (map (drop_line c.args.self.now.node) c.args.fids.now) c.in_ok-lines.lines (done replies.CallBack) c.done.result (c.args.fids.now) (names_act c.args.self.now.state.client c.args.fids.now c.args.self.now.state.client.running) c.is_named-is_named.result (unlisted c.args.fids.now c.args.self.now.state.client.cache) c.in_ok-outs.outs h c.in_ok-lines.ensures c.done.ensures c.is_named-is_named.ensures refl k

@@ -1,23 +1,10 @@
-use Rattle.std.proofs.Common.{◌≡◌, ℕ, List, [], ◌∷◌, ◌++◌, Some, None, true, false, ap, map, filter, sym, ◌∙◌}
-use Rattle.afs_rows.specs.Going.{ClientState, Going}
-use Rattle.afs_history.specs.declared.lines.Line.{Line}
-use Rattle.afs_history.specs.declared.lines.Line.TheVariants as lines
-use Rattle.afs_rows.specs.ClientRow.{calls_again, calls_step}
-use Rattle.afs_cache.specs.Managing.{by_act, by_call}
-use Rattle.afs_cache.proofs.Planning.{plan_taken}
-use Rattle.afs_cache.proofs.Replying.{again_as, idle_act}
+use Rattle.std.proofs.Common.{◌≡◌, ℕ}
+use Rattle.afs_rows.specs.ClientRow.{calls_again}
+use Rattle.afs_cache.specs.Managing.{by_act}
+use Rattle.afs_cache.proofs.Placing.{told_none}
 use Rattle.afs_cache.proofs.node.CacheManager.call_again.Goals as goal
-
-pub returns-in_default : goal.returns-in_default
-returns-in_default c =
-    let old = c.args.self.now in
-    idle_act old.state (calls_again old.node old.state) old old c.ignore.result c.in_default.ensures c.ignore.ensures.takes
 
 pub returns : goal.returns
 returns c =
     let old = c.args.self.now in
-    let asked = c.in-Some.asked.now in
-    let told = c.no_lines-lines.result in
-    plan_taken (λ (d : ClientState) (front : List Line → List Line). calls_step old.node (record d { gifts = asked.gifts }) asked.going front) (λ (place : ℕ). by_act old.state place (calls_again old.node old.state place) old.state.running)
-    told old.state c.in_ok-plan.plan old c.follow.new.self c.follow.result old.state.cache old.state.busy old.state.moved c.in_ok-plan.ensures.plan c.follow.ensures.node c.follow.ensures.state c.follow.ensures.outs
-    (λ place. again_as old.node old.state place asked told c.in-Some.ensures c.no_lines-lines.ensures)
+    told_none (λ (place : ℕ). by_act old.state.client place (calls_again old.node old.state.client place) old.state.client.running) c.no_lines-lines.result old c.call_again_behind.new.self c.call_again_behind.result c.no_lines-lines.ensures c.call_again_behind.ensures

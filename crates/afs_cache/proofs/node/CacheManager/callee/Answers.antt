@@ -1,8 +1,8 @@
 use Rattle.std.proofs.Common.{subst, sym}
 use Rattle.std.specs.List.{All}
 use Rattle.afs_num.specs.Nodes.{IsNode}
-use Rattle.afs_cache.specs.Asking.{IsGift}
-use Rattle.afs_cache.proofs.Calling.{first_is_node}
+use Rattle.afs_asking.specs.Asking.{IsGift}
+use Rattle.afs_asking.proofs.Calling.{first_is_node}
 use Rattle.afs_cache.proofs.node.CacheManager.callee.Goals as goal
 
 pub returns-then-gives_back-clause-node : goal.returns-then-gives_back-clause-node

@@ -5,7 +5,8 @@ use Rattle.afs_model.specs.Steps.{NodeState}
 use Rattle.afs_rows.specs.Going.{ClientState}
 use Rattle.afs_rows.specs.ClientRow.{dropped, ends_step}
 use Rattle.afs_entries.specs.Cached.{drops_of, left, unlisted}
-use Rattle.afs_cache.specs.Acting.{but_for, followed}
+use Rattle.afs_copyrows.specs.Sites.{CopyState}
+use Rattle.afs_cache.specs.Acting.{but_for, but_for_these, followed}
 use Rattle.afs_cache.proofs.Dropping.{changed_view, ends_dropped, plan_moves}
 use Rattle.afs_cache.proofs.node.CacheManager.end_dropping.Goals as goal
 
@@ -14,11 +15,11 @@ returns c =
     let old = c.args.self.now in
     let drops = c.args.drops.now in
     let x = c.in_ok-fids.field-0 in
-    let cache = unlisted x.fids.items old.state.cache in
+    let cache = unlisted x.fids.items old.state.client.cache in
     plan_moves (λ (d : ClientState) (front : List Line → List Line). ends_step old.node d d.cache front c.args.code)
-    (λ (front : List Line → List Line). ends_step old.node old.state (left drops old.state.cache) (λ (ls : List Line). front (dropped old.node (filter (drops_of drops) old.state.cache) ls)) c.args.code)
-    c.args.lines x.lines old.state c.in_ok-plan.plan old c.follow.new.self c.follow.result cache old.state.busy old.state.moved
-    c.in_ok-plan.ensures.plan (c.follow.ensures.node ∙ ap (λ (s : NodeState ClientState). s.node) c.self.view_is)
-    (c.follow.ensures.state ∙ ap (λ (s : ClientState). followed s c.in_ok-plan.plan)
-    (changed_view (unlisted c.deref.result.now) _ old c.drop_all.new.self c.self.view_is c.drop_all.ensures ∙ ap (λ (fs : List Fid). but_for old.state (unlisted fs old.state.cache) old.state.busy old.state.moved) c.deref.ensures.value))
-    c.follow.ensures.outs (λ (first : List Line). ends_dropped old.node old.state drops c.args.lines first x c.args.code c.in_ok-fids.ensures)
+    (λ (front : List Line → List Line). ends_step old.node old.state.client (left drops old.state.client.cache) (λ (ls : List Line). front (dropped old.node (filter (drops_of drops) old.state.client.cache) ls)) c.args.code)
+    c.args.lines x.lines c.in_ok-plan.plan old c.follow.new.self c.follow.result cache old.state.client.busy old.state.client.moved
+    c.in_ok-plan.ensures.plan (c.follow.ensures.node ∙ ap (λ (s : NodeState CopyState). s.node) c.self.view_is)
+    (c.follow.ensures.state ∙ ap (λ (s : CopyState). followed s c.in_ok-plan.plan)
+    (changed_view (unlisted c.deref.result.now) _ old c.drop_all.new.self c.self.view_is c.drop_all.ensures ∙ ap (λ (fs : List Fid). but_for_these old.state (unlisted fs old.state.client.cache) old.state.client.busy old.state.client.moved) c.deref.ensures.value))
+    c.follow.ensures.outs (λ (first : List Line). ends_dropped old.node old.state.client drops c.args.lines first x c.args.code c.in_ok-fids.ensures)

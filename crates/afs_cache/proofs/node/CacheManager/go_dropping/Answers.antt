@@ -5,7 +5,8 @@ use Rattle.afs_model.specs.Steps.{NodeState}
 use Rattle.afs_rows.specs.Going.{ClientState}
 use Rattle.afs_rows.specs.ClientRow.{dropped, goes_on, stays}
 use Rattle.afs_entries.specs.Cached.{drops_of, left, unlisted}
-use Rattle.afs_cache.specs.Acting.{but_for, followed}
+use Rattle.afs_copyrows.specs.Sites.{CopyState}
+use Rattle.afs_cache.specs.Acting.{but_for, but_for_these, followed}
 use Rattle.afs_cache.proofs.Dropping.{changed_view, goes_dropped, plan_moves}
 use Rattle.afs_cache.proofs.node.CacheManager.go_dropping.Goals as goal
 
@@ -15,11 +16,11 @@ returns c =
     let drops = c.args.drops.now in
     let act = c.args.seen.going in
     let x = c.in_ok-fids.field-0 in
-    let cache = unlisted x.fids.items old.state.cache in
+    let cache = unlisted x.fids.items old.state.client.cache in
     plan_moves (λ (d : ClientState) (front : List Line → List Line). goes_on old.node d front (stays act d.cache))
-    (λ (front : List Line → List Line). goes_on old.node old.state (λ (ls : List Line). front (dropped old.node (filter (drops_of drops) old.state.cache) ls)) (stays act (left drops old.state.cache)))
-    c.args.seen.lines x.lines old.state c.in_ok-plan.plan old c.follow.new.self c.follow.result cache old.state.busy old.state.moved
-    c.in_ok-plan.ensures.plan (c.follow.ensures.node ∙ ap (λ (s : NodeState ClientState). s.node) c.self.view_is)
-    (c.follow.ensures.state ∙ ap (λ (s : ClientState). followed s c.in_ok-plan.plan)
-    (changed_view (unlisted c.deref.result.now) _ old c.drop_all.new.self c.self.view_is c.drop_all.ensures ∙ ap (λ (fs : List Fid). but_for old.state (unlisted fs old.state.cache) old.state.busy old.state.moved) c.deref.ensures.value))
-    c.follow.ensures.outs (λ (first : List Line). goes_dropped old.node old.state drops c.args.seen.lines first x act c.in_ok-fids.ensures)
+    (λ (front : List Line → List Line). goes_on old.node old.state.client (λ (ls : List Line). front (dropped old.node (filter (drops_of drops) old.state.client.cache) ls)) (stays act (left drops old.state.client.cache)))
+    c.args.seen.lines x.lines c.in_ok-plan.plan old c.follow.new.self c.follow.result cache old.state.client.busy old.state.client.moved
+    c.in_ok-plan.ensures.plan (c.follow.ensures.node ∙ ap (λ (s : NodeState CopyState). s.node) c.self.view_is)
+    (c.follow.ensures.state ∙ ap (λ (s : CopyState). followed s c.in_ok-plan.plan)
+    (changed_view (unlisted c.deref.result.now) _ old c.drop_all.new.self c.self.view_is c.drop_all.ensures ∙ ap (λ (fs : List Fid). but_for_these old.state (unlisted fs old.state.client.cache) old.state.client.busy old.state.client.moved) c.deref.ensures.value))
+    c.follow.ensures.outs (λ (first : List Line). goes_dropped old.node old.state.client drops c.args.seen.lines first x act c.in_ok-fids.ensures)

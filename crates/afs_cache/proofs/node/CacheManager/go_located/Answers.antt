@@ -12,8 +12,8 @@ use Rattle.afs_cache.proofs.node.CacheManager.go_located.Goals as goal
 pub returns : goal.returns
 returns c = λ k e.
     let old = c.args.self.now in
-    let act : c.in_ok-going.going ≡ filled old.state.table k.act = some_is c.in_ok-going.going (filled old.state.table k.act) (c.in_ok-going.ensures.value ∙ ap (filled_from old.state.table) e) in
-    goes_taken (λ (front : List Line → List Line). walks_on old.node old.state c.args.now front c.in_ok-going.going old.state.cache) (λ (place : ℕ). walks_on old.node old.state c.args.now (given place) (filled old.state.table k.act) old.state.cache)
+    let act : c.in_ok-going.going ≡ filled old.state.client.table k.act = some_is c.in_ok-going.going (filled old.state.client.table k.act) (c.in_ok-going.ensures.value ∙ ap (filled_from old.state.client.table) e) in
+    goes_taken (λ (front : List Line → List Line). walks_on old.node old.state.client c.args.now front c.in_ok-going.going old.state.client.cache) (λ (place : ℕ). walks_on old.node old.state.client c.args.now (given place) (filled old.state.client.table k.act) old.state.client.cache)
     c.no_lines-lines.result old c.walk_on.new.self c.walk_on.result
-    (λ place. ap (λ (xs : List Line). walks_on old.node old.state c.args.now (λ ls. lines.Given place ∷ (xs ++ ls)) c.in_ok-going.going old.state.cache) c.no_lines-lines.ensures
-    ∙ ap (λ (g : Going). walks_on old.node old.state c.args.now (given place) g old.state.cache) act) c.walk_on.ensures
+    (λ place. ap (λ (xs : List Line). walks_on old.node old.state.client c.args.now (λ ls. lines.Given place ∷ (xs ++ ls)) c.in_ok-going.going old.state.client.cache) c.no_lines-lines.ensures
+    ∙ ap (λ (g : Going). walks_on old.node old.state.client c.args.now (given place) g old.state.client.cache) act) c.walk_on.ensures

@@ -12,26 +12,26 @@ use Rattle.afs_cache.proofs.node.CacheManager.hear_database.Goals as goal
 pub returns-in-Refusal : goal.returns-in-Refusal
 returns-in-Refusal c = λ k e.
     let old = c.args.self.now in
-    takes_same (λ (place : ℕ). sought_ends old.node old.state (given place) c.in-Refusal.code) (λ (place : ℕ). sought_by old.node old.state c.args.now place k c.args.head.now c.args.carried) old c.answer_seeking.new.self c.answer_seeking.result
-    (λ place. ap (sought_by old.node old.state c.args.now place k c.args.head.now) (sym c.in-Refusal.is)) c.answer_seeking.ensures
+    takes_same (λ (place : ℕ). sought_ends old.node old.state.client (given place) c.in-Refusal.code) (λ (place : ℕ). sought_by old.node old.state.client c.args.now place k c.args.head.now c.args.carried) old c.answer_seeking.new.self c.answer_seeking.result
+    (λ place. ap (sought_by old.node old.state.client c.args.now place k c.args.head.now) (sym c.in-Refusal.is)) c.answer_seeking.ensures
 
 pub returns-in-Reply : goal.returns-in-Reply
 returns-in-Reply c = λ k e.
     let old = c.args.self.now in
-    takes_same (λ (place : ℕ). located_by old.node old.state c.args.now place k (entry_told c.in-Reply.reply)) (λ (place : ℕ). sought_by old.node old.state c.args.now place k c.args.head.now c.args.carried) old c.hear_entry.new.self c.hear_entry.result
-    (λ place. told_as old.node old.state c.args.now place k c.args.head.now c.in-Reply.reply ∙ ap (sought_by old.node old.state c.args.now place k c.args.head.now) (sym c.in-Reply.is)) (c.hear_entry.ensures k e)
+    takes_same (λ (place : ℕ). located_by old.node old.state.client c.args.now place k (entry_told c.in-Reply.reply)) (λ (place : ℕ). sought_by old.node old.state.client c.args.now place k c.args.head.now c.args.carried) old c.hear_entry.new.self c.hear_entry.result
+    (λ place. told_as old.node old.state.client c.args.now place k c.args.head.now c.in-Reply.reply ∙ ap (sought_by old.node old.state.client c.args.now place k c.args.head.now) (sym c.in-Reply.is)) (c.hear_entry.ensures k e)
 
 pub returns-in-Notice : goal.returns-in-Notice
 returns-in-Notice c = λ k e.
     let old = c.args.self.now in
-    takes_same (λ (place : ℕ). seeks_again old.node old.state place k c.args.head.now.boot) (λ (place : ℕ). sought_by old.node old.state c.args.now place k c.args.head.now c.args.carried) old c.ask_again.new.self c.ask_again.result
-    (λ place. ap (sought_by old.node old.state c.args.now place k c.args.head.now) (sym c.in-Notice.is)) (c.ask_again.ensures k e)
+    takes_same (λ (place : ℕ). seeks_again old.node old.state.client place k c.args.head.now.boot) (λ (place : ℕ). sought_by old.node old.state.client c.args.now place k c.args.head.now c.args.carried) old c.ask_again.new.self c.ask_again.result
+    (λ place. ap (sought_by old.node old.state.client c.args.now place k c.args.head.now) (sym c.in-Notice.is)) (c.ask_again.ensures k e)
 
 pub returns : goal.returns
 returns c = λ k e.
     let old = c.args.self.now in
-    takes_same _ (λ (place : ℕ). sought_by old.node old.state c.args.now place k c.args.head.now c.args.carried) old old c.ignore.result
-    (λ place. ap (sought_by old.node old.state c.args.now place k c.args.head.now) (sym c.in-Call.is)) c.ignore.ensures.takes
+    takes_same _ (λ (place : ℕ). sought_by old.node old.state.client c.args.now place k c.args.head.now c.args.carried) old old c.ignore.result
+    (λ place. ap (sought_by old.node old.state.client c.args.now place k c.args.head.now) (sym c.in-Call.is)) c.ignore.ensures.takes
 
 pub hear_entry-requires-clause-entry : goal.hear_entry-requires-clause-entry
 hear_entry-requires-clause-entry c = entry_fits c.in-Reply.reply c.args.head.now (subst (λ (x : Carried). HasSpelling (record { head = c.args.head.now; carried = x })) c.in-Reply.is c.requires.sound)

@@ -1,7 +1,12 @@
-use Rattle.afs_cache.proofs.Planning.{plans_act, plans_gifts}
+use Rattle.std.proofs.Common.{◌≡◌, List, subst}
+use Rattle.std.specs.Prelude.{IfOk}
+use Rattle.afs_history.specs.declared.lines.Line.{Line}
+use Rattle.afs_rows.specs.Going.{ClientState}
+use Rattle.afs_rows.specs.ClientRow.{calls_step}
+use Rattle.afs_asking.specs.Asking.{Asking}
+use Rattle.afs_cache.specs.Acting.{PlansFor}
 use Rattle.afs_cache.proofs.node.CacheManager.plan_again.Goals as goal
 
 pub returns-clause-plan : goal.returns-clause-plan
 returns-clause-plan c =
-    plans_act c.args.self.now.node c.args.self.now.state c.in_ok-going.going c.args.asked.now.going c.args.lines c.args.asked.now.gifts c.plan_asking.result c.in_ok-going.ensures.value
-    (plans_gifts c.args.self.now.node c.args.self.now.state c.in_ok-going.going c.args.lines c.in_ok-gifts.gifts.items c.args.asked.now.gifts c.plan_asking.result c.in_ok-gifts.ensures.value c.plan_asking.ensures.plan)
+    subst (λ (a : Asking). IfOk c.plan_asked.result (λ p. PlansFor (λ (d : ClientState) (front : List Line → List Line). calls_step c.args.self.now.node (record d { gifts = a.gifts }) a.going front) c.args.lines c.args.self.now p)) c.in_ok-asked.ensures c.plan_asked.ensures.plan

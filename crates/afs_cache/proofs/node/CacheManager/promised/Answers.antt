@@ -5,15 +5,16 @@ use Rattle.afs_model.specs.Steps.{NodeState}
 use Rattle.afs_rows.specs.Going.{ClientState}
 use Rattle.afs_rows.specs.States.{Gift}
 use Rattle.afs_rows.specs.ClientRow.{gift_of, in_order, trusted_in}
-use Rattle.afs_cache.specs.Asking.{IsGift}
-use Rattle.afs_cache.proofs.Calling.{in_order_nodes}
+use Rattle.afs_asking.specs.Asking.{IsGift}
+use Rattle.afs_asking.proofs.Calling.{in_order_nodes}
+use Rattle.afs_copyrows.specs.Sites.{CopyState}
 use Rattle.afs_cache.proofs.Planning.{if_ok}
 use Rattle.afs_cache.proofs.node.CacheManager.promised.Goals as goal
 
 pub returns-clause-value : goal.returns-clause-value
 returns-clause-value c =
     subst (λ (xs : List Gift). IfOk c.in_order.result (λ gs. gs.items ≡ in_order xs))
-    (c.deref.ensures.value ∙ (c.in_ok-promised.ensures ∙ ap (λ (s : NodeState ClientState). map gift_of (trusted_in c.args.now s.state.cache)) c.self.view_is)) c.in_order.ensures
+    (c.deref.ensures.value ∙ (c.in_ok-promised.ensures ∙ ap (λ (s : NodeState CopyState). map gift_of (trusted_in c.args.now s.state.client.cache)) c.self.view_is)) c.in_order.ensures
 
 pub returns-clause-nodes : goal.returns-clause-nodes
 returns-clause-nodes c = if_ok _ _ c.in_order.result (λ gs e. subst (All IsGift) (sym e) (in_order_nodes c.deref.result.now)) c.in_order.ensures

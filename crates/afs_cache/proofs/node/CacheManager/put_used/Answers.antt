@@ -7,4 +7,4 @@ use Rattle.afs_cache.proofs.node.CacheManager.put_used.Goals as goal
 pub returns-clause-ok : goal.returns-clause-ok
 returns-clause-ok c =
     let old = c.args.self.now in
-    used_view _ c.put_alone.new.self old c.touch_all.new.self c.args.used.now (put_entry old.state.capacity (entry_of c.args.fresh) old.state.cache) c.self.view_is c.in_ok-put_alone.ensures.ok c.touch_all.ensures
+    used_view _ c.put_alone.new.self old c.touch_all.new.self c.args.used.now (put_entry old.state.client.capacity (entry_of c.args.fresh) old.state.client.cache) c.self.view_is c.in_ok-put_alone.ensures.ok c.touch_all.ensures

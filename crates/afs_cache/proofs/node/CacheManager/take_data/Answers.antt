@@ -4,22 +4,22 @@ use Rattle.afs_num.specs.declared.histories.ReadBody.TheVariants as seen
 use Rattle.afs_rows.specs.Going.{ClientState, Going}
 use Rattle.afs_rows.specs.ClientRow.{body_told, call_of, entry_told, takes_data, takes_entry, takes_plain}
 use Rattle.afs_cache.specs.Wanted.{body_wanted}
-use Rattle.afs_cache.proofs.Replying.{data_as, none_taken, some_taken}
+use Rattle.afs_cache.proofs.Replying.{data_as, none_behind, some_behind}
 use Rattle.afs_cache.proofs.node.CacheManager.take_data.Goals as goal
 
 pub returns-in-Some : goal.returns-in-Some
 returns-in-Some c =
     let old = c.args.self.now in
-    let st = old.state in
-    some_taken body_wanted st c.in-Some.fid
+    let st = old.state.client in
+    some_behind body_wanted st c.in-Some.fid
     (λ (place : ℕ) (act : Going) (call : FsCall). takes_entry old.node st c.args.now place act (entry_told st.callee c.in-Some.fid c.args.status.now c.args.callback.now c.args.sync.now (Some (body_told c.args.status.now.file_type c.args.contents))) (seen.Contents (body_told c.args.status.now.file_type c.args.contents)))
-    (λ (place : ℕ) (act : Going). takes_data old.node st c.args.now place act c.args.contents c.args.status.now c.args.callback.now c.args.sync.now) old c.take_body.new.self c.take_body.result c.in-Some.ensures
+    (λ (place : ℕ) (act : Going). takes_data old.node st c.args.now place act c.args.contents c.args.status.now c.args.callback.now c.args.sync.now) c.args.lines old c.take_body.new.self c.take_body.result c.in-Some.ensures
     (λ place act e. data_as old.node st c.args.now place act c.args.contents c.args.status.now c.args.callback.now c.args.sync.now (call_of st act) (Some c.in-Some.fid) e) c.take_body.ensures
 
 pub returns-in-None : goal.returns-in-None
 returns-in-None c =
     let old = c.args.self.now in
-    let st = old.state in
-    none_taken body_wanted st (λ (place : ℕ) (act : Going). takes_plain old.node st place)
-    (λ (place : ℕ) (act : Going). takes_data old.node st c.args.now place act c.args.contents c.args.status.now c.args.callback.now c.args.sync.now) old c.take_plain.new.self c.take_plain.result c.in-None.ensures
-    (λ place act e. data_as old.node st c.args.now place act c.args.contents c.args.status.now c.args.callback.now c.args.sync.now (call_of st act) None e) c.take_plain.ensures
+    let st = old.state.client in
+    none_behind body_wanted st (λ (place : ℕ) (act : Going). takes_plain old.node st place)
+    (λ (place : ℕ) (act : Going). takes_data old.node st c.args.now place act c.args.contents c.args.status.now c.args.callback.now c.args.sync.now) c.args.lines old c.take_plain_behind.new.self c.take_plain_behind.result c.in-None.ensures
+    (λ place act e. data_as old.node st c.args.now place act c.args.contents c.args.status.now c.args.callback.now c.args.sync.now (call_of st act) None e) c.take_plain_behind.ensures

@@ -9,13 +9,13 @@ use Rattle.afs_cache.proofs.node.CacheManager.take_fields.Goals as goal
 pub returns-in-Some : goal.returns-in-Some
 returns-in-Some c =
     let old = c.args.self.now in
-    let st = old.state in
+    let st = old.state.client in
     some_taken fields_stored st c.in-Some.fid (λ (place : ℕ) (act : Going). takes_status old.node st c.args.now place c.in-Some.fid c.args.status.now) (λ (place : ℕ) (act : Going). takes_fields old.node st c.args.now place c.args.status.now)
     old c.take_status.new.self c.take_status.result c.in-Some.ensures (λ place act e. ap (fields_by old.node st c.args.now place c.args.status.now (call_of st act)) e) c.take_status.ensures
 
 pub returns-in-None : goal.returns-in-None
 returns-in-None c =
     let old = c.args.self.now in
-    let st = old.state in
+    let st = old.state.client in
     none_taken fields_stored st (λ (place : ℕ) (act : Going). takes_plain old.node st place) (λ (place : ℕ) (act : Going). takes_fields old.node st c.args.now place c.args.status.now)
     old c.take_plain.new.self c.take_plain.result c.in-None.ensures (λ place act e. ap (fields_by old.node st c.args.now place c.args.status.now (call_of st act)) e) c.take_plain.ensures

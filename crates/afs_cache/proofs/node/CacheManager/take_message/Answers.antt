@@ -1,18 +1,18 @@
-use Rattle.std.proofs.Common.{◌≡◌, ℕ, ◌+◌, ◌∷◌, ◌++◌, List, Some, None, ap, sym, ◌∙◌}
-use Rattle.afs_cache.proofs.Sought.{seeks_for, sought_taken, unsought_taken}
+use Rattle.std.proofs.Common.{◌≡◌, ◌<◌, ◌+◌, ℕ, Bool, true, false, cond, ◌||◌, ◌&&◌, List, [], ◌∷◌, ◌++◌, map, filter, Option, Some, None, Ok, Err, refl, ap, sym, subst, ◌∙◌}
+use Rattle.std.specs.Prelude.{is_some}
+use Rattle.afs_model.specs.Steps.{NodeState}
+use Rattle.afs_copyrows.specs.Sites.{CopyState}
+use Rattle.afs_cache.proofs.Siting.{idle_heard, message_heard, none_seeks, some_seeks}
 use Rattle.afs_cache.proofs.node.CacheManager.take_message.Goals as goal
 
-pub hear_database-requires-clause-seeks : goal.hear_database-requires-clause-seeks
-hear_database-requires-clause-seeks c =
-    let old = c.args.self.now in
-    seeks_for old.node old.state c.args.head.now c.args.carried old.state.seeking (sym c.if-sought.true ∙ c.is_sought-sought.ensures)
+pub take_seeking-requires-clause-seeks : goal.take_seeking-requires-clause-seeks
+take_seeking-requires-clause-seeks c = some_seeks c.args.self.now.state.client.seeking (sym c.seeks-seeks.ensures ∙ c.if-seeks.true)
 
-pub returns-then-sought : goal.returns-then-sought
-returns-then-sought c =
-    let old = c.args.self.now in
-    sought_taken old.node c.args.now c.args.head.now c.args.carried old c.hear_database.new.self c.hear_database.result (sym c.if-sought.true ∙ c.is_sought-sought.ensures) c.hear_database.ensures
+pub take_running-requires-clause-idle : goal.take_running-requires-clause-idle
+take_running-requires-clause-idle c = none_seeks c.args.self.now.state.client.seeking (sym c.seeks-seeks.ensures ∙ c.if-seeks.false)
 
-pub returns-else-sought : goal.returns-else-sought
-returns-else-sought c =
-    let old = c.args.self.now in
-    unsought_taken old.node old.state c.args.now c.args.head.now c.args.carried old c.take_whole.new.self c.take_whole.result (sym c.if-sought.false ∙ c.is_sought-sought.ensures) c.take_whole.ensures
+pub returns-then-seeks : goal.returns-then-seeks
+returns-then-seeks c = message_heard c.args.now (record { head = c.args.head.now; carried = c.args.carried }) c.args.self.now c.take_seeking.new.self c.take_seeking.result c.take_seeking.ensures
+
+pub returns-else-seeks : goal.returns-else-seeks
+returns-else-seeks c = idle_heard c.args.now (record { head = c.args.head.now; carried = c.args.carried }) c.args.self.now c.take_running.new.self c.take_running.result (none_seeks c.args.self.now.state.client.seeking (sym c.seeks-seeks.ensures ∙ c.if-seeks.false)) c.take_running.ensures

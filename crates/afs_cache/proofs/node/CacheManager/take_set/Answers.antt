@@ -11,7 +11,7 @@ use Rattle.afs_cache.proofs.node.CacheManager.take_set.Goals as goal
 pub returns-in-Some : goal.returns-in-Some
 returns-in-Some c =
     let old = c.args.self.now in
-    let st = old.state in
+    let st = old.state.client in
     let x : Fid × List ℕ = (c.in-Some.stored.fid, c.in-Some.stored.contents) in
     some_taken bytes_stored st x (λ (place : ℕ) (act : Going). takes_bytes old.node st c.args.now place x.0 c.args.status.now x.1) (λ (place : ℕ) (act : Going). takes_set old.node st c.args.now place c.args.status.now) old c.take_bytes.new.self c.take_bytes.result
     (ap (option_map (λ (s : Stored). (s.fid, s.contents))) (sym c.in-Some.is) ∙ c.in_ok-stored.ensures)
@@ -20,7 +20,7 @@ returns-in-Some c =
 pub returns-in-None : goal.returns-in-None
 returns-in-None c =
     let old = c.args.self.now in
-    let st = old.state in
+    let st = old.state.client in
     none_taken bytes_stored st (λ (place : ℕ) (act : Going). takes_fields old.node st c.args.now place c.args.status.now) (λ (place : ℕ) (act : Going). takes_set old.node st c.args.now place c.args.status.now) old c.take_fields.new.self c.take_fields.result
     (ap (option_map (λ (s : Stored). (s.fid, s.contents))) (sym c.in-None.is) ∙ c.in_ok-stored.ensures)
     (λ place act e. set_as old.node st c.args.now place c.args.status.now (call_of st act) None e) c.take_fields.ensures

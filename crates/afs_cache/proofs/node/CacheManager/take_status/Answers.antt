@@ -9,12 +9,12 @@ use Rattle.afs_cache.proofs.node.CacheManager.take_status.Goals as goal
 pub returns-in_default : goal.returns-in_default
 returns-in_default c =
     let old = c.args.self.now in
-    idle_act old.state (λ (place : ℕ) (act : Going). takes_status old.node old.state c.args.now place c.args.fid c.args.status.now (call_of old.state act)) old old c.ignore.result c.in_default.ensures c.ignore.ensures.takes
+    idle_act old.state.client (λ (place : ℕ) (act : Going). takes_status old.node old.state.client c.args.now place c.args.fid c.args.status.now (call_of old.state.client act)) old old c.ignore.result c.in_default.ensures c.ignore.ensures.takes
 
 pub returns-then-keeps : goal.returns-then-keeps
 returns-then-keeps c =
     let old = c.args.self.now in
-    let st = old.state in
+    let st = old.state.client in
     let status = c.args.status.now in
     then_taken st (not st.spoiled && is_below c.args.now status.sync_counter (find_cached c.args.fid st.cache)) c.in-Some._asked.now (λ (place : ℕ). takes_stored old.node st c.args.now place c.args.fid status.sync_counter (status_told status) (λ body. body)) (takes_plain old.node st)
     old c.take_stored.new.self c.take_stored.result c.in-Some.ensures (sym c.if-keeps.true ∙ c.keeps_body-keeps.ensures) c.take_stored.ensures
@@ -22,7 +22,7 @@ returns-then-keeps c =
 pub returns-else-keeps : goal.returns-else-keeps
 returns-else-keeps c =
     let old = c.args.self.now in
-    let st = old.state in
+    let st = old.state.client in
     let status = c.args.status.now in
     else_taken st (not st.spoiled && is_below c.args.now status.sync_counter (find_cached c.args.fid st.cache)) (λ (place : ℕ). takes_stored old.node st c.args.now place c.args.fid status.sync_counter (status_told status) (λ body. body)) (takes_plain old.node st)
     old c.take_plain.new.self c.take_plain.result (sym c.if-keeps.false ∙ c.keeps_body-keeps.ensures) c.take_plain.ensures

@@ -6,6 +6,7 @@ use Rattle.afs_model.specs.Steps.{NodeState}
 use Rattle.afs_rows.specs.ClientRow.{ends_step, refreshed, status_told, takes_stored, zero_code}
 use Rattle.afs_entries.specs.Cached.{made_of}
 use Rattle.afs_rows.specs.States.{CacheEntry}
+use Rattle.afs_copyrows.specs.Sites.{CopyState}
 use Rattle.afs_cache.specs.Acting.{followed}
 use Rattle.afs_cache.proofs.Dropping.{changed_view}
 use Rattle.afs_cache.proofs.Planning.{plan_taken}
@@ -19,8 +20,8 @@ returns c =
     let made = made_of c.args.contents in
     let index = c.args.status.now.sync_counter in
     let shown = c.status_told.result in
-    let cache = map (refreshed c.args.now c.args.fid index shown made) old.state.cache in
-    plan_taken (λ (d : ClientState) (front : List Line → List Line). ends_step old.node d d.cache front zero_code) (λ (place : ℕ). takes_stored old.node old.state c.args.now place c.args.fid index (status_told c.args.status.now) made)
-    told old.state c.in_ok-plan.plan old c.follow.new.self c.follow.result cache old.state.busy old.state.moved c.in_ok-plan.ensures.plan (c.follow.ensures.node ∙ ap (λ (s : NodeState ClientState). s.node) c.self.view_is)
-    (c.follow.ensures.state ∙ ap (λ (s : ClientState). followed s c.in_ok-plan.plan) (changed_view (map (refreshed c.args.now c.args.fid index shown made)) _ old c.refresh.new.self c.self.view_is c.refresh.ensures))
-    c.follow.ensures.outs (λ place. stored_taken old.node old.state c.args.now place told c.args.fid index shown (status_told c.args.status.now) made c.no_lines-lines.ensures c.status_told.ensures)
+    let cache = map (refreshed c.args.now c.args.fid index shown made) old.state.client.cache in
+    plan_taken (λ (d : ClientState) (front : List Line → List Line). ends_step old.node d d.cache front zero_code) (λ (place : ℕ). takes_stored old.node old.state.client c.args.now place c.args.fid index (status_told c.args.status.now) made)
+    told c.in_ok-plan.plan old c.follow.new.self c.follow.result cache old.state.client.busy old.state.client.moved c.in_ok-plan.ensures.plan (c.follow.ensures.node ∙ ap (λ (s : NodeState CopyState). s.node) c.self.view_is)
+    (c.follow.ensures.state ∙ ap (λ (s : CopyState). followed s c.in_ok-plan.plan) (changed_view (map (refreshed c.args.now c.args.fid index shown made)) _ old c.refresh.new.self c.self.view_is c.refresh.ensures))
+    c.follow.ensures.outs (λ place. stored_taken old.node old.state.client c.args.now place told c.args.fid index shown (status_told c.args.status.now) made c.no_lines-lines.ensures c.status_told.ensures)

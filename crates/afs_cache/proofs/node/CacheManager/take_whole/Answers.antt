@@ -4,6 +4,7 @@ use Rattle.afs_num.specs.declared.messages.Received.TheVariants.{Whole}
 use Rattle.afs_model.specs.Steps.{NodeState}
 use Rattle.afs_rows.specs.Going.{ClientState}
 use Rattle.afs_rows.specs.ClientRow.{hears, ignores, takes_in}
+use Rattle.afs_copyrows.specs.Sites.{CopyState}
 use Rattle.afs_cache.proofs.Answering.{takes_same}
 use Rattle.afs_cache.proofs.Breaking.{chosen}
 use Rattle.afs_cache.proofs.node.CacheManager.take_whole.Goals as goal
@@ -12,6 +13,6 @@ pub returns-then-is : goal.returns-then-is
 returns-then-is c =
     let old = c.args.self.now in
     let head = c.args.head.now in
-    let here = c.if-is.ensures ∙ ap (λ (n : NodeState ClientState). same_node head.to n.node) c.self.view_is in
-    takes_same (λ (place : ℕ). hears old.node old.state c.args.now place head c.args.carried) (λ (place : ℕ). takes_in old.node old.state c.args.now place (Whole (record { head = c.args.head.now; carried = c.args.carried }))) old c.take_carried.new.self c.take_carried.result
-    (λ place. chosen (same_node head.to old.node) (hears old.node old.state c.args.now place head c.args.carried) (ignores old.state place) here) c.take_carried.ensures
+    let here = c.if-is.ensures ∙ ap (λ (n : NodeState CopyState). same_node head.to n.node) c.self.view_is in
+    takes_same (λ (place : ℕ). hears old.node old.state.client c.args.now place head c.args.carried) (λ (place : ℕ). takes_in old.node old.state.client c.args.now place (Whole (record { head = c.args.head.now; carried = c.args.carried }))) old c.take_carried.new.self c.take_carried.result
+    (λ place. chosen (same_node head.to old.node) (hears old.node old.state.client c.args.now place head c.args.carried) (ignores old.state.client place) here) c.take_carried.ensures

@@ -2,7 +2,8 @@ use Rattle.std.proofs.Common.{subst}
 use Rattle.std.specs.Option.{option_copied}
 use Rattle.afs_model.specs.Steps.{NodeState}
 use Rattle.afs_rows.specs.Going.{ClientState}
-use Rattle.afs_cache.specs.Looking.{HasWalked}
+use Rattle.afs_asking.specs.Looking.{HasWalked}
+use Rattle.afs_copyrows.specs.Sites.{CopyState}
 use Rattle.afs_cache.specs.Acting.{seen_with, whole_walk}
 use Rattle.afs_cache.proofs.Planning.{way_planned}
 use Rattle.afs_cache.proofs.node.CacheManager.way.Goals as goal
@@ -11,6 +12,6 @@ pub returns : goal.returns
 returns c =
     let fresh = option_copied c.args.fresh in
     let old = c.args.self.now in
-    way_planned old.node old.state (whole_walk c.args.now c.args.going (seen_with old.state fresh)) (seen_with old.state fresh) c.args.lines c.walk.new.lines c.in_ok-going.field-0 c.in_ok-plan.plan
-    (subst (λ (s : NodeState ClientState). HasWalked s.node (seen_with s.state fresh) (whole_walk c.args.now c.args.going (seen_with s.state fresh)) c.args.lines c.in_ok-going.field-0 c.walk.new.lines) c.self.view_is c.in_ok-going.ensures)
+    way_planned old (whole_walk c.args.now c.args.going (seen_with old.state.client fresh)) (seen_with old.state.client fresh) c.args.lines c.walk.new.lines c.in_ok-going.field-0 c.in_ok-plan.plan
+    (subst (λ (s : NodeState CopyState). HasWalked s.node (seen_with s.state.client fresh) (whole_walk c.args.now c.args.going (seen_with s.state.client fresh)) c.args.lines c.in_ok-going.field-0 c.walk.new.lines) c.self.view_is c.in_ok-going.ensures)
     c.in_ok-plan.ensures.plan c.in_ok-plan.ensures.follows
