@@ -76,7 +76,7 @@ sought_told c n None = others c _ refl refl
 sought_told c n (Some k) = others c _ refl refl
 
 waited_told : (c : NodeCell) (n : ℕ) (o : Option Going) → Told c (waited_by c n o)
-waited_told c n None = sought_told c n (c.clients n).seeking
+waited_told c n None = sought_told c n (c.clients n).client.seeking
 waited_told c n (Some act) = others c _ refl refl
 
 admin_begun_told : (c : NodeCell) (n : ℕ) (act : AdminAct) (o : Option Running) → Told c (admin_begun c n act o)
@@ -111,9 +111,9 @@ at_told c place luck (Some m) = to_told c place luck m m.head.to
 
 usual_told : (c : NodeCell) (x : Input) → Told c (usually_moved c x)
 unfolding usually_moved
-usual_told c (begins n act) = either (is_away c n) c _ _ (others c _ refl refl) (begun_told c n act (act_of (c.clients n)))
+usual_told c (begins n act) = either (is_away c n) c _ _ (others c _ refl refl) (begun_told c n act (act_of (c.clients n).client))
 usual_told c (gives place luck) = at_told c place luck (message_at c.sent place)
-usual_told c (waits n) = either (is_away c n) c _ _ (others c _ refl refl) (waited_told c n (c.clients n).running)
+usual_told c (waits n) = either (is_away c n) c _ _ (others c _ refl refl) (waited_told c n (c.clients n).client.running)
 usual_told c (ticks zero) = others c _ refl refl
 usual_told c (ticks (suc n)) = others c _ refl refl
 usual_told c (client_stops n) = either (is_away c n) c _ _ (others c _ refl refl) (others c _ refl refl)

@@ -111,7 +111,7 @@ sought_on c n None h = stays c h
 sought_on c n (Some k) h = others c _ h refl refl
 
 waited_on : (c : NodeCell) (n : ℕ) (o : Option Going) → CellStands c → GoesOn c (waited_by c n o).cell
-waited_on c n None h = sought_on c n (c.clients n).seeking h
+waited_on c n None h = sought_on c n (c.clients n).client.seeking h
 waited_on c n (Some act) h = others c _ h refl refl
 
 admin_begun_on : (c : NodeCell) (n : ℕ) (act : AdminAct) (o : Option Running) → CellStands c → GoesOn c (admin_begun c n act o).cell
@@ -136,9 +136,9 @@ at_on c place luck (Some m) h = to_on c place luck m m.head.to h
 
 usual_on : (c : NodeCell) (x : Input) → CellStands c → GoesOn c (usually_moved c x).cell
 unfolding usually_moved
-usual_on c (begins n act) h = either (is_away c n) c _ _ (stays c h) (begun_on c n act (act_of (c.clients n)) h)
+usual_on c (begins n act) h = either (is_away c n) c _ _ (stays c h) (begun_on c n act (act_of (c.clients n).client) h)
 usual_on c (gives place luck) h = at_on c place luck (message_at c.sent place) h
-usual_on c (waits n) h = either (is_away c n) c _ _ (stays c h) (waited_on c n (c.clients n).running h)
+usual_on c (waits n) h = either (is_away c n) c _ _ (stays c h) (waited_on c n (c.clients n).client.running h)
 usual_on c (ticks zero) h = stays c h
 usual_on c (ticks (suc n)) h = others c _ h refl refl
 usual_on c (client_stops n) h = either (is_away c n) c _ _ (stays c h) (others c _ h refl refl)

@@ -1,5 +1,6 @@
 //! Laws about the stamps in the runs of a cell with administrators. Each is the contract of a function that does nothing.
 
+ghost use Rattle.afs_stamps.specs.Given.{StampsAreGivenOnce};
 ghost use Rattle.afs_stamps.specs.Stamps.{LocksAreDrawn, StampsNeverFall, TransactionsStand};
 ghost use Rattle.afs_stamps.specs.Told.{EntriesAsTold};
 
@@ -21,4 +22,9 @@ pub fn locks_are_drawn()
 /// The database's entries are locked just as its lines tell, and name the servers that they told last.
 pub fn entries_are_told()
     ensures { EntriesAsTold }
+{}
+
+/// Each stamp that the location database gives is given to one call.
+pub fn stamps_are_given_once()
+    ensures { StampsAreGivenOnce }
 {}

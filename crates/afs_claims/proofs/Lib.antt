@@ -1,0 +1,3 @@
+pub mod Transactions
+pub mod BegunWalk
+pub mod NumbersWalk

@@ -1,0 +1,25 @@
+-- The numbers of transactions: while a server is in one boot, it gives each number once.
+use Rattle.std.specs.Prelude.{◌≡◌, ◌≤◌, ℕ, List, ◌++◌}
+use Rattle.std.specs.List.{AllByRecursion}
+use Rattle.afs_history.specs.declared.scripts.Script.{Script}
+use Rattle.afs_volrows.specs.VolStates.{Transaction}
+use Rattle.afs_runs.specs.NodeRuns.{node_start, CellInput, NodeCell}
+use Rattle.afs_moves.specs.Accepting.{cell_behind}
+
+abbrev pub boot_at : NodeCell → ℕ → ℕ
+boot_at c server = (c.hosts server).state.file.lasting.boot
+
+abbrev pub IsOn : ℕ → ℕ → ℕ → ℕ × Transaction → Type 0
+IsOn volume family stamp p = (p.1.volume ≡ volume) × ((p.1.family ≡ family) × (p.1.stamp ≡ stamp))
+
+-- In this boot of the server the number was given to a transaction on this volume of this family, under this stamp. So it names that one as
+-- long as it names any; in later boots nothing is said.
+pub record IsNamed (c : NodeCell) (server boot number volume family stamp : ℕ) : Type 0 where
+  pub not_before : boot ≤ boot_at c server
+  pub given : boot_at c server ≡ boot → number ≤ (c.hosts server).state.vol.last_transaction
+  pub names : boot_at c server ≡ boot → AllByRecursion (λ (p : ℕ × Transaction). p.0 ≡ number → IsOn volume family stamp p) (c.hosts server).state.vol.transactions
+
+-- So it stays in every run of every script, whatever comes.
+abbrev pub NumbersAreKept : Type 0
+NumbersAreKept = (s : Script) (inputs later : List CellInput) (server boot number volume family stamp : ℕ) → IsNamed (cell_behind (node_start s) inputs) server boot number volume family stamp →
+    IsNamed (cell_behind (node_start s) (inputs ++ later)) server boot number volume family stamp

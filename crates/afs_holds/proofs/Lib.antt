@@ -1,0 +1,4 @@
+pub mod PlaceStamps
+pub mod Acts
+pub mod Walk
+mod Worked

@@ -1,0 +1,460 @@
+-- The walk over the inputs of a cell: whose stamps are, and who uses them.
+use Rattle.std.proofs.Common.{◌≡◌, ◌≤◌, ◌<◌, ◌⊎◌, inl, inr, ℕ, suc, Bool, true, false, cond, List, [], ◌∷◌, Option, Some, None, refl, sym, subst, arith, ◌∙◌}
+use Rattle.std.proofs.Math.Nat.{le_refl, le_trans}
+use Rattle.std.specs.Prelude.{⊤}
+use Rattle.std.specs.List.{AllByRecursion}
+use Rattle.afs_num.specs.declared.messages.Carried.{Carried}
+use Rattle.afs_num.specs.declared.messages.Carried.TheVariants as carried
+use Rattle.afs_num.specs.declared.messages.Message.{Message}
+use Rattle.afs_num.specs.declared.messages.Received.TheVariants.{Whole}
+use Rattle.afs_num.specs.declared.types.Head.{Head}
+use Rattle.afs_num.specs.declared.types.Key.{Key}
+use Rattle.afs_num.specs.declared.types.Node.{Node}
+use Rattle.afs_num.specs.declared.types.Node.TheVariants.{Admin, Client, Loc, Server}
+use Rattle.afs_adminrows.specs.AdminRow.{admin_begin_row, admin_reborn, admin_row, admin_timeout_row, errand_of, AdminState}
+use Rattle.afs_copyrows.specs.Sites.{CopyState}
+use Rattle.afs_ideal.specs.Operations.{is_number}
+use Rattle.afs_records.specs.Durable.{Durable}
+use Rattle.afs_rows.specs.Hosts.{at_rest, begun_from, comes_up, ends, fails_early, fails_midway, in_boot, in_step, is_full, served_by, settled, struck, Blow, Fall, Host, HostStep, Kind, Outcome}
+use Rattle.afs_rows.specs.LocRow.{LocState}
+use Rattle.afs_rows.specs.Runs.{Entry}
+use Rattle.afs_rows.specs.States.{durable_of, Seat}
+use Rattle.afs_rows.specs.Steps.{Begun, Step}
+use Rattle.afs_volrows.specs.NodeHosts.{node_kind, NodeHost}
+use Rattle.afs_volrows.specs.VolStates.{NodeState, Sending, VolState}
+use Rattle.afs_volrows.specs.VolSteps.{vol_decides}
+use Rattle.afs_runs.specs.NodeRuns.{admin_falls, admin_moves, admin_rises, client_falls, client_moves, client_rises, loc_placed, node_moved, node_start, placed, ticked, voided, CellInput, NodeCell, NodeLeads, NodeMoved}
+use Rattle.afs_stamps.specs.Given.{AreTheirs, IsTheirs}
+use Rattle.afs_stamps.specs.Stamps.{next_stamp}
+use Rattle.afs_stamps.proofs.Giving.{none_given, restart_gives, serve_gives, still_theirs, Gave, Give}
+use Rattle.afs_walks.specs.Messages.{FallIs}
+use Rattle.afs_walks.specs.Sends.{AnswersAre, AsksIs, CellIs, ClientMakes, HeldIs, NodeIs, SeatsAre, ServerMakes, VolMakes}
+use Rattle.afs_walks.proofs.AdminSends.{admin_begun, admin_given, admin_late, AdminSends}
+use Rattle.afs_walks.proofs.AllMessages.{admin_falls_is, admin_moves_is, admin_rises_is, all_put, client_falls_is, client_moves_is, client_rises_is, placed_is}
+use Rattle.afs_walks.proofs.CopySends.{client_begun, client_given, client_late, client_seek_late, CopySends}
+use Rattle.afs_walks.proofs.EachKind.{each}
+use Rattle.afs_walks.proofs.LocSends.{loc_crashed, loc_fail_set, loc_makes_any, loc_restarted, loc_served, loc_stop_set, LocCutMakes, LocSends}
+use Rattle.afs_walks.proofs.Seats.{all_more, found_at, weaker_all, weaker_seats}
+use Rattle.afs_walks.proofs.ServerSends.{server_break_late, server_crashed, server_fail_set, server_piece_late, server_restarted, server_served, server_stop_set, server_woken, CutMakes, HostSends}
+use Rattle.afs_walks.proofs.VolDecides.{makes_any}
+use Rattle.afs_holds.specs.Owners.{AreUsed, IsGivenTo, IsOfAdmin, IsUsed, StampsHaveOwners, UsedBy, UsedIn}
+use Rattle.afs_holds.proofs.Acts.{begun_owns, given_owns, late_owns, ActOwns, Owns}
+use Rattle.afs_holds.proofs.PlaceStamps.{asked_stamp, stamp_at_place}
+
+-- ---- what is asked of messages
+
+abbrev IsFair : (ℕ → Key) → ℕ → Message → Type 0
+IsFair owner next m = IsTheirs owner next m × IsUsed owner next m
+
+-- the database makes no calls
+abbrev AnswerIn : Carried → Type 0
+AnswerIn (carried.Call user call) = ⊥
+AnswerIn (carried.Refusal code) = ⊤
+AnswerIn (carried.Reply reply) = ⊤
+AnswerIn carried.Notice = ⊤
+
+abbrev IsAnswer : Message → Type 0
+IsAnswer m = AnswerIn m.carried
+
+abbrev FairOf : (ℕ → Key) → ℕ → Node → Message → Type 0
+FairOf owner next Loc = IsAnswer
+FairOf owner next (Server i) = IsFair owner next
+FairOf owner next (Client n) = IsFair owner next
+FairOf owner next (Admin n) = IsFair owner next
+
+-- a dump is sent on under the stamp of the call that asked for it
+abbrev IsLent : (ℕ → Key) → ℕ → Node → Sending → Type 0
+IsLent owner next n x = (x.head.stamp ≡ 0) ⊎ IsOfAdmin owner next x.head.stamp
+
+record Fair (owner : ℕ → Key) (c : NodeCell) : Type 0 where
+  nodes : CellIs (FairOf owner (next_stamp c)) (IsLent owner (next_stamp c)) c
+  gave : Gave owner c.loc.state
+  falls : (i : ℕ) → FallIs (IsFair owner (next_stamp c)) (c.hosts i).down
+  sent : AllByRecursion (IsFair owner (next_stamp c)) c.sent
+  acts : (n : ℕ) → ActOwns owner (next_stamp c) (Admin n) (c.admins n)
+
+-- what comes of an input
+record Goes (owner : ℕ → Key) (c : NodeCell) (m : NodeMoved) : Type 0 where
+  now : ℕ → Key
+  stays : (stamp : ℕ) → stamp < next_stamp c → now stamp ≡ owner stamp
+  rises : next_stamp c ≤ next_stamp m.cell
+  fair : Fair now m.cell
+  sent : AllByRecursion (IsFair now (next_stamp m.cell)) m.entry.sent
+
+-- ---- what nodes make
+
+module _ (owner : ℕ → Key) (next : ℕ) where
+  answers_fair : (me : Node) (boot : ℕ) → AnswersAre (IsFair owner next) me boot
+  answers_fair me boot = record { notice = λ head to. ((λ stamp e. absurd cc), tt); refusal = λ head code to. ((λ stamp e. absurd cc), tt) }
+
+  either_fair : (b : Bool) (x y : Message) → IsFair owner next x → IsFair owner next y → IsFair owner next (cond b x y)
+  either_fair true x y h k = h
+  either_fair false x y h k = k
+
+  server_makes : (i boot : ℕ) → ServerMakes (IsFair owner next) (IsLent owner next (Server i)) (Server i) boot
+  server_makes i boot = record {
+    file = record { answers = answers_fair (Server i) boot; reply = λ head reply to. ((λ stamp e. absurd cc), tt); breaks = λ n known c. ((λ stamp e. absurd cc), inl refl) };
+    piece = λ n known number x h. ((λ stamp e. absurd cc), h);
+    forward = λ x code h. either_fair (is_number code 0) _ _ ((λ stamp e. absurd cc), tt) ((λ stamp e. absurd cc), tt);
+    moved = λ x h. h;
+  }
+
+  client_makes : (n : ℕ) → ClientMakes (IsFair owner next) (Client n)
+  client_makes n = record {
+    answers = λ boot. answers_fair (Client n) boot;
+    reply = λ boot head reply to. ((λ stamp e. absurd cc), tt);
+    call = λ head user call is none. ((λ stamp e. absurd cc), subst (UsedBy owner next head) (sym is) none);
+    look = λ head user o is none. ((λ stamp e. absurd cc), subst (UsedBy owner next head) (sym is) none);
+  }
+
+  -- a call that a volume server sends a dump on for
+  lent_by : (head : Head) (n : Node) → UsedBy owner next head n → (head.stamp ≡ 0) ⊎ IsOfAdmin owner next head.stamp
+  lent_by head (Admin n) (inl none) = inl none
+  lent_by head (Admin n) (inr g) = inr (record { drawn = g.drawn; admin = n; node = g.node })
+  lent_by head (Server i) h = h
+  lent_by head (Client n) none = inl none
+  lent_by head Loc none = inl none
+
+  volume_by : (i : ℕ) (d : Durable) (v : VolState) (head : Head) (x : Carried) → UsedIn owner next head x → VolMakes (IsFair owner next) (IsLent owner next (Server i)) (vol_decides (Server i) d v (Whole (record { head = head; carried = x })))
+  volume_by i d v head (carried.Call user call) used = makes_any (IsFair owner next) (IsLent owner next (Server i)) (Server i) d v (record { head = head; carried = carried.Call user call })
+      (λ to. record { reply = λ r. ((λ stamp e. absurd cc), tt); refused = λ code. ((λ stamp e. absurd cc), tt); sends_on = λ x. lent_by head head.from used })
+  volume_by i d v head (carried.Refusal code) used = tt
+  volume_by i d v head (carried.Reply reply) used = tt
+  volume_by i d v head carried.Notice used = tt
+
+  volume_makes : (i : ℕ) (d : Durable) (v : VolState) (m : Message) → IsFair owner next m → VolMakes (IsFair owner next) (IsLent owner next (Server i)) (vol_decides (Server i) d v (Whole m))
+  volume_makes i d v m h = volume_by i d v m.head m.carried h.1
+
+  -- what an administrator asks
+  asks_fair : (n : ℕ) (a : AdminState) → ActOwns owner next (Admin n) a → AsksIs (IsFair owner next) (Admin n) a
+  asks_fair n a h r is = ((λ stamp e. absurd cc), subst (Owns owner next (Admin n) a.epoch a.last) (sym (asked_stamp (errand_of a r.act) r.place)) (h r is))
+
+loc_answers : (boot : ℕ) → AnswersAre IsAnswer Loc boot
+loc_answers boot = record { notice = λ head to. tt; refusal = λ head code to. tt }
+
+-- ---- as stamps are given
+
+module _ (owner now : ℕ → Key) (n k : ℕ) (le : n ≤ k) (same : (stamp : ℕ) → stamp < n → now stamp ≡ owner stamp) where
+  still_given : (me : Node) (epoch number stamp : ℕ) → IsGivenTo owner n me epoch number stamp → IsGivenTo now k me epoch number stamp
+  still_given me epoch number stamp g = record {
+    drawn = (let d : stamp < n = g.drawn in omega (arith, d, le));
+    node = subst (λ (x : Key). x.node ≡ me) (sym (same stamp g.drawn)) g.node;
+    in_epoch = subst (λ (x : Key). x.epoch ≡ epoch) (sym (same stamp g.drawn)) g.in_epoch;
+    before = subst (λ (x : Key). x.number < number) (sym (same stamp g.drawn)) g.before;
+  }
+
+  still_of : (stamp : ℕ) → IsOfAdmin owner n stamp → IsOfAdmin now k stamp
+  still_of stamp g = record { drawn = (let d : stamp < n = g.drawn in omega (arith, d, le)); admin = g.admin; node = subst (λ (x : Key). x.node ≡ Admin g.admin) (sym (same stamp g.drawn)) g.node }
+
+  still_owns : (me : Node) (epoch number stamp : ℕ) → Owns owner n me epoch number stamp → Owns now k me epoch number stamp
+  still_owns me epoch number stamp (inl none) = inl none
+  still_owns me epoch number stamp (inr g) = inr (still_given me epoch number stamp g)
+
+  still_lent : (me : Node) (x : Sending) → IsLent owner n me x → IsLent now k me x
+  still_lent me x (inl none) = inl none
+  still_lent me x (inr g) = inr (still_of x.head.stamp g)
+
+  still_by : (head : Head) (x : Node) → UsedBy owner n head x → UsedBy now k head x
+  still_by head (Admin i) h = still_owns (Admin i) head.epoch head.number head.stamp h
+  still_by head (Server i) (inl none) = inl none
+  still_by head (Server i) (inr g) = inr (still_of head.stamp g)
+  still_by head (Client i) h = h
+  still_by head Loc h = h
+
+  still_in : (head : Head) (x : Carried) → UsedIn owner n head x → UsedIn now k head x
+  still_in head (carried.Call user call) h = still_by head head.from h
+  still_in head (carried.Refusal code) h = tt
+  still_in head (carried.Reply reply) h = tt
+  still_in head carried.Notice h = tt
+
+  still_fair : (m : Message) → IsFair owner n m → IsFair now k m
+  still_fair m h = (still_theirs owner now n k le same m h.0, still_in m.head m.carried h.1)
+
+  still_fall : (o : Option Fall) → FallIs (IsFair owner n) o → FallIs (IsFair now k) o
+  still_fall None h = tt
+  still_fall (Some at_rest) h = tt
+  still_fall (Some (in_step m clock b)) h = still_fair m h
+  still_fall (Some in_boot) h = tt
+
+  still_seats : (seats : List Seat) → SeatsAre (IsFair owner n) seats → SeatsAre (IsFair now k) seats
+  still_seats seats h = weaker_seats (IsFair owner n) (IsFair now k) seats still_fair h
+
+  still_node : (me : Node) (s : NodeState) → NodeIs (IsFair owner n) (IsLent owner n me) s → NodeIs (IsFair now k) (IsLent now k me) s
+  still_node me s h = record {
+    file = record { seats = still_seats s.file.seats h.file.seats; kept = still_seats s.file.lasting.kept h.file.kept; held = weaker_all (HeldIs (IsFair owner n)) (HeldIs (IsFair now k)) s.file.backs.held (λ x g. still_fair x.reply g) h.file.held };
+    seats = still_seats s.vol.seats h.seats;
+    held = weaker_all (HeldIs (IsFair owner n)) (HeldIs (IsFair now k)) s.vol.held (λ x g. still_fair x.reply g) h.held;
+    sendings = λ j. weaker_all (IsLent owner n me) (IsLent now k me) (s.vol.sendings j) (still_lent me) (h.sendings j);
+  }
+
+-- an answer that gives stamps as it should is fair
+fair_of : (owner : ℕ → Key) (next : ℕ) (m : Message) → IsTheirs owner next m → IsAnswer m → IsFair owner next m
+fair_of owner next m h k = (h, by m.carried k)
+  where
+    by : (x : Carried) → AnswerIn x → UsedIn owner next m.head x
+    by (carried.Call user call) k = absurd k
+    by (carried.Refusal code) k = tt
+    by (carried.Reply reply) k = tt
+    by carried.Notice k = tt
+
+all_fair : (owner : ℕ → Key) (next : ℕ) (ms : List Message) → AllByRecursion (IsTheirs owner next) ms → AllByRecursion IsAnswer ms → AllByRecursion (IsFair owner next) ms
+all_fair owner next [] h k = tt
+all_fair owner next (m ∷ ms) h k = (fair_of owner next m h.0 k.0, all_fair owner next ms h.1 k.1)
+
+module _ (owner : ℕ → Key) (c : NodeCell) (h : Fair owner c) where
+  abbrev n : ℕ
+  n = next_stamp c
+
+  abbrev P : Node → Message → Type 0
+  P = FairOf owner n
+
+  abbrev S : Node → Sending → Type 0
+  S = IsLent owner n
+
+  -- ---- steps of others than the database
+
+  none_goes : (m : NodeMoved) → m.cell ≡ c → m.entry.sent ≡ [] → Goes owner c m
+  none_goes m same quiet = record {
+    now = owner;
+    stays = λ stamp below. refl;
+    rises = subst (λ (d : NodeCell). n ≤ next_stamp d) (sym same) (le_refl n);
+    fair = subst (Fair owner) (sym same) h;
+    sent = subst (AllByRecursion (IsFair owner (next_stamp m.cell))) (sym quiet) tt;
+  }
+
+  ticked_goes : (k : ℕ) → Goes owner c (ticked c k)
+  ticked_goes k = record {
+    now = owner;
+    stays = λ stamp below. refl;
+    rises = le_refl n;
+    fair = record { nodes = record { hosts = h.nodes.hosts; clients = h.nodes.clients; admins = h.nodes.admins; loc = h.nodes.loc }; gave = h.gave; falls = h.falls; sent = h.sent; acts = h.acts };
+    sent = tt;
+  }
+
+  on_host : (i : ℕ) (s : HostStep NodeState) → HostSends (IsFair owner n) (S (Server i)) s → FallIs (IsFair owner n) s.host.down → Goes owner c (placed c i s)
+  on_host i s k fall = record {
+    now = owner;
+    stays = λ stamp below. refl;
+    rises = le_refl n;
+    fair = record {
+      nodes = (placed_is P S c h.nodes i s k).nodes;
+      gave = h.gave;
+      falls = all_put i (λ (j : ℕ) (x : NodeHost). FallIs (IsFair owner n) x.down) s.host c.hosts fall h.falls;
+      sent = all_more (IsFair owner n) c.sent s.sent h.sent k.sent;
+      acts = h.acts;
+    };
+    sent = k.sent;
+  }
+
+  on_client : (i : ℕ) (s : Step CopyState) → CopySends (IsFair owner n) (c.clients i).client.seats s → Goes owner c (client_moves c i s)
+  on_client i s k = record {
+    now = owner;
+    stays = λ stamp below. refl;
+    rises = le_refl n;
+    fair = record { nodes = (client_moves_is P S c h.nodes i s k).nodes; gave = h.gave; falls = h.falls; sent = all_more (IsFair owner n) c.sent s.sent h.sent k.sent; acts = h.acts };
+    sent = k.sent;
+  }
+
+  client_falls_goes : (i : ℕ) → Goes owner c (client_falls c i)
+  client_falls_goes i = record {
+    now = owner;
+    stays = λ stamp below. refl;
+    rises = le_refl n;
+    fair = record { nodes = (client_falls_is P S c h.nodes i).nodes; gave = h.gave; falls = h.falls; sent = all_more (IsFair owner n) c.sent [] h.sent tt; acts = h.acts };
+    sent = tt;
+  }
+
+  client_rises_goes : (i : ℕ) → Goes owner c (client_rises c i)
+  client_rises_goes i = record {
+    now = owner;
+    stays = λ stamp below. refl;
+    rises = le_refl n;
+    fair = record { nodes = (client_rises_is P S c h.nodes i).nodes; gave = h.gave; falls = h.falls; sent = all_more (IsFair owner n) c.sent [] h.sent tt; acts = h.acts };
+    sent = tt;
+  }
+
+  on_admin : (i : ℕ) (s : Step AdminState) → AdminSends (IsFair owner n) s → ActOwns owner n (Admin i) s.state → Goes owner c (admin_moves c i s)
+  on_admin i s k acts = record {
+    now = owner;
+    stays = λ stamp below. refl;
+    rises = le_refl n;
+    fair = record {
+      nodes = (admin_moves_is P S c h.nodes i s k).nodes;
+      gave = h.gave;
+      falls = h.falls;
+      sent = all_more (IsFair owner n) c.sent s.sent h.sent k.sent;
+      acts = all_put i (λ (j : ℕ) (x : AdminState). ActOwns owner n (Admin j) x) s.state c.admins acts h.acts;
+    };
+    sent = k.sent;
+  }
+
+  admin_falls_goes : (i : ℕ) → Goes owner c (admin_falls c i)
+  admin_falls_goes i = record {
+    now = owner;
+    stays = λ stamp below. refl;
+    rises = le_refl n;
+    fair = record {
+      nodes = (admin_falls_is P S c h.nodes i).nodes;
+      gave = h.gave;
+      falls = h.falls;
+      sent = all_more (IsFair owner n) c.sent [] h.sent tt;
+      acts = all_put i (λ (j : ℕ) (x : AdminState). ActOwns owner n (Admin j) x) (admin_reborn (c.admins i)) c.admins (λ r is. absurd cc) h.acts;
+    };
+    sent = tt;
+  }
+
+  admin_rises_goes : (i : ℕ) → Goes owner c (admin_rises c i)
+  admin_rises_goes i = record {
+    now = owner;
+    stays = λ stamp below. refl;
+    rises = le_refl n;
+    fair = record {
+      nodes = (admin_rises_is P S c h.nodes i).nodes;
+      gave = h.gave;
+      falls = h.falls;
+      sent = all_more (IsFair owner n) c.sent [] h.sent tt;
+      acts = all_put i (λ (j : ℕ) (x : AdminState). ActOwns owner n (Admin j) x) (c.admins i) c.admins (h.acts i) h.acts;
+    };
+    sent = tt;
+  }
+
+  -- ---- a step of the database
+
+  on_loc : (s : HostStep LocState) → Give owner c.loc.state s.host.state s.sent → LocSends IsAnswer s → Goes owner c (loc_placed c s)
+  on_loc s g k =
+      let more : ℕ = s.host.state.lasting.next_stamp in
+      let up : (m : Message) → IsFair owner n m → IsFair g.now more m = still_fair owner g.now n more g.rises g.stays in
+      let new : AllByRecursion (IsFair g.now more) s.sent = all_fair g.now more s.sent g.sent k.sent in
+      record {
+        now = g.now;
+        stays = g.stays;
+        rises = g.rises;
+        fair = record {
+          nodes = record {
+            hosts = λ i. still_node owner g.now n more g.rises g.stays (Server i) (c.hosts i).state (h.nodes.hosts i);
+            clients = λ i. still_seats owner g.now n more g.rises g.stays (c.clients i).client.seats (h.nodes.clients i);
+            admins = λ i. still_seats owner g.now n more g.rises g.stays (c.admins i).seats (h.nodes.admins i);
+            loc = k.has;
+          };
+          gave = g.gave;
+          falls = λ i. still_fall owner g.now n more g.rises g.stays (c.hosts i).down (h.falls i);
+          sent = all_more (IsFair g.now more) c.sent s.sent (weaker_all (IsFair owner n) (IsFair g.now more) c.sent up h.sent) new;
+          acts = λ i r is. still_owns owner g.now n more g.rises g.stays (Admin i) (c.admins i).epoch (c.admins i).last (stamp_at_place r.place) (h.acts i r is);
+        };
+        sent = new;
+      }
+
+  -- ---- steps that fall
+
+  served_falls : {X : Type 0} (kind : Kind X) (x : Host X) (clock place : ℕ) (m : Message) (o : Option Blow) → IsFair owner n m → FallIs (IsFair owner n) (served_by kind x clock place m o).host.down
+  served_falls {X} kind x clock place m None q = tt
+  served_falls {X} kind x clock place m (Some b) q = q
+
+  ended_falls : {X : Type 0} (kind : Kind X) (x : Host X) (clock count : ℕ) (f : Begun X) (fall : Fall) (o : Outcome) → FallIs (IsFair owner n) (Some fall) → FallIs (IsFair owner n) (ends kind x clock count f fall o).host.down
+  ended_falls {X} kind x clock count f fall comes_up q = tt
+  ended_falls {X} kind x clock count f fall fails_early q = q
+  ended_falls {X} kind x clock count f fall fails_midway q = tt
+  ended_falls {X} kind x clock count f fall is_full q = tt
+
+  cut_makes : (i : ℕ) (fall : Fall) → FallIs (IsFair owner n) (Some fall) → CutMakes (IsFair owner n) (S (Server i)) (Server i) (c.hosts i).state fall
+  cut_makes i at_rest q = tt
+  cut_makes i (in_step m clock b) q = volume_makes owner n i (durable_of (c.hosts i).state.file.lasting) (c.hosts i).state.vol m q
+  cut_makes i in_boot q = tt
+
+  loc_cut : (fall : Fall) → LocCutMakes IsAnswer c.loc h.nodes.loc fall
+  loc_cut at_rest = tt
+  loc_cut (in_step m clock b) = loc_makes_any IsAnswer c.loc.state m (λ head reply to. tt)
+  loc_cut in_boot = tt
+
+  -- ---- every input
+
+  goes : (x : CellInput) → Goes owner c (node_moved c x)
+  goes x = each (Goes owner c) c (record {
+    void = none_goes (voided c) refl refl;
+    ticks = λ k. ticked_goes (suc k);
+    servers = record {
+      serves = λ i place luck m up g.
+          let q : IsFair owner n m = found_at (IsFair owner n) place c.sent m h.sent g.sent in
+          on_host i _ (server_served (IsFair owner n) (S (Server i)) (Server i) (c.hosts i) (h.nodes.hosts i) c.clock place luck m (server_makes owner n i _) (volume_makes owner n i (durable_of (c.hosts i).state.file.lasting) (c.hosts i).state.vol m q))
+          (served_falls (node_kind (Server i)) (c.hosts i) c.clock place m (struck (c.hosts i).armed luck _) q);
+      crashes = λ i up. on_host i _ (server_crashed (IsFair owner n) (S (Server i)) (Server i) (c.hosts i) (h.nodes.hosts i)) tt;
+      stop_set = λ i calls pick up. on_host i _ (server_stop_set (IsFair owner n) (S (Server i)) (Server i) (c.hosts i) (h.nodes.hosts i) calls pick) (h.falls i);
+      fail_set = λ i call up. on_host i _ (server_fail_set (IsFair owner n) (S (Server i)) (Server i) (c.hosts i) (h.nodes.hosts i) call) (h.falls i);
+      restarts = λ i after o fall there down.
+          let q : FallIs (IsFair owner n) (Some fall) = subst (FallIs (IsFair owner n)) down (h.falls i) in
+          on_host i _ (server_restarted (IsFair owner n) (S (Server i)) (Server i) (c.hosts i) (h.nodes.hosts i) c.clock c.count after o fall (λ boot. (server_makes owner n i boot).file) (cut_makes i fall q))
+          (ended_falls (node_kind (Server i)) (c.hosts i) c.clock c.count (begun_from (node_kind (Server i)) (c.hosts i).state after fall) fall (settled _ o) q);
+      piece_late = λ i k p up is. on_host i _ (server_piece_late (IsFair owner n) (S (Server i)) (Server i) (c.hosts i) (h.nodes.hosts i) c.clock k p (server_makes owner n i _)) tt;
+      break_late = λ i k b up is. on_host i _ (server_break_late (IsFair owner n) (S (Server i)) (Server i) (c.hosts i) (h.nodes.hosts i) c.clock k b (server_makes owner n i _)) tt;
+      wakes = λ i up. on_host i _ (server_woken (IsFair owner n) (S (Server i)) (Server i) (c.hosts i) (h.nodes.hosts i) c.clock (server_makes owner n i _)) tt;
+    };
+    database = record {
+      serves = λ place luck m up g. on_loc _ (serve_gives owner c.loc c.clock place luck m h.gave) (loc_served IsAnswer c.loc h.nodes.loc c.clock place luck m (loc_answers _) (loc_makes_any IsAnswer c.loc.state m (λ head reply to. tt)));
+      crashes = λ up. on_loc _ (none_given owner c.loc.state h.gave) (loc_crashed IsAnswer c.loc h.nodes.loc);
+      stop_set = λ calls pick up. on_loc _ (none_given owner c.loc.state h.gave) (loc_stop_set IsAnswer c.loc h.nodes.loc calls pick);
+      fail_set = λ call up. on_loc _ (none_given owner c.loc.state h.gave) (loc_fail_set IsAnswer c.loc h.nodes.loc call);
+      restarts = λ after o fall down. on_loc _ (restart_gives owner c.loc c.clock c.count after o fall h.gave) (loc_restarted IsAnswer c.loc h.nodes.loc c.clock c.count after o fall (loc_cut fall));
+    };
+    clients = record {
+      begins = λ i act up idle. on_client i _ (client_begun (IsFair owner n) (Client i) (client_makes owner n i) (c.clients i) c.clock act);
+      given = λ i place m up g. on_client i _ (client_given (IsFair owner n) (Client i) (client_makes owner n i) (c.clients i) c.clock place m (h.nodes.clients i));
+      seek_late = λ i k up is. on_client i _ (client_seek_late (IsFair owner n) (Client i) (client_makes owner n i) (c.clients i) k);
+      late = λ i act up is. on_client i _ (client_late (IsFair owner n) (Client i) (client_makes owner n i) (c.clients i) act);
+      stops = λ i up. client_falls_goes i;
+      starts = λ i away. client_rises_goes i;
+    };
+    admins = record {
+      begins = λ i act up idle.
+          let acts : ActOwns owner n (Admin i) (admin_begin_row (Admin i) (c.admins i) act).state = begun_owns owner n (Admin i) (c.admins i) (h.acts i) act in
+          on_admin i _ (admin_begun (IsFair owner n) (Admin i) (c.admins i) (h.nodes.admins i) act (asks_fair owner n i (admin_begin_row (Admin i) (c.admins i) act).state acts)) acts;
+      given = λ i place m up g.
+          let q : IsFair owner n m = found_at (IsFair owner n) place c.sent m h.sent g.sent in
+          let acts : ActOwns owner n (Admin i) (admin_row (Admin i) (c.admins i) place (Whole m)).state = given_owns owner n (Admin i) (c.admins i) (h.acts i) place m g.to q.0 in
+          on_admin i _ (admin_given (IsFair owner n) (Admin i) (c.admins i) (h.nodes.admins i) place m (answers_fair owner n (Admin i) _) (asks_fair owner n i (admin_row (Admin i) (c.admins i) place (Whole m)).state acts)) acts;
+      late = λ i r up is.
+          let acts : ActOwns owner n (Admin i) (admin_timeout_row (Admin i) (c.admins i) r).state = late_owns owner n (Admin i) (c.admins i) (h.acts i) r is in
+          on_admin i _ (admin_late (IsFair owner n) (Admin i) (c.admins i) (h.nodes.admins i) r is (asks_fair owner n i (admin_timeout_row (Admin i) (c.admins i) r).state acts)) acts;
+      stops = λ i up. admin_falls_goes i;
+      starts = λ i gone. admin_rises_goes i;
+    };
+  }) x
+
+-- ---- a run
+
+record Led (owner : ℕ → Key) (c : NodeCell) (history : List Entry) (end : NodeCell) : Type 0 where
+  now : ℕ → Key
+  stays : (stamp : ℕ) → stamp < next_stamp c → now stamp ≡ owner stamp
+  rises : next_stamp c ≤ next_stamp end
+  theirs : AreTheirs now (next_stamp end) history
+  used : AreUsed now (next_stamp end) history
+
+led : (owner : ℕ → Key) (c : NodeCell) (xs : List CellInput) (es : List Entry) (end : NodeCell) → Fair owner c → NodeLeads c xs es end → Led owner c es end
+led owner c [] [] end h is = record { now = owner; stays = λ stamp below. refl; rises = subst (λ (d : NodeCell). next_stamp c ≤ next_stamp d) (sym is) (le_refl (next_stamp c)); theirs = tt; used = tt }
+led owner c [] (e ∷ es) end h is = absurd is
+led owner c (x ∷ xs) [] end h is = absurd is
+led owner c (x ∷ xs) (e ∷ es) end h is =
+    let one : Goes owner c (node_moved c x) = goes owner c h x in
+    let more : Led one.now (node_moved c x).cell es end = led one.now (node_moved c x).cell xs es end one.fair is.1 in
+    let sent : AllByRecursion (IsFair more.now (next_stamp end)) e.sent =
+    weaker_all (IsFair one.now (next_stamp (node_moved c x).cell)) (IsFair more.now (next_stamp end)) e.sent (still_fair one.now more.now _ _ more.rises more.stays)
+    (subst (λ (y : Entry). AllByRecursion (IsFair one.now (next_stamp (node_moved c x).cell)) y.sent) (sym is.0) one.sent) in
+    record {
+      now = more.now;
+      stays = λ stamp below. let later : stamp < next_stamp (node_moved c x).cell = (let up : next_stamp c ≤ next_stamp (node_moved c x).cell = one.rises in omega (arith, below, up)) in
+          more.stays stamp later ∙ one.stays stamp below;
+      rises = le_trans one.rises more.rises;
+      theirs = ((λ its. weaker_all (IsFair more.now (next_stamp end)) (IsTheirs more.now (next_stamp end)) e.sent (λ m q. q.0) sent), more.theirs);
+      used = (weaker_all (IsFair more.now (next_stamp end)) (IsUsed more.now (next_stamp end)) e.sent (λ m q. q.1) sent, more.used);
+    }
+
+pub have_owners : StampsHaveOwners
+have_owners s inputs history end leads =
+    let owner : ℕ → Key = λ (stamp : ℕ). record { node = Loc; epoch = 0; number = 0 } in
+    let one = led owner (node_start s) inputs history end (record {
+      nodes = record { hosts = λ i. record { file = record { seats = tt; kept = tt; held = tt }; seats = tt; held = tt; sendings = λ n. tt }; clients = λ n. tt; admins = λ n. tt; loc = record { seats = tt; kept = tt } };
+      gave = record { seats = tt; kept = tt };
+      falls = λ i. tt;
+      sent = tt;
+      acts = λ n r is. absurd cc;
+    }) leads in
+    record { owner = one.now; theirs = one.theirs; used = one.used }

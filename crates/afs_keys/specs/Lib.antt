@@ -1,0 +1,4 @@
+pub mod Ran
+pub mod Once
+pub mod Replied
+pub mod Asked

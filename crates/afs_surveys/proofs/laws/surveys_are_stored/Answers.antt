@@ -1,0 +1,5 @@
+use Rattle.afs_surveys.proofs.Surveying.{surveys_stored}
+use Rattle.afs_surveys.proofs.laws.surveys_are_stored.Goals as goal
+
+pub returns : goal.returns
+returns c = surveys_stored
