@@ -15,7 +15,7 @@ trap 'exit 143' TERM
 passed=0
 failed=0
 
-usage='usage: afscell replay [--wire] [--disks DIR]'
+usage='usage: afscell replay [--wire] [--disks DIR] | gen N'
 look_usage='usage: afscell look [--wire] FILE..'
 # how long it says that a build and a look take
 first_build=$(sed -n "s/^first_build='\(.*\)'$/\1/p" afscell)
@@ -228,6 +228,11 @@ form|replay|--disks==
 form|replay|--disks=a=--wire
 form|replay|--disks|replay
 form|replay|--disks|$(printf '\303\244')
+form|gen|1
+form|gen|9
+form|gen|10
+form|gen|999
+form|gen|1000
 none
 none|
 none|Replay
@@ -283,9 +288,25 @@ none|--disks|disks|replay
 none|replays
 none|run
 none|run|--wire
-none|gen|1
+none|gen
+none|gen|
+none|gen|0
 none|gen|+1
+none|gen|-1
 none|gen|01
+none|gen|1001
+none|gen|10000
+none|gen|1x
+none|gen| 1
+none|gen|1|1
+none|gen|1|--wire
+none|gen|--wire|1
+none|gen|--
+none|gen|--|1
+none|gen|--help
+none|1|gen
+none|Gen|1
+none|gen|replay
 none|--
 none|--|replay
 none|help|replay
@@ -342,6 +363,7 @@ wanted 2
 tells "$usage"
 launch_at_once 'no words, without the program' < /dev/null
 by_variable launch_at_once 'words of no form, for a look' replay replay < /dev/null
+by_variable launch_at_once 'words of no form for a made script, for a look' gen 0 < /dev/null
 
 for words in --help -h help 'look --help'; do
     status=0
@@ -415,6 +437,10 @@ for ended in 0 4 5 6 7 8; do
     tells 'a line of the program'
     launch_at_once "the program's status $ended" replay --wire < "$work/script"
     over_pipe launch_at_once "the program's status $ended, over a pipe" replay --wire < "$work/script"
+    wanted "$ended"
+    prints 'words: <gen> <4>'
+    tells 'a line of the program'
+    launch_at_once "the program's status $ended, of a made script" gen 4 < "$work/script"
 done
 
 # The variable that asks for a look does so by 1 alone.
@@ -835,6 +861,17 @@ prints "== $work/good" 'a text' "== $work/stop" "== $work/good"
 tells "$not_proved" "afscell: the kit did not play $work/stop" "afscell: the kit did not play $work/good" 'stopped'
 echo '# stops the kit' > "$work/stop"
 launch 'a look in which the kit stops' look "$work/good" "$work/stop" "$work/good" < /dev/null
+
+# A made script needs no input.
+rm -f "$work/called"
+wanted 0
+tells "$not_proved"
+by_variable launch 'a look at a made script' gen 4 < "$work/good"
+if [ "$(sed 's/ --cases [^ ]* / --cases FOLDER /' "$work/called")" = 'afs_top: try --cases FOLDER -- gen 4' ]; then
+    pass
+else
+    fail "a look at a made script: the kit is called by $(cat "$work/called")"
+fi
 
 wanted 0
 prints 'a text'

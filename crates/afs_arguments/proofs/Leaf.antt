@@ -1,11 +1,12 @@
--- The command of a replay as clap builds it, and the walk through its words.
+-- The commands as clap builds them, and the walks through their words.
 use Rattle.std.proofs.Common.{◌≡◌, List, [], ◌∷◌, true, false, Option, Some, None, codes, refl}
 use Rattle.clap.specs.Walk.{Held, Row, Rule, Text, Waiting, Walk}
 use Rattle.clap.specs.Simple.{Shape, built}
+use Rattle.clap.specs.declared.builder.action.ArgAction.TheVariants.{Set}
 use Rattle.clap.specs.declared.builder.value_parser.Reading.TheVariants.{AsWritten}
 use Rattle.clap.specs.declared.builder.value_parser.ValueParser.TheVariants.{Bool, String}
 use Rattle.clap.specs.declared.parser.matches.ValueSource.TheVariants.{CommandLine}
-use Rattle.afs_arguments.specs.Program.{disks_rule, program, replay, wire_rule}
+use Rattle.afs_arguments.specs.Program.{disks_rule, gen, number_rule, program, replay, wire_rule}
 
 abbrev pub wire : Rule
 wire = record wire_rule { defaults = codes "false" ∷ []; missing = codes "true" ∷ []; parser = Some Bool; range = Some (record { start_inclusive = 0; end_inclusive = 0 }) }
@@ -19,10 +20,19 @@ rules = wire ∷ disks ∷ []
 abbrev pub leaf : Shape
 leaf = record replay.top { rules = rules; no_binary_name = true; disable_help_flag = true; disable_help_subcommand = true; is_built = true }
 
+abbrev pub number : Rule
+number = record number_rule { index = Some 1; action = Some Set; parser = Some String; range = Some (record { start_inclusive = 1; end_inclusive = 1 }) }
+
+abbrev pub made_rules : List Rule
+made_rules = number ∷ []
+
+abbrev pub made_leaf : Shape
+made_leaf = record gen.top { rules = made_rules; no_binary_name = true; disable_help_flag = true; disable_help_subcommand = true; is_built = true }
+
 abbrev pub top : Shape
 top = record program.top { is_built = true }
 
-pub built_is : built program ≡ record { top = top; subs = leaf ∷ [] }
+pub built_is : built program ≡ record { top = top; subs = leaf ∷ made_leaf ∷ [] }
 built_is = refl
 
 -- what a walk holds, and where it stands

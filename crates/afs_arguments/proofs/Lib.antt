@@ -1,6 +1,7 @@
 mod Leaf
 mod Words
 mod Walks
+mod Made
 mod Takes
 mod Top
 mod Asking

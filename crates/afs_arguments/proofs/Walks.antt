@@ -91,7 +91,7 @@ NoDashes words = list_any (λ (word : Text). bytes_eq word (codes "--")) words �
 pub front : (word : Text) (rest : List Text) → NoDashes (word ∷ rest) → bytes_eq word (codes "--") ≡ false
 front word rest none = (or_parts _ _ none).0
 
-tail : (word : Text) (rest : List Text) → NoDashes (word ∷ rest) → NoDashes rest
+pub tail : (word : Text) (rest : List Text) → NoDashes (word ∷ rest) → NoDashes rest
 tail word rest none = (or_parts _ _ none).1
 
 -- ---- a word of another kind

@@ -1,5 +1,5 @@
--- What a word is to clap, in a replay.
-use Rattle.std.proofs.Common.{◌≡◌, ℕ, List, [], ◌∷◌, ◌++◌, Bool, true, false, cond, ◌==◌, Option, Some, None, codes, refl, sym, ap, ◌∙◌, not, nat_eq, bytes_eq, suc, ◌+◌, take, drop, arith}
+-- What a word is to clap, in a replay and behind `gen`.
+use Rattle.std.proofs.Common.{◌≡◌, ℕ, List, [], ◌∷◌, ◌++◌, Bool, true, false, cond, ◌==◌, Option, Some, None, codes, refl, sym, ap, subst, ◌∙◌, ◌⊎◌, inl, inr, not, nat_eq, bytes_eq, suc, ◌+◌, take, drop, arith}
 use Rattle.std.proofs.lemmas.Bool.{eqb-true}
 use Rattle.std.proofs.lemmas.Slice.Eq.{bytes_eq-Decides}
 use Rattle.std.specs.Prelude.{option_and_then, slice_get}
@@ -8,11 +8,12 @@ use Rattle.std.specs.Str.{chars}
 use Rattle.clap.specs.Lexer.{long_of, long_of_rest, name_and_value, short_of, strip_byte}
 use Rattle.clap.specs.Faults.{flag_word_fault, flags_fault}
 use Rattle.clap.specs.Kinds.{Kinds}
-use Rattle.clap.specs.Walk.{Row, Text, Waiting, bundle_met, long_or_other, plain_word}
+use Rattle.clap.specs.Walk.{Row, Rule, Text, Waiting, arg_by_short, bundle_met, long_or_other, plain_word}
 use Rattle.clap.specs.declared.error.kind.ErrorKind.{ErrorKind}
 use Rattle.clap.specs.declared.error.kind.ErrorKind.TheVariants.{TooManyValues, UnknownArgument}
+use Rattle.afs_model.specs.ScriptWords.{numeral, ranged}
 use Rattle.afs_command.specs.Forms.{is_name}
-use Rattle.afs_arguments.proofs.Leaf.{held, rules}
+use Rattle.afs_arguments.proofs.Leaf.{held, made_rules, rules}
 
 pub some_is : {A : Type 0} {x y : A} → Some x ≡ Some y → x ≡ y
 some_is e = cc
@@ -70,16 +71,22 @@ spelled word name value e =
 
 -- ---- the kinds of words
 
--- the word is a flag that a replay hasn't, or one with a value that it doesn't take
-pub record IsBad (word : Text) : Type 0 where
+-- the word is a flag that these rules haven't, or one with a value that it doesn't take
+pub record IsBadIn (all : List Rule) (word : Text) : Type 0 where
   pub dashes : bytes_eq word (codes "--") ≡ false
-  pub fault : (rows : List Row) (pending : Option (Text × List Text)) → flag_word_fault rules false (long_of word) word (held rows pending) ≡ [] → ⊥
+  pub fault : (rows : List Row) (pending : Option (Text × List Text)) → flag_word_fault all false (long_of word) word (held rows pending) ≡ [] → ⊥
 
 -- the word is no flag
-pub record IsPlain (word : Text) : Type 0 where
+pub record IsPlainIn (all : List Rule) (word : Text) : Type 0 where
   pub dashes : bytes_eq word (codes "--") ≡ false
-  pub fault : (rows : List Row) (pending : Option (Text × List Text)) → flag_word_fault rules false (long_of word) word (held rows pending) ≡ []
-  pub met : (waiting : Waiting) (rows : List Row) (pending : Option (Text × List Text)) → long_or_other rules waiting word (long_of word) (held rows pending) ≡ plain_word rules waiting word (held rows pending)
+  pub fault : (rows : List Row) (pending : Option (Text × List Text)) → flag_word_fault all false (long_of word) word (held rows pending) ≡ []
+  pub met : (waiting : Waiting) (rows : List Row) (pending : Option (Text × List Text)) → long_or_other all waiting word (long_of word) (held rows pending) ≡ plain_word all waiting word (held rows pending)
+
+abbrev pub IsBad : Text → Type 0
+IsBad word = IsBadIn rules word
+
+abbrev pub IsPlain : Text → Type 0
+IsPlain word = IsPlainIn rules word
 
 pub data Word (word : Text) : Type 0 where
   tells : word ≡ codes "--wire" → Word word
@@ -117,35 +124,68 @@ of_long word name value d e = by_wire (bytes_eq (codes "wire") name) refl where
   by_wire true is = of_wire word name value d e is
   by_wire false is = by_disks (bytes_eq (codes "disks") name) refl is
 
-of_short : (word flags : Text) → bytes_eq word (codes "--") ≡ false → long_of word ≡ None → short_of word ≡ Some flags → Word word
+-- no rule has a short flag
+of_short : (all : List Rule) → ((letter : ℕ) → arg_by_short all letter ≡ None) → (word flags : Text) → bytes_eq word (codes "--") ≡ false → long_of word ≡ None → short_of word ≡ Some flags → IsBadIn all word ⊎ IsPlainIn all word
 unfolding flags_fault bundle_met
-of_short word [] d l s = plain (record { dashes = d; fault = λ rows pending. rw (l, s) refl; met = λ waiting rows pending. rw (l, s) refl })
-of_short word (x ∷ more) d l s = by_first (slice_get (chars (x ∷ more)) 0) refl where
-  by_first : (first : Option ℕ) → slice_get (chars (x ∷ more)) 0 ≡ first → Word word
-  by_first None is = plain (record { dashes = d; fault = λ rows pending. rw (l, s, is) refl; met = λ waiting rows pending. rw (l, s, is) refl })
-  by_first (Some flag) is = bad (record { dashes = d; fault = fault }) where
-    fault : (rows : List Row) (pending : Option (Text × List Text)) → flag_word_fault rules false (long_of word) word (held rows pending) ≡ [] → ⊥
+of_short all none word [] d l s = inr (record { dashes = d; fault = λ rows pending. rw (l, s) refl; met = λ waiting rows pending. rw (l, s) refl })
+of_short all none word (x ∷ more) d l s = by_first (slice_get (chars (x ∷ more)) 0) refl where
+  by_first : (first : Option ℕ) → slice_get (chars (x ∷ more)) 0 ≡ first → IsBadIn all word ⊎ IsPlainIn all word
+  by_first None is = inr (record { dashes = d; fault = λ rows pending. rw (l, s, is) refl; met = λ waiting rows pending. rw (l, s, is) refl })
+  by_first (Some flag) is = inl (record { dashes = d; fault = fault }) where
+    fault : (rows : List Row) (pending : Option (Text × List Text)) → flag_word_fault all false (long_of word) word (held rows pending) ≡ [] → ⊥
     fault rows pending f =
-        let there : flag_word_fault rules false (long_of word) word (held rows pending) ≡ UnknownArgument ∷ [] = rw (l, s, is) refl in
+        let there : flag_word_fault all false (long_of word) word (held rows pending) ≡ UnknownArgument ∷ [] = rw (l, s, is, none flag) refl in
         not_none _ _ (sym there ∙ f)
 
-of_plain : (word : Text) → bytes_eq word (codes "--") ≡ false → long_of word ≡ None → short_of word ≡ None → IsPlain word
-of_plain word d l s = record { dashes = d; fault = λ rows pending. rw (l, s) refl; met = λ waiting rows pending. rw (l, s) refl }
+of_plain : (all : List Rule) (word : Text) → bytes_eq word (codes "--") ≡ false → long_of word ≡ None → short_of word ≡ None → IsPlainIn all word
+of_plain all word d l s = record { dashes = d; fault = λ rows pending. rw (l, s) refl; met = λ waiting rows pending. rw (l, s) refl }
+
+either_word : (word : Text) → IsBad word ⊎ IsPlain word → Word word
+either_word word (inl b) = bad b
+either_word word (inr p) = plain p
 
 -- each word but `--` is of one of the kinds
 pub word_is : (word : Text) → bytes_eq word (codes "--") ≡ false → Word word
 word_is word d = by_long (long_of word) refl where
   by_short : (flags : Option Text) → long_of word ≡ None → short_of word ≡ flags → Word word
-  by_short None l s = plain (of_plain word d l s)
-  by_short (Some flags) l s = of_short word flags d l s
+  by_short None l s = plain (of_plain rules word d l s)
+  by_short (Some flags) l s = either_word word (of_short rules (λ letter. refl) word flags d l s)
 
   by_long : (cut : Option (Text × Option Text)) → long_of word ≡ cut → Word word
   by_long None l = by_short (short_of word) l refl
   by_long (Some p) l = of_long word p.0 p.1 d l
 
+-- behind `gen` each is a flag that it hasn't, or none
+pub made_word_is : (word : Text) → bytes_eq word (codes "--") ≡ false → IsBadIn made_rules word ⊎ IsPlainIn made_rules word
+made_word_is word d = by_long (long_of word) refl where
+  by_short : (flags : Option Text) → long_of word ≡ None → short_of word ≡ flags → IsBadIn made_rules word ⊎ IsPlainIn made_rules word
+  by_short None l s = inr (of_plain made_rules word d l s)
+  by_short (Some flags) l s = of_short made_rules (λ letter. refl) word flags d l s
+
+  by_long : (cut : Option (Text × Option Text)) → long_of word ≡ cut → IsBadIn made_rules word ⊎ IsPlainIn made_rules word
+  by_long None l = by_short (short_of word) l refl
+  by_long (Some p) l = inl (record { dashes = d; fault = fault }) where
+    fault : (rows : List Row) (pending : Option (Text × List Text)) → flag_word_fault made_rules false (long_of word) word (held rows pending) ≡ [] → ⊥
+    fault rows pending f =
+        let there : flag_word_fault made_rules false (long_of word) word (held rows pending) ≡ UnknownArgument ∷ [] = rw (l) refl in
+        not_none _ _ (sym there ∙ f)
+
 -- a folder's name is no flag
-pub name_is_plain : (name : Text) → is_name name ≡ true → IsPlain name
-name_is_plain [] is = absurd cc
-name_is_plain (letter ∷ more) is =
+pub name_is_plain : (all : List Rule) (name : Text) → is_name name ≡ true → IsPlainIn all name
+name_is_plain all [] is = absurd cc
+name_is_plain all (letter ∷ more) is =
     let no : nat_eq letter 45 ≡ false = not_false (nat_eq letter 45) is in
-    of_plain (letter ∷ more) (rw (no) refl) (rw (no) refl) (rw (no) refl)
+    of_plain all (letter ∷ more) (rw (no) refl) (rw (no) refl) (rw (no) refl)
+
+-- and no number begins as an option does
+hyphen_is_none : (more : Text) (number : ℕ) → ranged 1 1000 (45 ∷ more) ≡ Some number → ⊥
+unfolding ranged numeral
+hyphen_is_none more number is = absurd cc
+
+pub number_is_name : (word : Text) (number : ℕ) → ranged 1 1000 word ≡ Some number → is_name word ≡ true
+unfolding ranged numeral
+number_is_name [] number is = absurd cc
+number_is_name (letter ∷ more) number is = either (nat_eq letter 45) refl where
+  either : (hyphen : Bool) → nat_eq letter 45 ≡ hyphen → not (nat_eq letter 45) ≡ true
+  either true h = absurd (hyphen_is_none more number (subst (λ (n : ℕ). ranged 1 1000 (n ∷ more) ≡ Some number) (eqb-true letter 45 h) is))
+  either false h = rw (h) refl

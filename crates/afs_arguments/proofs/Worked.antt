@@ -5,9 +5,10 @@ use Rattle.clap.proofs.OnLiterals.{clap_on_literals}
 use Rattle.clap.specs.Faults.{fault_of}
 use Rattle.clap.specs.Walk.{Text, is_empty}
 use Rattle.afs_disk.specs.declared.bank.Place.TheVariants.{Memory, Folder}
+use Rattle.afs_model.specs.ScriptWords.{numeral, ranged}
 use Rattle.afs_command.specs.Forms.{form_in}
 use Rattle.afs_command.specs.declared.statuses.Form.{Form}
-use Rattle.afs_command.specs.declared.statuses.Form.TheVariants.{Replay}
+use Rattle.afs_command.specs.declared.statuses.Form.TheVariants.{Gen, Replay}
 use Rattle.afs_arguments.specs.Program.{program}
 
 -- ---- words that have a form
@@ -31,9 +32,13 @@ asked =
     ∷ record { words = codes "replay" ∷ codes "--disks==" ∷ []; form = Replay false (Folder (codes "=")) }
     ∷ record { words = codes "replay" ∷ codes "--disks" ∷ codes "replay" ∷ []; form = Replay false (Folder (codes "replay")) }
     ∷ record { words = codes "replay" ∷ codes "--disks" ∷ (195 ∷ 164 ∷ []) ∷ []; form = Replay false (Folder (195 ∷ 164 ∷ [])) }
+    ∷ record { words = codes "gen" ∷ codes "1" ∷ []; form = Gen 1 }
+    ∷ record { words = codes "gen" ∷ codes "4" ∷ []; form = Gen 4 }
+    ∷ record { words = codes "gen" ∷ codes "1000" ∷ []; form = Gen 1000 }
     ∷ []
 
 they_ask : map (λ (row : Row). form_in row.words) asked ≡ map (λ (row : Row). Some row.form) asked
+unfolding ranged numeral
 they_ask = refl
 
 they_are_taken : list_all (λ (row : Row). is_empty (fault_of program row.words)) asked ≡ true
@@ -50,9 +55,19 @@ refused =
     ∷ (codes "replays" ∷ [])
     ∷ (codes "run" ∷ [])
     ∷ (codes "run" ∷ codes "--wire" ∷ [])
-    ∷ (codes "gen" ∷ codes "4" ∷ [])
-    ∷ (codes "gen" ∷ codes "+4" ∷ [])
-    ∷ (codes "gen" ∷ codes "04" ∷ [])
+    ∷ (codes "gen" ∷ [])
+    ∷ (codes "Gen" ∷ codes "4" ∷ [])
+    ∷ (codes "gens" ∷ codes "4" ∷ [])
+    ∷ (codes "4" ∷ codes "gen" ∷ [])
+    ∷ (codes "gen" ∷ codes "-4" ∷ [])
+    ∷ (codes "gen" ∷ codes "4" ∷ codes "5" ∷ [])
+    ∷ (codes "gen" ∷ codes "4" ∷ codes "--wire" ∷ [])
+    ∷ (codes "gen" ∷ codes "--wire" ∷ codes "4" ∷ [])
+    ∷ (codes "gen" ∷ codes "--disks=d" ∷ codes "4" ∷ [])
+    ∷ (codes "gen" ∷ codes "--N" ∷ codes "4" ∷ [])
+    ∷ (codes "gen" ∷ codes "4" ∷ codes "replay" ∷ [])
+    ∷ (codes "replay" ∷ codes "gen" ∷ [])
+    ∷ (codes "gen" ∷ codes "--help" ∷ [])
     ∷ (codes "help" ∷ [])
     ∷ (codes "help" ∷ codes "replay" ∷ [])
     ∷ (codes "--help" ∷ [])
@@ -98,7 +113,7 @@ refused =
 
 -- clap refuses these
 they_are_refused : list_all (λ (words : List Text). not (is_some (form_in words)) && not (is_empty (fault_of program words))) refused ≡ true
-unfolding clap_on_literals
+unfolding clap_on_literals ranged numeral
 they_are_refused = refl
 
 abbrev looked_over : List (List Text)
@@ -114,9 +129,18 @@ looked_over =
     ∷ (codes "replay" ∷ codes "--disks=-d" ∷ [])
     ∷ (codes "replay" ∷ codes "--disks=--" ∷ [])
     ∷ (codes "replay" ∷ codes "--disks=--wire" ∷ codes "--wire" ∷ [])
+    ∷ (codes "gen" ∷ [] ∷ [])
+    ∷ (codes "gen" ∷ codes "0" ∷ [])
+    ∷ (codes "gen" ∷ codes "04" ∷ [])
+    ∷ (codes "gen" ∷ codes "+4" ∷ [])
+    ∷ (codes "gen" ∷ codes "4x" ∷ [])
+    ∷ (codes "gen" ∷ codes "1001" ∷ [])
+    ∷ (codes "gen" ∷ codes "-" ∷ [])
+    ∷ (codes "gen" ∷ codes "--" ∷ codes "4" ∷ [])
+    ∷ (codes "gen" ∷ codes "replay" ∷ [])
     ∷ []
 
 -- clap takes these, and what looks them over refuses them
 they_are_looked_over : list_all (λ (words : List Text). not (is_some (form_in words)) && is_empty (fault_of program words)) looked_over ≡ true
-unfolding clap_on_literals
+unfolding clap_on_literals ranged numeral
 they_are_looked_over = refl

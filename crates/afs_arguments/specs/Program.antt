@@ -22,6 +22,18 @@ replay = with_rule (with_rule (new_app (codes "replay")) wire_rule) disks_rule
 abbrev pub IsReplay : Command → Type 0
 IsReplay c = (app_of c ≡ replay) × ((out-Command c).has_globals ≡ false)
 
+-- the number for which a script is to be made
+abbrev pub number_rule : Rule
+number_rule = record (new_rule (codes "N")) { required = true }
+
+abbrev pub gen : App
+gen = with_rule (new_app (codes "gen")) number_rule
+
+-- the command `gen` with its number
+abbrev pub IsGen : Command → Type 0
+IsGen c = (app_of c ≡ gen) × ((out-Command c).has_globals ≡ false)
+
 -- Of the whole program the words are those behind its name. It has no help, and wants a command.
 abbrev pub program : App
-program = with_subcommand (on_top (λ s. record s { no_binary_name = true; disable_help_flag = true; disable_help_subcommand = true; subcommand_required = true }) (new_app (codes "afscell"))) replay.top
+program =
+    with_subcommand (with_subcommand (on_top (λ s. record s { no_binary_name = true; disable_help_flag = true; disable_help_subcommand = true; subcommand_required = true }) (new_app (codes "afscell"))) replay.top) gen.top

@@ -1,6 +1,6 @@
 //! What the words ask, as `clap` finds it.
 
-ghost use Rattle.std.specs.Prelude.{◌≡◌, ◌↔◌, IfOk, IsSome, IsTrue, OnErr, codes, map, string_bytes};
+ghost use Rattle.std.specs.Prelude.{◌≡◌, ◌↔◌, IfOk, IsSome, IsTrue, None, OnErr, codes, map, string_bytes};
 ghost use Rattle.std.specs.Option.{option_map};
 ghost use Rattle.std.specs.List.{list_any};
 ghost use Rattle.std.specs.Str.{bytes_eq};
@@ -10,14 +10,15 @@ ghost use Rattle.clap.specs.Kinds.{FailsBy};
 ghost use Rattle.clap.specs.Simple.{subcommand_of};
 ghost use Rattle.clap.specs.Walk.{first_of, rows_of};
 ghost use Rattle.clap.specs.declared.error.kind.ErrorKind.TheVariants.{OutOfMemory};
-ghost use Rattle.afs_arguments.specs.Program.{program, IsReplay};
-ghost use Rattle.afs_command.specs.Forms.{asked_in, form_in, is_name, place_of};
-ghost use Rattle.afs_arguments.specs.Found.{Finds, FindsIn, IsTold, checked};
+ghost use Rattle.afs_arguments.specs.Program.{program, IsGen, IsReplay};
+ghost use Rattle.afs_command.specs.Forms.{form_by, form_in, is_name, place_of};
+ghost use Rattle.afs_arguments.specs.Found.{checked, made_by, Finds, FindsIn, FindsWord, IsTaken, IsTold};
 
 use afs_command::statuses::{Form, form_of as form_without_clap};
 use afs_disk::Place;
 use afs_num::sequences::Octets;
 use afs_num::types::Mem;
+use afs_words::words::ranged;
 use clap::error::ErrorKind;
 use clap::{Arg, ArgAction, ArgMatches, Command, Error};
 use std::alloc::{AllocError, Global};
@@ -36,17 +37,27 @@ fn replay<'a>(alloc: Global) -> Result<Command<'a>, AllocError>
     Command::new(alloc, "replay").arg(wire)?.arg(disks)
 }
 
+/// The number of a made script.
+fn made<'a>(alloc: Global) -> Result<Command<'a>, AllocError>
+    ensures { IfOk result IsGen }
+{
+    let number = Arg::new(alloc, "N").required(true);
+    Command::new(alloc, "gen").arg(number)
+}
+
 /// The program's command. It has no help of its own: each list of words but its forms is wrong.
 fn program<'a>(alloc: Global) -> Result<Command<'a>, AllocError>
     ensures { IfOk result (λ c. app_of c ≡ program) }
 {
     let replay = replay(alloc)?;
+    let made = made(alloc)?;
     Command::new(alloc, "afscell")
         .no_binary_name(true)
         .disable_help_flag(true)
         .disable_help_subcommand(true)
         .subcommand_required(true)
-        .subcommand(replay)
+        .subcommand(replay)?
+        .subcommand(made)
 }
 
 /// What clap makes of the words.
@@ -106,6 +117,23 @@ fn options_of<'a>(matches: &ArgMatches<'a>) -> Option<Options<'a>>
     }
 }
 
+/// The word that clap found for the number.
+fn word_in<'a>(found: &ArgMatches<'a>) -> Option<&'a str>
+    ensures { option_map (λ n. n.now) result ≡ first_of (codes "N") (rows_of (found_of found.now)) }
+{
+    found.get_str("N")
+}
+
+/// The word behind `gen`, where clap found that command.
+fn word_of<'a>(matches: &ArgMatches<'a>) -> Option<&'a str>
+    ensures { FindsWord (subcommand_rows_of matches.now) (option_map (λ n. n.now) result) }
+{
+    match matches.subcommand_matches("gen") {
+        Some(found) => word_in(found),
+        None => None,
+    }
+}
+
 /// Whether a word can name a folder: it isn't empty, and doesn't begin as an option does.
 fn is_name(word: &str) -> bool
     ensures { result ≡ is_name word.now }
@@ -145,18 +173,15 @@ fn is_memory(error: &Error) -> bool
     error.kind() == ErrorKind::OutOfMemory
 }
 
-/// The options that the words ask for, where they have a form.
-fn asked_in(alloc: Global, words: &[String]) -> Result<Option<Options<'_>>, AllocError>
-    ensures { IfOk result (λ o. o ≡ asked_in (map string_bytes words.now)) }
+/// What clap finds in the words; nothing where they have none of the forms.
+fn taken<'a>(alloc: Global, words: &'a [String]) -> Result<Option<ArgMatches<'a>>, AllocError>
+    ensures { IfOk result (λ m. IsTaken (map string_bytes words.now) (option_map subcommand_rows_of m)) }
 {
     if has_dashes(words) {
         return Ok(None);
     }
     match parsed(alloc, words) {
-        Ok(matches) => match options_of(&matches) {
-            Some(options) => Ok(checked(options)),
-            None => Ok(None),
-        },
+        Ok(matches) => Ok(Some(matches)),
         Err(error) if is_memory(&error) => Err(AllocError),
         Err(_) => Ok(None),
     }
@@ -172,11 +197,11 @@ fn place_of(alloc: Global, folder: Option<&str>) -> Mem<Place>
     }
 }
 
-/// The form that clap finds in the words.
-fn form_found(alloc: Global, words: &[String]) -> Mem<Option<Form>>
-    ensures { IfOk result (λ o. o ≡ form_in (map string_bytes words.now)) }
+/// A replay with these options, where there are any.
+fn replay_by(alloc: Global, options: Option<Options<'_>>) -> Mem<Option<Form>>
+    ensures { IfOk result (λ o. o ≡ form_by None options.entry) }
 {
-    let Some(options) = asked_in(alloc, words)? else {
+    let Some(options) = options else {
         return Ok(None);
     };
     let place = place_of(alloc, options.folder)?;
@@ -184,6 +209,27 @@ fn form_found(alloc: Global, words: &[String]) -> Mem<Option<Form>>
         wire: options.wire,
         place,
     }))
+}
+
+/// The script of this word's number, where it is one from 1 to 1,000.
+fn made_by(word: Option<&str>) -> Option<Form>
+    ensures { result ≡ made_by (option_map (λ n. n.now) word.entry) }
+{
+    let number = ranged(1, 1000, word?.as_bytes())? as u32;
+    Some(Form::Gen { number })
+}
+
+/// The form that clap finds in the words, looked over where it takes more than the program.
+fn form_found(alloc: Global, words: &[String]) -> Mem<Option<Form>>
+    ensures { IfOk result (λ o. o ≡ form_in (map string_bytes words.now)) }
+{
+    let Some(matches) = taken(alloc, words)? else {
+        return Ok(None);
+    };
+    match options_of(&matches) {
+        Some(options) => replay_by(alloc, checked(options)),
+        None => Ok(made_by(word_of(&matches))),
+    }
 }
 
 /// The form of the words behind the program's name, where they have one. Clap takes memory, for wrong words too. Where it has none,

@@ -7,8 +7,8 @@ use Rattle.std.proofs.lemmas.Slice.Eq.{bytes_eq-Decides}
 use Rattle.afs_disk.specs.declared.bank.Place.{Place}
 use Rattle.afs_disk.specs.declared.bank.Place.TheVariants.{Memory, Folder}
 use Rattle.afs_command.specs.declared.statuses.Form.{Form}
-use Rattle.afs_command.specs.declared.statuses.Form.TheVariants.{Replay}
-use Rattle.afs_command.specs.Forms.{form_in, is_disks, is_name, is_wire, name_in, name_of, of_three, of_two, options_behind, options_in, place_of, with_folder, AreOptions, Asks, HaveForm, IsPlace, IsWire, Options}
+use Rattle.afs_command.specs.declared.statuses.Form.TheVariants.{Gen, Replay}
+use Rattle.afs_command.specs.Forms.{form_by, form_in, generated_in, is_disks, is_name, is_wire, name_in, name_of, number_behind, number_in, of_three, of_two, asked_in, options_behind, options_in, place_of, with_folder, AreOptions, Asks, HaveForm, IsNumber, IsPlace, IsWire, Options}
 
 some_injective : {A : Type 0} {x y : A} → Some x ≡ Some y → x ≡ y
 some_injective p = cc
@@ -70,6 +70,7 @@ place_again (Folder name) = refl
 pub read_as_asked : (form : Form) (words : List (List ℕ)) → Asks form words → form_in words ≡ Some form
 read_as_asked (Replay wire place) words a =
     rw (a.1.0, read_options wire place a.0 a.1.1) (ap (λ (p : Place). Some (Replay wire p)) (place_again place))
+read_as_asked (Gen number) words a = rw (a.1.0, a.1.1) refl
 
 pub have_form_is_read : (words : List (List ℕ)) → HaveForm words → IsSome (form_in words)
 have_form_is_read words h = rw (read_as_asked h.0 words h.1) refl
@@ -195,13 +196,32 @@ asked_options (a ∷ b ∷ []) o p = asked_of_two a b o p
 asked_options (a ∷ b ∷ c ∷ []) o p = asked_of_three a b c o p
 asked_options (a ∷ b ∷ c ∷ d ∷ more) o p = absurd cc
 
-pub asked_as_read : (words : List (List ℕ)) (form : Form) → form_in words ≡ Some form → Asks form words
-asked_as_read [] form p = absurd cc
-asked_as_read (word ∷ words) form p = either (bytes_eq word (codes "replay")) refl p where
-  behind : (read : Option Options) → read ≡ options_in words → option_map (λ (o : Options). Replay o.wire (place_of o.folder)) read ≡ Some form → bytes_eq word (codes "replay") ≡ true → Asks form (word ∷ words)
-  behind None are q is = absurd cc
-  behind (Some o) are q is = rw (← some_injective q) (words, (ap (λ (w : List ℕ). w ∷ words) (alike word (codes "replay") is), asked_options words o (sym are)))
+asked_replay : (words : List (List ℕ)) (read : Option Options) (form : Form) → read ≡ asked_in words → form_by None read ≡ Some form → Asks form words
+asked_replay [] None form are q = absurd cc
+asked_replay [] (Some o) form are q = absurd cc
+asked_replay (word ∷ words) None form are q = absurd cc
+asked_replay (word ∷ words) (Some o) form are q = either (bytes_eq word (codes "replay")) refl are where
+  either : (is : Bool) → bytes_eq word (codes "replay") ≡ is → Some o ≡ options_behind is words → Asks form (word ∷ words)
+  either true is p = rw (← some_injective q) (words, (ap (λ (w : List ℕ). w ∷ words) (alike word (codes "replay") is), asked_options words o (sym p)))
+  either false is p = absurd cc
 
-  either : (is : Bool) → bytes_eq word (codes "replay") ≡ is → option_map (λ (o : Options). Replay o.wire (place_of o.folder)) (options_behind is words) ≡ Some form → Asks form (word ∷ words)
-  either true is q = behind (options_in words) refl q is
+-- the number stands alone behind `gen`
+asked_number : (words : List (List ℕ)) (number : ℕ) → number_in words ≡ Some number → (word : List ℕ) × ((words ≡ word ∷ []) × IsNumber number word)
+asked_number [] number p = absurd cc
+asked_number (word ∷ []) number p = (word, (refl, p))
+asked_number (a ∷ b ∷ more) number p = absurd cc
+
+asked_generated : (words : List (List ℕ)) (number : ℕ) → generated_in words ≡ Some number → Asks (Gen number) words
+asked_generated [] number p = absurd cc
+asked_generated (word ∷ words) number p = either (bytes_eq word (codes "gen")) refl p where
+  either : (is : Bool) → bytes_eq word (codes "gen") ≡ is → number_behind is words ≡ Some number → Asks (Gen number) (word ∷ words)
+  either true is q =
+      let alone = asked_number words number q in
+      (alone.0, (ap (λ (w : List ℕ). w ∷ words) (alike word (codes "gen") is) ∙ ap (λ (ws : List (List ℕ)). codes "gen" ∷ ws) alone.1.0, alone.1.1))
   either false is q = absurd cc
+
+pub asked_as_read : (words : List (List ℕ)) (form : Form) → form_in words ≡ Some form → Asks form words
+asked_as_read words form p = either (generated_in words) refl p where
+  either : (made : Option ℕ) → generated_in words ≡ made → form_by made (asked_in words) ≡ Some form → Asks form words
+  either (Some number) is q = rw (← some_injective q) (asked_generated words number is)
+  either None is q = asked_replay words (asked_in words) form refl q

@@ -6,7 +6,8 @@ use Rattle.afs_disk.specs.declared.bank.Place.{Place}
 use Rattle.afs_disk.specs.declared.bank.Place.TheVariants.{Memory, Folder}
 use Rattle.std.specs.Str.{bytes_eq}
 use Rattle.afs_command.specs.declared.statuses.Form.{Form}
-use Rattle.afs_command.specs.declared.statuses.Form.TheVariants.{Replay}
+use Rattle.afs_model.specs.ScriptWords.{ranged}
+use Rattle.afs_command.specs.declared.statuses.Form.TheVariants.{Gen, Replay}
 
 -- ---- what the forms are
 
@@ -33,10 +34,15 @@ pub record AreOptions (wire : Bool) (place : Place) (words : List (List ℕ)) : 
   pub is_place : IsPlace place kept
   pub order : (words ≡ told ++ kept) ⊎ (words ≡ kept ++ told)
 
+-- a number from 1 to 1,000, in decimal without leading zeros
+abbrev pub IsNumber : ℕ → List ℕ → Type 0
+IsNumber number word = ranged 1 1000 word ≡ Some number
+
 -- These words ask for this: a script is played by its schedule over disks of this place, and its messages are told with their
--- bytes or without.
+-- bytes or without; or the script that is made for a number is played, and its summary told.
 abbrev pub Asks : Form → List (List ℕ) → Type 0
 Asks (Replay wire place) words = (options : List (List ℕ)) × ((words ≡ codes "replay" ∷ options) × AreOptions wire place options)
+Asks (Gen number) words = (word : List ℕ) × ((words ≡ codes "gen" ∷ word ∷ []) × IsNumber number word)
 
 -- these words have one of the forms
 abbrev pub HaveForm : List (List ℕ) → Type 0
@@ -90,5 +96,24 @@ abbrev pub place_of : Option (List ℕ) → Place
 place_of None = Memory
 place_of (Some name) = Folder name
 
+-- the number that stands alone behind `gen`
+abbrev pub number_in : List (List ℕ) → Option ℕ
+number_in [] = None
+number_in (word ∷ []) = ranged 1 1000 word
+number_in (a ∷ b ∷ more) = None
+
+abbrev pub number_behind : Bool → List (List ℕ) → Option ℕ
+number_behind true words = number_in words
+number_behind false words = None
+
+abbrev pub generated_in : List (List ℕ) → Option ℕ
+generated_in [] = None
+generated_in (word ∷ words) = number_behind (bytes_eq word (codes "gen")) words
+
+-- a script is to be made, or one is to be played as options ask
+abbrev pub form_by : Option ℕ → Option Options → Option Form
+form_by (Some number) asked = Some (Gen number)
+form_by None asked = option_map (λ (o : Options). Replay o.wire (place_of o.folder)) asked
+
 abbrev pub form_in : List (List ℕ) → Option Form
-form_in words = option_map (λ (o : Options). Replay o.wire (place_of o.folder)) (asked_in words)
+form_in words = form_by (generated_in words) (asked_in words)

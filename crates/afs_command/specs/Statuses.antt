@@ -33,7 +33,7 @@ reason_word reasons.Missing = codes "Missing"
 -- the line on standard error; there is none where all is done
 abbrev pub status_line : Status → List ℕ
 status_line statuses.Done = []
-status_line statuses.Usage = codes "usage: afscell replay [--wire] [--disks DIR]\n"
+status_line statuses.Usage = codes "usage: afscell replay [--wire] [--disks DIR] | gen N\n"
 status_line (statuses.Script line reason) = codes "script: line " ++ (decimal line ++ (codes ": " ++ (reason_word reason ++ codes "\n")))
 status_line statuses.ReadFault = codes "read fault\n"
 status_line statuses.WriteFault = codes "write fault\n"

@@ -1,8 +1,8 @@
 //! What the program answers to its caller, and what its words ask.
 
-ghost use Rattle.std.specs.Prelude.{◌≡◌, [], ◌∷◌, map, string_bytes, IfOk, IsSome, OnErr};
+ghost use Rattle.std.specs.Prelude.{◌≡◌, ◌≤◌, [], ◌∷◌, map, string_bytes, IfOk, IfSome, IsSome, OnErr};
 ghost use Rattle.std.specs.Option.{option_map};
-ghost use Rattle.afs_command.specs.Forms.{asked_in, form_in, is_disks, is_name, is_wire, name_in, name_of, of_three, of_two, options_in, place_of, with_folder};
+ghost use Rattle.afs_command.specs.Forms.{asked_in, form_in, generated_in, is_disks, is_name, is_wire, name_in, name_of, number_in, of_three, of_two, options_in, place_of, with_folder};
 ghost use Rattle.afs_command.specs.Statuses.{reason_word, status_line};
 
 use afs_disk::Place;
@@ -11,6 +11,7 @@ use afs_num::sequences::Octets;
 use afs_num::types::Mem;
 use afs_outside::outside::{Failed, Sink};
 use afs_text::pieces::Print;
+use afs_words::words::ranged;
 use std::alloc::Global;
 use std::marker::Model;
 
@@ -71,7 +72,7 @@ impl Print for Status {
     fn print<K: Sink>(&self, sink: &mut K) -> Result<(), Failed> {
         match *self {
             Status::Done => Ok(()),
-            Status::Usage => "usage: afscell replay [--wire] [--disks DIR]\n".print(sink),
+            Status::Usage => "usage: afscell replay [--wire] [--disks DIR] | gen N\n".print(sink),
             Status::Script(line, reason) => {
                 ("script: line ", (line, (": ", (reason_word(reason), "\n")))).print(sink)
             }
@@ -89,6 +90,8 @@ impl Print for Status {
 pub enum Form {
     /// A script is played by its schedule, over disks of this place; with `wire` its messages are told with their bytes.
     Replay { wire: bool, place: Place },
+    /// The script that is made for this number is played, and its summary told.
+    Gen { number: u32 },
 }
 
 fn is_wire(word: &[u8]) -> bool
@@ -234,11 +237,36 @@ fn place_of(alloc: Global, folder: Option<&[u8]>) -> Mem<Place>
     }
 }
 
+/// The number that stands alone behind the first word.
+fn number_in(words: &[String]) -> Option<u32>
+    ensures value { result ≡ number_in (map string_bytes words.now) }
+    ensures bound { IfSome result (λ n. n ≤ 1000) }
+{
+    match words {
+        [word] => Some(ranged(1, 1000, word.as_bytes())? as u32),
+        _ => None,
+    }
+}
+
+/// The number for which a script is to be made, from 1 to 1,000, where the words ask for that.
+pub fn generated_in(words: &[String]) -> Option<u32>
+    ensures value { result ≡ generated_in (map string_bytes words.now) }
+    ensures bound { IfSome result (λ n. n ≤ 1000) }
+{
+    match words {
+        [word, rest @ ..] if word.as_bytes() == b"gen".as_slice() => number_in(rest),
+        _ => None,
+    }
+}
+
 /// The form of the words behind the program's name, where they have one.
 pub fn form_of(alloc: Global, words: &[String]) -> Mem<Option<Form>>
     ensures form { IfOk result (λ o. o ≡ form_in (map string_bytes words.now)) }
     ensures err { OnErr result (IsSome (form_in (map string_bytes words.now))) }
 {
+    if let Some(number) = generated_in(words) {
+        return Ok(Some(Form::Gen { number }));
+    }
     let Some(options) = asked_in(words) else {
         return Ok(None);
     };
