@@ -7,7 +7,7 @@
 #   what is printed
 #   ---- wire, where messages are sent, and what is printed with --wire
 #   ---- disk N, in some rows, for one node or several, and the bytes that this node's disk has at the end
-# tests/refusals.table has the inputs that are no script. Then come words that are no form of the program, a source and a
+# tests/refusals.table has the inputs that are no script. Then come words that are no form of the program, the summaries of some made scripts, a source and a
 # sink that fail, disks in a folder, contents at the limit of a close, a directory and a volume that are full, a disk of
 # the location database that is full, and scripts at the limits of their lines and volumes. Nothing here writes what is wanted of a row. tests/seeds.sh compares made scripts with
 # a reference program.
@@ -192,7 +192,7 @@ fi
 usage() {
     name=$1
     shift
-    wanted 2 /dev/null 'usage: afscell replay [--wire] [--disks DIR]'
+    wanted 2 /dev/null 'usage: afscell replay [--wire] [--disks DIR] | gen N'
     play "words: $name" examples/open_close.afs "$@"
 }
 usage 'none'
@@ -203,7 +203,22 @@ usage 'help' help
 usage '--help' --help
 usage 'run' run
 usage 'run --wire' run --wire
-usage 'gen 1' gen 1
+usage 'gen' gen
+usage 'gen 0' gen 0
+usage 'gen 1001' gen 1001
+usage 'gen 10000' gen 10000
+usage 'gen 01' gen 01
+usage 'gen +1' gen +1
+usage 'gen -1' gen -1
+usage 'gen 1 1' gen 1 1
+usage 'gen and an empty word' gen ''
+usage 'gen --' gen --
+usage 'gen -- 1' gen -- 1
+usage 'gen 1 --wire' gen 1 --wire
+usage '1 gen' 1 gen
+usage 'Gen 1' Gen 1
+usage 'gen x' gen x
+usage 'gen and a number behind a space' gen ' 1'
 usage '--wire alone' --wire
 usage '--wire before replay' --wire replay
 usage '--wire twice' replay --wire --wire
@@ -222,6 +237,19 @@ usage '--disks and an empty word' replay --disks ''
 usage '--disks before --wire' replay --disks --wire
 usage '--disks twice' replay --disks disks --disks disks
 usage '--disks before replay' --disks disks replay
+
+# Made scripts: the summaries as a reference program printed them. No source is read, so one that fails is as good.
+while IFS='|' read -r number acts entries sent changes zero other; do
+    printf '%s\n' "gen $number" "acts $acts" "entries $entries" "sent $sent" "changes $changes" "zero $zero" "other $other" end > "$work/summary"
+    wanted 0 "$work/summary" ''
+    play "gen $number" /dev/null gen "$number"
+    play "gen $number, over a source that fails" tests gen "$number"
+done << END
+1|14|220|206|4|14|0
+4|44|376|332|18|44|0
+100|1004|3846|2842|518|1004|0
+1000|10004|36866|26862|5039|10004|0
+END
 
 # A folder can't be read.
 wanted 4 /dev/null 'read fault'

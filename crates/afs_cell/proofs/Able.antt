@@ -10,7 +10,7 @@ use Rattle.afs_cell.specs.DatabaseSteps.{LocCanStep}
 use Rattle.afs_cell.specs.Ready.{AllCanStep, CanTakeAtLoc}
 use Rattle.afs_host.specs.LocSeated.{DatabaseSeat, IsLocReadySeat}
 use Rattle.afs_cell.specs.Worlds.{most_entries, IsSafe, WorldState}
-use Rattle.afs_host.specs.Seated.{IsReadySeat, ServerSeat}
+use Rattle.afs_serverhost.specs.Seated.{IsReadySeat, ServerSeat}
 use Rattle.afs_clients.proofs.Handed.{server_is_node}
 use Rattle.afs_clients.proofs.Numbers.{place_within}
 

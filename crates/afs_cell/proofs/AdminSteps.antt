@@ -14,7 +14,7 @@ use Rattle.afs_history.specs.declared.scripts.AdminAct.{AdminAct}
 use Rattle.afs_history.specs.declared.scripts.Event.TheVariants as events
 use Rattle.afs_history.specs.declared.scripts.Task.{Task}
 use Rattle.afs_model.specs.Messages.{messages_spelled, parcels_read}
-use Rattle.afs_rows.specs.Going.{ClientState}
+use Rattle.afs_copyrows.specs.Sites.{CopyState}
 use Rattle.afs_rows.specs.Hosts.{steady}
 use Rattle.afs_rows.specs.LocSteps.{LocHost}
 use Rattle.afs_rows.specs.Runs.{gives, has_client, message_at, nothing, Entry}
@@ -34,7 +34,7 @@ use Rattle.afs_clients.proofs.Numbers.{client_there, each_put, length_put}
 use Rattle.afs_admins.specs.Happening.{AdminHears, AdminMakes, HasBegun, HasFallen, HasRisen, HasTimedOut, IsVoidAdmin}
 use Rattle.afs_admins.specs.declared.admins.AdminSeat.{AdminSeat}
 use Rattle.afs_host.specs.LocSeated.{IsLocHost}
-use Rattle.afs_host.specs.Seated.{IsHost, ServerSeat}
+use Rattle.afs_serverhost.specs.Seated.{IsHost, ServerSeat}
 use Rattle.afs_cell.specs.Steps.{IsAt, Plays}
 use Rattle.afs_cell.specs.Worlds.{falls, IsAdmin, IsClient, WorldState}
 use Rattle.afs_cell.proofs.ClientSteps.{moved_nothing, or_true, put_here, put_there, unless}
@@ -136,7 +136,7 @@ module _ {D : Type 0} (seen : D → Option (List ℕ)) (may_leave : D → List �
       count = link.moves.count ∙ at.cell.count;
       clients = λ j z here.
           let h = at.cell.clients j z here in
-          record { state_is = h.state_is ∙ sym (ap (λ (f : ℕ → ClientState). f j) link.moves.clients); away_is = h.away_is ∙ sym (ap (λ (f : ℕ → Bool). f j) link.moves.away) };
+          record { state_is = h.state_is ∙ sym (ap (λ (f : ℕ → CopyState). f j) link.moves.clients); away_is = h.away_is ∙ sym (ap (λ (f : ℕ → Bool). f j) link.moves.away) };
       sent =
           parcels_read-append w.wire outs.parcels ∙ ap₂ (λ a b. a ++ b) at.cell.sent link.read ∙ sym (messages_spelled-append t.cell.sent link.ms)
           ∙ ap messages_spelled (sym link.moves.sent);

@@ -17,10 +17,12 @@ use Rattle.afs_history.specs.declared.lines.Outs.{Outs}
 use Rattle.afs_history.specs.declared.scripts.Event.TheVariants as events
 use Rattle.afs_model.specs.Messages.{messages_spelled, parcels_read}
 use Rattle.afs_rows.specs.Callbacks.{put}
-use Rattle.afs_rows.specs.ClientRow.{act_by, act_of, act_sought, begin_row, guest_row, reborn}
+use Rattle.afs_copyrows.specs.CopyRow.{copies_reborn, copy_begin_row, copy_row}
+use Rattle.afs_copyrows.specs.Sites.{CopyState}
+use Rattle.afs_rows.specs.ClientRow.{act_by, act_of, act_sought}
 use Rattle.afs_rows.specs.States.{Location}
-use Rattle.afs_clients.specs.Happening.{seek_times_out, times_out}
-use Rattle.afs_rows.specs.Going.{ClientState, Going, Seek}
+use Rattle.afs_clients.specs.Happening.{copy_seek_times_out, copy_times_out, entry_of, ClientHears, ClientMakes, HasBegun, HasFallen, HasRisen, HasTimedOut, IsAsked, IsVoidClient}
+use Rattle.afs_rows.specs.Going.{Going, Seek}
 use Rattle.afs_rows.specs.Runs.{begins, client_starts, client_stops, gives, has_client, message_at, nothing, locations, waits, Entry, Input}
 use Rattle.afs_runs.specs.NodeRuns.{bare_entry, begun_by, client_falls, client_moves, client_rises, given_at, given_to, is_away, node_moved, sought_for, turned, usual, usually_moved, voided, waited_by, CellInput, NodeCell, NodeMoved}
 use Rattle.afs_rows.specs.LocSteps.{LocHost}
@@ -30,12 +32,11 @@ use Rattle.afs_rows.specs.Hosts.{steady}
 use Rattle.afs_rows.specs.Steps.{Step}
 use Rattle.afs_schedule.specs.Schedules.{act_input, client_act, is_idle, left_by, timeout_input, IsInput, Turn}
 use Rattle.afs_text.specs.Telling.{told, sent_by}
-use Rattle.afs_clients.specs.Happening.{entry_of, ClientHears, ClientMakes, HasBegun, HasFallen, HasRisen, HasTimedOut, IsAsked, IsVoidClient}
 use Rattle.afs_clients.specs.Places.{put_place}
 use Rattle.afs_cell.specs.Steps.{IsAt, Plays}
 use Rattle.afs_cell.specs.Worlds.{falls, IsClient, WorldState}
 use Rattle.afs_host.specs.LocSeated.{IsLocHost}
-use Rattle.afs_host.specs.Seated.{IsHost}
+use Rattle.afs_serverhost.specs.Seated.{IsHost}
 use Rattle.afs_clients.specs.declared.clients.ClientSeat.{ClientSeat}
 use Rattle.afs_admins.specs.declared.admins.AdminSeat.{AdminSeat}
 use Rattle.afs_clients.specs.declared.happening.ClientInput.{ClientInput}
@@ -57,7 +58,7 @@ after_client {D} w n now front outs = record w {
 -- ---- the cell
 
 -- one client of the cell is changed so, and nothing else but the messages
-pub record CellMoved (c : NodeCell) (n : ℕ) (m : NodeMoved) (state : ClientState) (away : Bool) (ls : List Line) (ms : List Message) : Type 0 where
+pub record CellMoved (c : NodeCell) (n : ℕ) (m : NodeMoved) (state : CopyState) (away : Bool) (ls : List Line) (ms : List Message) : Type 0 where
   pub entry : m.entry ≡ entry_with (actors.Node (Client n)) ls ms
   pub loc : m.cell.loc ≡ c.loc
   pub host_count : m.cell.host_count ≡ c.host_count
@@ -80,7 +81,7 @@ put_here n x h = ap (λ (b : Bool). cond b x (h n)) (eq-eqb n n refl)
 pub put_there : {A : Type 0} (n : ℕ) (x : A) (h : ℕ → A) (j : ℕ) → nat_eq n j ≡ false → put n x h j ≡ h j
 put_there n x h j e = ap (λ (b : Bool). cond b x (h j)) e
 
-moves_so : (c : NodeCell) (n : ℕ) (s : Step ClientState) → CellMoved c n (client_moves c n s) s.state (c.away n) s.lines s.sent
+moves_so : (c : NodeCell) (n : ℕ) (s : Step CopyState) → CellMoved c n (client_moves c n s) s.state (c.away n) s.lines s.sent
 moves_so c n s = record {
   entry = refl;
   loc = refl;
@@ -99,7 +100,7 @@ moves_so c n s = record {
   away_there = λ j e. refl;
 }
 
-turns_so : (c : NodeCell) (n : ℕ) (away : Bool) (s : Step ClientState) → CellMoved c n (turned n away (client_moves c n s)) s.state away s.lines s.sent
+turns_so : (c : NodeCell) (n : ℕ) (away : Bool) (s : Step CopyState) → CellMoved c n (turned n away (client_moves c n s)) s.state away s.lines s.sent
 turns_so c n away s = record {
   entry = refl;
   loc = refl;
@@ -185,7 +186,7 @@ pub unless : {A : Type 0} (b : Bool) (x y : A) → b ≡ false → cond b x y �
 unless b x y e = ap (λ (a : Bool). cond a x y) e
 
 -- a step that leaves the client up, and its acts but for those that the input takes
-makes_linked : (is : CellInput → Type 0) (t : Turn) (n : ℕ) (x : CellInput) (was now : ClientSeat) (front : List Line) (outs : Outs) (s : Step ClientState) → is x → node_moved t.cell x ≡ client_moves t.cell n s → IsClient was (t.cell.clients n) (t.cell.away n)
+makes_linked : (is : CellInput → Type 0) (t : Turn) (n : ℕ) (x : CellInput) (was now : ClientSeat) (front : List Line) (outs : Outs) (s : Step CopyState) → is x → node_moved t.cell x ≡ client_moves t.cell n s → IsClient was (t.cell.clients n) (t.cell.away n)
     → ClientMakes front s was now outs → left_by x t.left (Client n) ≡ now.plan → ((j : ℕ) → nat_eq n j ≡ false → left_by x t.left (Client j) ≡ t.left (Client j)) → ((j : ℕ) → left_by x t.left (Admin j) ≡ t.left (Admin j)) → falls x ≡ 0 → ClientLinked is t n now front outs
 makes_linked is t n x was now front outs s one moves here makes plan plans orders harmless = record {
   input = x;
@@ -194,7 +195,7 @@ makes_linked is t n x was now front outs s one moves here makes plan plans order
   ms = s.sent;
   moves =
       subst (λ (m : NodeMoved). CellMoved t.cell n m now.client.state false (front ++ outs.lines) s.sent) (sym moves)
-      (subst (λ (st : ClientState). CellMoved t.cell n (client_moves t.cell n s) st false (front ++ outs.lines) s.sent) (sym makes.state)
+      (subst (λ (st : CopyState). CellMoved t.cell n (client_moves t.cell n s) st false (front ++ outs.lines) s.sent) (sym makes.state)
       (subst (λ (b : Bool). CellMoved t.cell n (client_moves t.cell n s) s.state b (front ++ outs.lines) s.sent) (sym here.away_is ∙ makes.up)
       (subst (λ (ls : List Line). CellMoved t.cell n (client_moves t.cell n s) s.state (t.cell.away n) ls s.sent) (sym makes.lines) (moves_so t.cell n s))));
   away_is = makes.stays_up;
@@ -205,31 +206,31 @@ makes_linked is t n x was now front outs s one moves here makes plan plans order
   harmless = harmless;
 }
 
-begins_so : (c : NodeCell) (n : ℕ) (act : Act) → is_away c n ≡ false → act_of (c.clients n) ≡ None → act_input c n (Some act) ≡ begins n act
+begins_so : (c : NodeCell) (n : ℕ) (act : Act) → is_away c n ≡ false → act_of (c.clients n).client ≡ None → act_input c n (Some act) ≡ begins n act
 begins_so c n act up idle = ap₂ (λ (a : Bool) (g : Option Going). if not a && is_idle g then begins n act else nothing) up idle
 
-moved_begun : (c : NodeCell) (n : ℕ) (act : Act) → is_away c n ≡ false → act_of (c.clients n) ≡ None → node_moved c (usual (begins n act)) ≡ client_moves c n (begin_row (Client n) (c.clients n) c.clock act)
+moved_begun : (c : NodeCell) (n : ℕ) (act : Act) → is_away c n ≡ false → act_of (c.clients n).client ≡ None → node_moved c (usual (begins n act)) ≡ client_moves c n (copy_begin_row (Client n) (c.clients n) c.clock act)
 unfolding usually_moved
-moved_begun c n act up idle = unless (is_away c n) (voided c) (begun_by c n act (act_of (c.clients n))) up ∙ ap (begun_by c n act) idle
+moved_begun c n act up idle = unless (is_away c n) (voided c) (begun_by c n act (act_of (c.clients n).client)) up ∙ ap (begun_by c n act) idle
 
 -- an act that runs waits for a server, and one that asks for the location database
-sought_so : (c : NodeCell) (n : ℕ) (act : Going) (o : Option Seek) → act_sought o ≡ Some act → sought_for c n o ≡ client_moves c n (seek_times_out (Client n) (c.clients n) o)
+sought_so : (c : NodeCell) (n : ℕ) (act : Going) (o : Option Seek) → act_sought o ≡ Some act → sought_for c n o ≡ client_moves c n (copy_seek_times_out (Client n) (c.clients n) o)
 sought_so c n act None e = absurd cc
 sought_so c n act (Some k) e = refl
 
-waited_so : (c : NodeCell) (n : ℕ) (act : Going) (o : Option Going) → act_by o (c.clients n).seeking ≡ Some act → waited_by c n o ≡ client_moves c n (times_out (Client n) (c.clients n) o)
-waited_so c n act None e = sought_so c n act (c.clients n).seeking e
+waited_so : (c : NodeCell) (n : ℕ) (act : Going) (o : Option Going) → act_by o (c.clients n).client.seeking ≡ Some act → waited_by c n o ≡ client_moves c n (copy_times_out (Client n) (c.clients n) o)
+waited_so c n act None e = sought_so c n act (c.clients n).client.seeking e
 waited_so c n act (Some g) e = refl
 
-moved_waited : (c : NodeCell) (n : ℕ) (act : Going) → is_away c n ≡ false → act_of (c.clients n) ≡ Some act → node_moved c (usual (waits n)) ≡ client_moves c n (times_out (Client n) (c.clients n) (c.clients n).running)
+moved_waited : (c : NodeCell) (n : ℕ) (act : Going) → is_away c n ≡ false → act_of (c.clients n).client ≡ Some act → node_moved c (usual (waits n)) ≡ client_moves c n (copy_times_out (Client n) (c.clients n) (c.clients n).client.running)
 unfolding usually_moved
-moved_waited c n act up runs = unless (is_away c n) (voided c) (waited_by c n (c.clients n).running) up ∙ waited_so c n act (c.clients n).running runs
+moved_waited c n act up runs = unless (is_away c n) (voided c) (waited_by c n (c.clients n).client.running) up ∙ waited_so c n act (c.clients n).client.running runs
 
-moved_heard : (c : NodeCell) (n place : ℕ) (m : Message) → message_at c.sent place ≡ Some m → m.head.to ≡ Client n → is_away c n ≡ false → node_moved c (usual (gives place steady)) ≡ client_moves c n (guest_row (Client n) (c.clients n) c.clock place (Whole m))
+moved_heard : (c : NodeCell) (n place : ℕ) (m : Message) → message_at c.sent place ≡ Some m → m.head.to ≡ Client n → is_away c n ≡ false → node_moved c (usual (gives place steady)) ≡ client_moves c n (copy_row (Client n) (c.clients n) c.clock place (Whole m))
 unfolding usually_moved
 moved_heard c n place m at to up =
     ap (given_at c place steady) at ∙ (ap (given_to c place steady m) to
-    ∙ unless (is_away c n) (voided c) (client_moves c n (guest_row (Client n) (c.clients n) c.clock place (Whole m))) up)
+    ∙ unless (is_away c n) (voided c) (client_moves c n (copy_row (Client n) (c.clients n) c.clock place (Whole m))) up)
 
 moved_fallen : (c : NodeCell) (n : ℕ) → is_away c n ≡ false → node_moved c (usual (client_stops n)) ≡ client_falls c n
 unfolding usually_moved
@@ -249,22 +250,22 @@ module _ {D : Type 0} (seen : D → Option (List ℕ)) (may_leave : D → List �
   pub link_begun : HasBegun n t.cell.clock was now outs → ClientLinked (IsInput t (events.Act (Client n))) t n now [] outs
   link_begun h =
       let up = is_up h.makes.up in
-      let idle : act_of (t.cell.clients n) ≡ None = ap act_of (sym here.state_is) ∙ h.idle in
+      let idle : act_of (t.cell.clients n).client ≡ None = ap (λ (c : CopyState). act_of c.client) (sym here.state_is) ∙ h.idle in
       let plan : t.left (Client n) ≡ was.plan = at.acts n was found in
       let next : client_act (slice_get (t.left (Client n)) 0) ≡ Some h.act = ap (λ (ts : List Task). client_act (slice_get ts 0)) plan ∙ h.next in
-      makes_linked (IsInput t (events.Act (Client n))) t n (usual (begins n h.act)) was now [] outs (begin_row (Client n) (t.cell.clients n) t.cell.clock h.act)
+      makes_linked (IsInput t (events.Act (Client n))) t n (usual (begins n h.act)) was now [] outs (copy_begin_row (Client n) (t.cell.clients n) t.cell.clock h.act)
       (sym (ap (λ (x : Input). usual x) (ap (act_input t.cell n) next ∙ begins_so t.cell n h.act up idle))) (moved_begun t.cell n h.act up idle) here
-      (subst (λ (c : ClientState). ClientMakes [] (begin_row (Client n) c t.cell.clock h.act) was now outs) here.state_is h.makes)
+      (subst (λ (c : CopyState). ClientMakes [] (copy_begin_row (Client n) c t.cell.clock h.act) was now outs) here.state_is h.makes)
       (put_here n (drop 1 (t.left (Client n))) (λ (j : ℕ). t.left (Client j)) ∙ (ap (λ (ts : List Task). drop 1 ts) plan ∙ sym h.plan)) (λ j e. put_there n (drop 1 (t.left (Client n))) (λ (k : ℕ). t.left (Client k)) j e) (λ j. refl) refl
 
   pub link_timed_out : (callee : Node) → HasTimedOut n callee was now outs → ClientLinked (IsInput t (events.Timeout (Client n) callee)) t n now [] outs
   link_timed_out callee h =
       let up = is_up h.makes.up in
-      let runs : act_of (t.cell.clients n) ≡ Some h.act = ap act_of (sym here.state_is) ∙ h.waits in
-      let same : same_node (t.cell.clients n).callee callee ≡ true = ap (λ (c : ClientState). same_node c.callee callee) (sym here.state_is) ∙ h.callee_is in
-      makes_linked (IsInput t (events.Timeout (Client n) callee)) t n (usual (waits n)) was now [] outs (times_out (Client n) (t.cell.clients n) (t.cell.clients n).running)
+      let runs : act_of (t.cell.clients n).client ≡ Some h.act = ap (λ (c : CopyState). act_of c.client) (sym here.state_is) ∙ h.waits in
+      let same : same_node (t.cell.clients n).client.callee callee ≡ true = ap (λ (c : CopyState). same_node c.client.callee callee) (sym here.state_is) ∙ h.callee_is in
+      makes_linked (IsInput t (events.Timeout (Client n) callee)) t n (usual (waits n)) was now [] outs (copy_times_out (Client n) (t.cell.clients n) (t.cell.clients n).client.running)
       (sym (ap (λ (b : Bool). usual (if b then waits n else nothing)) same)) (moved_waited t.cell n h.act up runs) here
-      (subst (λ (c : ClientState). ClientMakes [] (times_out (Client n) c c.running) was now outs) here.state_is h.makes)
+      (subst (λ (c : CopyState). ClientMakes [] (copy_times_out (Client n) c c.client.running) was now outs) here.state_is h.makes)
       (at.acts n was found ∙ sym h.plan) (λ j e. refl) (λ j. refl) refl
 
   pub link_heard : (place : ℕ) (p : Parcel) → at_place w.wire place ≡ Some p → p.head.to ≡ Client n → ClientHears n t.cell.clock place p.bytes was now outs
@@ -272,9 +273,9 @@ module _ {D : Type 0} (seen : D → Option (List ℕ)) (may_leave : D → List �
   link_heard place p stands to h =
       let f = message_found seen may_leave faults limit w t.cell place p at.cell stands in
       let makes = h.makes f.message f.carries.bytes in
-      makes_linked (IsInput t (events.Deliver place)) t n (usual (gives place steady)) was now (lines.Given place ∷ []) outs (guest_row (Client n) (t.cell.clients n) t.cell.clock place (Whole f.message))
+      makes_linked (IsInput t (events.Deliver place)) t n (usual (gives place steady)) was now (lines.Given place ∷ []) outs (copy_row (Client n) (t.cell.clients n) t.cell.clock place (Whole f.message))
       (steady, (refl, tt)) (moved_heard t.cell n place f.message f.at (sym (ap (λ x. x.to) f.carries.head) ∙ to) (is_up makes.up)) here
-      (subst (λ (c : ClientState). ClientMakes (lines.Given place ∷ []) (guest_row (Client n) c t.cell.clock place (Whole f.message)) was now outs) here.state_is makes)
+      (subst (λ (c : CopyState). ClientMakes (lines.Given place ∷ []) (copy_row (Client n) c t.cell.clock place (Whole f.message)) was now outs) here.state_is makes)
       (at.acts n was found ∙ sym h.plan) (λ j e. refl) (λ j. refl) refl
 
   nothing_sent : outs.parcels ≡ [] → parcels_read outs.parcels ≡ messages_spelled []
@@ -289,8 +290,8 @@ module _ {D : Type 0} (seen : D → Option (List ℕ)) (may_leave : D → List �
     moves =
         subst (λ (m : NodeMoved). CellMoved t.cell n m now.client.state true outs.lines []) (sym (moved_fallen t.cell n (is_up h.up)))
         (subst (λ (ls : List Line). CellMoved t.cell n (client_falls t.cell n) now.client.state true ls []) (sym h.tells.lines)
-        (subst (λ (st : ClientState). CellMoved t.cell n (client_falls t.cell n) st true (lines.Crash (Client n) ∷ []) []) (sym (h.state ∙ (ap (λ (table : List Location). reborn table was.client.state) (sym at.cell.handed) ∙ ap (reborn t.cell.handed) here.state_is)))
-        (turns_so t.cell n true (record { state = reborn t.cell.handed (t.cell.clients n); lines = lines.Crash (Client n) ∷ []; sent = [] }))));
+        (subst (λ (st : CopyState). CellMoved t.cell n (client_falls t.cell n) st true (lines.Crash (Client n) ∷ []) []) (sym (h.state ∙ (ap (λ (table : List Location). copies_reborn table was.client.state) (sym at.cell.handed) ∙ ap (copies_reborn t.cell.handed) here.state_is)))
+        (turns_so t.cell n true (record { state = copies_reborn t.cell.handed (t.cell.clients n); lines = lines.Crash (Client n) ∷ []; sent = [] }))));
     away_is = h.away;
     read = nothing_sent h.tells.sent;
     plan = at.acts n was found ∙ sym h.plan;
@@ -308,9 +309,9 @@ module _ {D : Type 0} (seen : D → Option (List ℕ)) (may_leave : D → List �
     moves =
         subst (λ (m : NodeMoved). CellMoved t.cell n m now.client.state false outs.lines []) (sym (moved_risen t.cell n (sym here.away_is ∙ h.away)))
         (subst (λ (ls : List Line). CellMoved t.cell n (client_rises t.cell n) now.client.state false ls [])
-        (sym (h.tells.lines ∙ ap (λ (c : ClientState). lines.Restart (Client n) c.epoch ∷ []) here.state_is))
-        (subst (λ (st : ClientState). CellMoved t.cell n (client_rises t.cell n) st false (lines.Restart (Client n) (t.cell.clients n).epoch ∷ []) []) (sym (h.state ∙ here.state_is))
-        (turns_so t.cell n false (record { state = t.cell.clients n; lines = lines.Restart (Client n) (t.cell.clients n).epoch ∷ []; sent = [] }))));
+        (sym (h.tells.lines ∙ ap (λ (c : CopyState). lines.Restart (Client n) c.client.epoch ∷ []) here.state_is))
+        (subst (λ (st : CopyState). CellMoved t.cell n (client_rises t.cell n) st false (lines.Restart (Client n) (t.cell.clients n).client.epoch ∷ []) []) (sym (h.state ∙ here.state_is))
+        (turns_so t.cell n false (record { state = t.cell.clients n; lines = lines.Restart (Client n) (t.cell.clients n).client.epoch ∷ []; sent = [] }))));
     away_is = h.up;
     read = nothing_sent h.tells.sent;
     plan = at.acts n was found ∙ sym h.plan;
@@ -335,27 +336,27 @@ no_begin n act a i (inl e) = ap (λ (b : Bool). if not b && i then begins n act 
 no_begin n act true i (inr e) = refl
 no_begin n act false i (inr e) = ap (λ (b : Bool). if b then begins n act else nothing) e
 
-no_act : (c : NodeCell) (n : ℕ) (next : Option Act) → (is_away c n ≡ true) ⊎ ((is_idle (act_of (c.clients n)) ≡ false) ⊎ (next ≡ None)) → act_input c n next ≡ nothing
+no_act : (c : NodeCell) (n : ℕ) (next : Option Act) → (is_away c n ≡ true) ⊎ ((is_idle (act_of (c.clients n).client) ≡ false) ⊎ (next ≡ None)) → act_input c n next ≡ nothing
 no_act c n None none = refl
-no_act c n (Some act) (inl e) = no_begin n act (is_away c n) (is_idle (act_of (c.clients n))) (inl e)
-no_act c n (Some act) (inr (inl e)) = no_begin n act (is_away c n) (is_idle (act_of (c.clients n))) (inr e)
+no_act c n (Some act) (inl e) = no_begin n act (is_away c n) (is_idle (act_of (c.clients n).client)) (inl e)
+no_act c n (Some act) (inr (inl e)) = no_begin n act (is_away c n) (is_idle (act_of (c.clients n).client)) (inr e)
 no_act c n (Some act) (inr (inr e)) = absurd cc
 
 pub moved_nothing : (c : NodeCell) → node_moved c (usual nothing) ≡ voided c
 unfolding usually_moved
 moved_nothing c = refl
 
-idle_void : (c : NodeCell) (n : ℕ) (g : Option Going) (o : Option Seek) → (c.clients n).seeking ≡ o → act_by g o ≡ None → waited_by c n g ≡ voided c
+idle_void : (c : NodeCell) (n : ℕ) (g : Option Going) (o : Option Seek) → (c.clients n).client.seeking ≡ o → act_by g o ≡ None → waited_by c n g ≡ voided c
 idle_void c n None None s e = ap (sought_for c n) s
 idle_void c n None (Some k) s e = absurd cc
 idle_void c n (Some act) o s e = absurd cc
 
-waits_void : (c : NodeCell) (n : ℕ) → (is_away c n ≡ true) ⊎ (act_of (c.clients n) ≡ None) → node_moved c (usual (waits n)) ≡ voided c
+waits_void : (c : NodeCell) (n : ℕ) → (is_away c n ≡ true) ⊎ (act_of (c.clients n).client ≡ None) → node_moved c (usual (waits n)) ≡ voided c
 unfolding usually_moved
-waits_void c n (inl e) = ap (λ (b : Bool). cond b (voided c) (waited_by c n (c.clients n).running)) e
-waits_void c n (inr e) = ap (λ (m : NodeMoved). cond (is_away c n) (voided c) m) (idle_void c n (c.clients n).running (c.clients n).seeking refl e) ∙ cond_same (is_away c n) (voided c)
+waits_void c n (inl e) = ap (λ (b : Bool). cond b (voided c) (waited_by c n (c.clients n).client.running)) e
+waits_void c n (inr e) = ap (λ (m : NodeMoved). cond (is_away c n) (voided c) m) (idle_void c n (c.clients n).client.running (c.clients n).client.seeking refl e) ∙ cond_same (is_away c n) (voided c)
 
-timeout_void : (c : NodeCell) (n : ℕ) (same : Bool) → (is_away c n ≡ true) ⊎ ((act_of (c.clients n) ≡ None) ⊎ (same ≡ false)) → node_moved c (usual (if same then waits n else nothing)) ≡ voided c
+timeout_void : (c : NodeCell) (n : ℕ) (same : Bool) → (is_away c n ≡ true) ⊎ ((act_of (c.clients n).client ≡ None) ⊎ (same ≡ false)) → node_moved c (usual (if same then waits n else nothing)) ≡ voided c
 timeout_void c n false none = moved_nothing c
 timeout_void c n true (inl e) = waits_void c n (inl e)
 timeout_void c n true (inr (inl e)) = waits_void c n (inr e)
@@ -373,12 +374,12 @@ heard_void : (c : NodeCell) (n place : ℕ) (m : Message) → message_at c.sent 
 unfolding usually_moved
 heard_void c n place m at to away =
     ap (given_at c place steady) at ∙ (ap (given_to c place steady m) to
-    ∙ ap (λ (b : Bool). cond b (voided c) (client_moves c n (guest_row (Client n) (c.clients n) c.clock place (Whole m)))) away)
+    ∙ ap (λ (b : Bool). cond b (voided c) (client_moves c n (copy_row (Client n) (c.clients n) c.clock place (Whole m)))) away)
 
 pub void_heard : (t : Turn) (n place : ℕ) (m : Message) → message_at t.cell.sent place ≡ Some m → m.head.to ≡ Client n → (has_client t.cell.count n ≡ false) ⊎ (t.cell.away n ≡ true) → Voided (IsInput t (events.Deliver place)) t
 void_heard t n place m at to none = record { input = usual (gives place steady); is_one = (steady, (refl, tt)); moves = heard_void t.cell n place m at to (absent t.cell n none); left = refl; harmless = refl }
 
-act_void : (t : Turn) (n : ℕ) → (is_away t.cell n ≡ true) ⊎ ((is_idle (act_of (t.cell.clients n)) ≡ false) ⊎ (client_act (slice_get (t.left (Client n)) 0) ≡ None)) → Voided (IsInput t (events.Act (Client n))) t
+act_void : (t : Turn) (n : ℕ) → (is_away t.cell n ≡ true) ⊎ ((is_idle (act_of (t.cell.clients n).client) ≡ false) ⊎ (client_act (slice_get (t.left (Client n)) 0) ≡ None)) → Voided (IsInput t (events.Act (Client n))) t
 act_void t n none = record { input = usual nothing; is_one = sym (ap (λ (x : Input). usual x) (no_act t.cell n (client_act (slice_get (t.left (Client n)) 0)) none)); moves = moved_nothing t.cell; left = refl; harmless = refl }
 
 timed_harmless : (n : ℕ) (b : Bool) → falls (usual (if b then waits n else nothing)) ≡ 0
@@ -389,28 +390,28 @@ timed_left : (n : ℕ) (b : Bool) (left : Node → List Task) → left_by (usual
 timed_left n true left = refl
 timed_left n false left = refl
 
-timed_void : (t : Turn) (n : ℕ) (callee : Node) → (is_away t.cell n ≡ true) ⊎ ((act_of (t.cell.clients n) ≡ None) ⊎ (same_node (t.cell.clients n).callee callee ≡ false)) → Voided (IsInput t (events.Timeout (Client n) callee)) t
+timed_void : (t : Turn) (n : ℕ) (callee : Node) → (is_away t.cell n ≡ true) ⊎ ((act_of (t.cell.clients n).client ≡ None) ⊎ (same_node (t.cell.clients n).client.callee callee ≡ false)) → Voided (IsInput t (events.Timeout (Client n) callee)) t
 timed_void t n callee none = record {
-  input = usual (timeout_input (t.cell.clients n) n callee);
+  input = usual (timeout_input (t.cell.clients n).client n callee);
   is_one = refl;
-  moves = timeout_void t.cell n (same_node (t.cell.clients n).callee callee) none;
-  left = timed_left n (same_node (t.cell.clients n).callee callee) t.left;
-  harmless = timed_harmless n (same_node (t.cell.clients n).callee callee);
+  moves = timeout_void t.cell n (same_node (t.cell.clients n).client.callee callee) none;
+  left = timed_left n (same_node (t.cell.clients n).client.callee callee) t.left;
+  harmless = timed_harmless n (same_node (t.cell.clients n).client.callee callee);
 }
 
 module _ (t : Turn) (n : ℕ) (was : ClientSeat) (here : IsClient was (t.cell.clients n) (t.cell.away n)) (plan : t.left (Client n) ≡ was.plan) where
   is_down : was.is_away ≡ true → is_away t.cell n ≡ true
   is_down e = absent t.cell n (inr (sym here.away_is ∙ e))
 
-  busy_by : IsVoidClient client.Act was → (is_away t.cell n ≡ true) ⊎ ((is_idle (act_of (t.cell.clients n)) ≡ false) ⊎ (client_act (slice_get (t.left (Client n)) 0) ≡ None))
+  busy_by : IsVoidClient client.Act was → (is_away t.cell n ≡ true) ⊎ ((is_idle (act_of (t.cell.clients n).client) ≡ false) ⊎ (client_act (slice_get (t.left (Client n)) 0) ≡ None))
   busy_by (inl e) = inl (is_down e)
-  busy_by (inr (inl busy)) = inr (inl (ap (λ (c : ClientState). is_idle (act_of c)) (sym here.state_is) ∙ ap is_idle busy.1))
+  busy_by (inr (inl busy)) = inr (inl (ap (λ (c : CopyState). is_idle (act_of c.client)) (sym here.state_is) ∙ ap is_idle busy.1))
   busy_by (inr (inr e)) = inr (inr (ap (λ (ts : List Task). client_act (slice_get ts 0)) plan ∙ e))
 
-  timed_by : (callee : Node) → IsVoidClient (client.TimeOut callee) was → (is_away t.cell n ≡ true) ⊎ ((act_of (t.cell.clients n) ≡ None) ⊎ (same_node (t.cell.clients n).callee callee ≡ false))
+  timed_by : (callee : Node) → IsVoidClient (client.TimeOut callee) was → (is_away t.cell n ≡ true) ⊎ ((act_of (t.cell.clients n).client ≡ None) ⊎ (same_node (t.cell.clients n).client.callee callee ≡ false))
   timed_by callee (inl e) = inl (is_down e)
-  timed_by callee (inr (inl e)) = inr (inl (ap act_of (sym here.state_is) ∙ e))
-  timed_by callee (inr (inr e)) = inr (inr (ap (λ (c : ClientState). same_node c.callee callee) (sym here.state_is) ∙ e))
+  timed_by callee (inr (inl e)) = inr (inl (ap (λ (c : CopyState). act_of c.client) (sym here.state_is) ∙ e))
+  timed_by callee (inr (inr e)) = inr (inr (ap (λ (c : CopyState). same_node c.client.callee callee) (sym here.state_is) ∙ e))
 
   pub void_asked : (input : ClientInput) → IsVoidClient input was → Voided (IsAsked input n t) t
   void_asked client.Act h = act_void t n (busy_by h)

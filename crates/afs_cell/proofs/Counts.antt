@@ -11,7 +11,7 @@ use Rattle.afs_runs.specs.NodeRuns.{CellInput}
 use Rattle.afs_clients.specs.Places.{put_place}
 use Rattle.afs_cell.specs.Worlds.{falls, falls_at, is_other, own_falls, Counts, IsCounted, WorldState}
 use Rattle.afs_host.specs.LocSeated.{loc_seat_disk, DatabaseSeat}
-use Rattle.afs_host.specs.Seated.{seat_disk, ServerSeat}
+use Rattle.afs_serverhost.specs.Seated.{seat_disk, ServerSeat}
 use Rattle.afs_clients.proofs.Numbers.{each_map, each_put, place_within}
 
 -- ---- at which node

@@ -21,13 +21,12 @@ use Rattle.afs_cell.specs.SeatSteps.{IsStepOf}
 use Rattle.afs_cell.specs.Steps.{IsAt, Stepped}
 use Rattle.afs_cell.specs.Worlds.{most_entries, AllTell, IsSafe, WorldState}
 use Rattle.afs_host.specs.LocSeated.{loc_seat_disk, DatabaseSeat}
-use Rattle.afs_host.specs.Seated.{ServerSeat}
+use Rattle.afs_serverhost.specs.Seated.{ServerSeat, IsReadySeat}
 use Rattle.afs_cell.specs.declared.faults.WorldFault.{WorldFault}
 use Rattle.afs_clients.specs.declared.happening.DatabaseInput.{DatabaseInput}
 use Rattle.afs_clients.specs.declared.happening.Happened.{Happened}
 use Rattle.afs_clients.specs.declared.happening.Happened.TheVariants as happened
 use Rattle.afs_clients.proofs.Numbers.{each_map}
-use Rattle.afs_host.specs.Seated.{IsReadySeat}
 use Rattle.afs_cell.proofs.DatabaseLinks.{link_loc_input, link_loc_message, void_loc_input, void_loc_message}
 use Rattle.afs_cell.proofs.HostSteps.{database_plays, DatabaseLinked}
 use Rattle.afs_cell.proofs.Links.{message_found, Voided}

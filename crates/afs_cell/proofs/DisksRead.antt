@@ -10,7 +10,7 @@ use Rattle.afs_clients.specs.Places.{Each}
 use Rattle.afs_cell.specs.Readable.{AreReadable, IsOpen, IsReadable}
 use Rattle.afs_cell.specs.Lends.{lent_from}
 use Rattle.afs_cell.specs.Worlds.{IsSafe, WorldState}
-use Rattle.afs_host.specs.Seated.{seat_disk, IsReadySeat, ServerSeat}
+use Rattle.afs_serverhost.specs.Seated.{seat_disk, IsReadySeat, ServerSeat}
 use Rattle.afs_clients.proofs.Handed.{server_is_node}
 
 -- ---- each can be read

@@ -3,6 +3,7 @@ use Rattle.std.specs.Prelude.{◌≡◌, ◌≤◌, ◌<◌, ◌⊎◌, ℕ, suc
 use Rattle.std.proofs.Common.{refl, ap, sym, subst, ◌∙◌, inl, inr, arith}
 use Rattle.std.specs.Option.{option_map}
 use Rattle.afs_num.specs.declared.devices.Failed.{Failed}
+use Rattle.afs_num.specs.declared.types.Node.{Node}
 use Rattle.afs_history.specs.declared.scripts.Script.{Script}
 use Rattle.afs_disk.specs.Disk.{Rose}
 use Rattle.afs_disk.specs.declared.bank.Lend.{Lend}
@@ -38,7 +39,7 @@ use Rattle.afs_command.specs.Spans.{span, IsUnchanged, RoseBy, Span}
 use Rattle.afs_lending.specs.Outside.{DidNotRise, Outside, SoManyFailed, Writes, WritesAll, WritesText, WritesWhole}
 use Rattle.afs_cell.specs.Refusing.{set_up_status}
 use Rattle.afs_lending.specs.Parts.{lend_status, returned, TellsLeft}
-use Rattle.afs_cell.specs.Replays.{lends_of, no_other, one_other, AreAllBut, AreOfNodes, AtBankFault, EndsReplay, EndsRun, GivesBack, GivesBackLent, GivesBackThose, HasDisk, IsFew, IsFull, IsLegalRun, IsServerOf, LendingLeaves, MissedByTheBank, NoneIsMissing, NotToItsEnd, ReadingFails, Replays, ReplaysFirst, ReplaysSome, ReplaysUnread, SetUpLeaves, SomeOfIt, ToItsEnd, WritesEntries, WritesRun}
+use Rattle.afs_cell.specs.Replays.{lends_of, no_other, one_other, AreAllBut, AreOfNodes, AtBankFault, EndsReplay, EndsRun, GivesBack, GivesBackLent, GivesBackThose, HasDisk, IsFew, IsFull, IsLegalRun, IsServerOf, LendingFails, LendingLeaves, MissedByTheBank, NoneIsMissing, NotToItsEnd, ReadingFails, Replays, ReplaysFirst, ReplaysSome, ReplaysUnread, SettingUpFails, SettingUpStops, SetUpLeaves, SomeOfIt, ToItsEnd, WritesEntries, WritesRun}
 use Rattle.afs_command.specs.declared.statuses.Status.{Status}
 use Rattle.afs_command.specs.declared.statuses.Status.TheVariants as statuses
 use Rattle.afs_cell.proofs.Bare.{bare_history, told_length}
@@ -56,7 +57,7 @@ pub record GoesBack {D : Type 0} (seen : D → Option (List ℕ)) (faults : D �
   pub counts : (n : ℕ) → (o.disk_faults n).after ≡ with_faults faults disks n (o.disk_faults n).before
   pub never_falls : o.bank_faults.before ≤ o.bank_faults.after
 
-missed : {D : Type 0} (seen : D → Option (List ℕ)) (faults : D → ℕ) (disks : List (Lent D)) (o : Outside) → GoesBack seen faults disks o → Missing (MissedByTheBank o) seen disks o.given.before o.given.after
+pub missed : {D : Type 0} (seen : D → Option (List ℕ)) (faults : D → ℕ) (disks : List (Lent D)) (o : Outside) → GoesBack seen faults disks o → Missing (MissedByTheBank o) seen disks o.given.before o.given.after
 missed {D} seen faults disks o goes = (goes.back.missing, (goes.back.given, goes.back.failed))
 
 missed_of : {D : Type 0} (seen : D → Option (List ℕ)) (faults : D → ℕ) (disks : List (Lent D)) (o : Outside) → GoesBack seen faults disks o → GivesBackLent seen 0 disks o
@@ -131,7 +132,7 @@ run_of {D} seen may_leave faults limit s w fs wire Writes is found written = rec
 }
 
 -- its disks go back: each has counted its failures in the history
-lent_rose : {D : Type 0} (seen : D → Option (List ℕ)) (may_leave : D → List ℕ → Type 0) (faults limit : D → ℕ) (s : Script) (w : WorldState D) (inputs : List CellInput) (end : NodeCell) (o : Outside) → IsWorld seen may_leave faults limit s w → Runs seen may_leave faults limit s w inputs end → GoesBack seen faults (disks_of w) o
+pub lent_rose : {D : Type 0} (seen : D → Option (List ℕ)) (may_leave : D → List ℕ → Type 0) (faults limit : D → ℕ) (s : Script) (w : WorldState D) (inputs : List CellInput) (end : NodeCell) (o : Outside) → IsWorld seen may_leave faults limit s w → Runs seen may_leave faults limit s w inputs end → GoesBack seen faults (disks_of w) o
     → (i : ℕ) → HasDisk s i → RoseBy (own_falls i inputs (told w.wire w.history) + no_other i) (o.disk_faults i)
 lent_rose {D} seen may_leave faults limit s w inputs end o is runs back =
     no_others s (λ (i : ℕ). own_falls i inputs (told w.wire w.history)) o.disk_faults
@@ -282,24 +283,33 @@ pub of_nodes : {D : Type 0} (limit : D → ℕ) (capacity i : ℕ) (ls : List (L
 of_nodes {D} limit capacity i [] are = tt
 of_nodes {D} limit capacity i (l ∷ ls) are = (are.0, of_nodes limit capacity (i + 1) ls are.1.1)
 
-pub not_set_up : {D : Type 0} (seen : D → Option (List ℕ)) (may_leave : D → List ℕ → Type 0) (faults : D → ℕ) (s : Script) (wire : Bool) (tells : Type 0) (disks : List (Lent D)) (e : SetupFault × List (Lent D)) (o : Outside)
-    → AreUnused faults disks → IsRefused faults 0 disks e → AreAllLeft seen may_leave s disks e.1 → AreOfNodes 0 e.1 × (length e.1 ≡ s.servers + 1) → IsUnchanged o.sink → GoesBack seen faults e.1 o → EndsRun s wire tells (SetUpLeaves seen may_leave faults s o) o (set_up_status e.0)
-not_set_up {D} seen may_leave faults s wire tells disks (setup.Disk n, back) o unused refused left whose unwritten gone =
+-- a disk failed while it was set up
+pub setting_up_fails : {D : Type 0} (seen : D → Option (List ℕ)) (may_leave : D → List ℕ → Type 0) (faults : D → ℕ) (s : Script) (disks : List (Lent D)) (n : Node) (back : List (Lent D)) (o : Outside)
+    → AreUnused faults disks → IsRefused faults 0 disks (setup.Disk n, back) → AreAllLeft seen may_leave s disks back → AreOfNodes 0 back × (length back ≡ s.servers + 1) → IsUnchanged o.sink → GoesBack seen faults back o → SettingUpFails s (SetUpLeaves seen may_leave faults s o) o
+setting_up_fails {D} seen may_leave faults s disks n back o unused refused left whose unwritten gone =
     let one : OneFailed faults 0 back (λ (j : ℕ). (o.disk_faults j).before) = one_disk_failed faults n 0 disks back (λ (j : ℕ). (o.disk_faults j).before) unused refused.0 refused.1 whose.0 in
-    inl (record {
+    record {
       node = one.server;
       has = omega (arith, one.among.1, whose.1);
       rose = subst (λ (k : ℕ). RoseBy 1 (span (o.disk_faults one.server).before k)) (sym (gone.counts one.server)) one.rose;
       alone = λ j other. subst (λ (k : ℕ). k ≤ (o.disk_faults j).before) (sym (gone.counts j)) (one.alone j other);
       written = unwritten;
       only_set_up = record { lent = disks; unused = unused; back = back; counted = whose.1; are = whose.0; failed = inl (n, refused.1); left = left; given = missed_of seen faults back o gone };
-    })
-not_set_up {D} seen may_leave faults s wire tells disks (setup.OutOfMemory, back) o unused refused left whose unwritten gone =
-    inl (record {
-      quiet = λ i. subst (λ (k : ℕ). k ≤ (o.disk_faults i).before) (sym (gone.counts i)) (none_rose faults disks back i (o.disk_faults i).before unused refused.1);
-      written = unwritten;
-      only_set_up = record { lent = disks; unused = unused; back = back; counted = whose.1; are = whose.0; failed = inr refused.1; left = left; given = missed_of seen faults back o gone };
-    })
+    }
+
+-- memory ran out
+pub setting_up_stops : {D : Type 0} (seen : D → Option (List ℕ)) (may_leave : D → List ℕ → Type 0) (faults : D → ℕ) (s : Script) (disks back : List (Lent D)) (o : Outside)
+    → AreUnused faults disks → IsRefused faults 0 disks (setup.OutOfMemory, back) → AreAllLeft seen may_leave s disks back → AreOfNodes 0 back × (length back ≡ s.servers + 1) → IsUnchanged o.sink → GoesBack seen faults back o → SettingUpStops (SetUpLeaves seen may_leave faults s o) o
+setting_up_stops {D} seen may_leave faults s disks back o unused refused left whose unwritten gone = record {
+  quiet = λ i. subst (λ (k : ℕ). k ≤ (o.disk_faults i).before) (sym (gone.counts i)) (none_rose faults disks back i (o.disk_faults i).before unused refused.1);
+  written = unwritten;
+  only_set_up = record { lent = disks; unused = unused; back = back; counted = whose.1; are = whose.0; failed = inr refused.1; left = left; given = missed_of seen faults back o gone };
+}
+
+pub not_set_up : {D : Type 0} (seen : D → Option (List ℕ)) (may_leave : D → List ℕ → Type 0) (faults : D → ℕ) (s : Script) (wire : Bool) (tells : Type 0) (disks : List (Lent D)) (e : SetupFault × List (Lent D)) (o : Outside)
+    → AreUnused faults disks → IsRefused faults 0 disks e → AreAllLeft seen may_leave s disks e.1 → AreOfNodes 0 e.1 × (length e.1 ≡ s.servers + 1) → IsUnchanged o.sink → GoesBack seen faults e.1 o → EndsRun s wire tells (SetUpLeaves seen may_leave faults s o) o (set_up_status e.0)
+not_set_up {D} seen may_leave faults s wire tells disks (setup.Disk n, back) o unused refused left whose unwritten gone = inl (setting_up_fails seen may_leave faults s disks n back o unused refused left whose unwritten gone)
+not_set_up {D} seen may_leave faults s wire tells disks (setup.OutOfMemory, back) o unused refused left whose unwritten gone = inl (setting_up_stops seen may_leave faults s disks back o unused refused left whose unwritten gone)
 
 -- ---- seen from before
 
@@ -338,8 +348,14 @@ run_as s IsSoFar others history end o earlier since run = record {
   stand = run.stand;
   locked = run.locked;
   located = run.located;
+  senders = run.senders;
+  past = run.past;
+  surveyed = run.surveyed;
+  caused = run.caused;
   legal = run.legal;
   well = run.well;
+  idle = run.idle;
+  idle_well = run.idle_well;
   failures = λ i has. subst (λ (x : Span ℕ). RoseBy (own_falls i run.inputs history + others i) x) (sym (since.disk_faults i)) (run.failures i has);
 }
 
@@ -520,12 +536,16 @@ left_since {D} seen may_leave faults s o earlier since l = record {
 -- ---- what was lent
 
 -- No further disk was lent: so many were, and they went back.
+pub lending_fails : (s : Script) (place : Place) (Unlent : ℕ → ℕ → Type 0) (fault : LendFault) (n : ℕ) (o : Outside) (result status : Status) → n < s.servers + 1 → o.lends.after ≡ option_map (λ ls. ls ++ lends place s.capacity 0 n) o.lends.before
+    → IsUnchanged o.sink → (fault ≡ lending.Failed → RoseBy 1 o.bank_faults) → (fault ≡ lending.Failed → Unlent 1 n) → (fault ≡ lending.OutOfMemory → Unlent 0 n) → result ≡ status → status ≡ lend_status fault → LendingFails s place Unlent o result
+lending_fails s place Unlent lending.Failed n o result status fewer lent unwritten cause failed ran_out is meant =
+    subst (λ (x : Status). LendingFails s place Unlent o x) (sym (is ∙ meant)) (record { count = n; fewer = fewer; lent = lent; written = unwritten; why = cause refl; back = failed refl })
+lending_fails s place Unlent lending.OutOfMemory n o result status fewer lent unwritten cause failed ran_out is meant =
+    subst (λ (x : Status). LendingFails s place Unlent o x) (sym (is ∙ meant)) (record { count = n; fewer = fewer; lent = lent; written = unwritten; why = tt; back = ran_out refl })
+
 pub not_lent : (s : Script) (wire : Bool) (place : Place) (tells left : Type 0) (Unlent : ℕ → ℕ → Type 0) (fault : LendFault) (n : ℕ) (o : Outside) (result status : Status) → n < s.servers + 1 → o.lends.after ≡ option_map (λ ls. ls ++ lends place s.capacity 0 n) o.lends.before
     → IsUnchanged o.sink → (fault ≡ lending.Failed → RoseBy 1 o.bank_faults) → (fault ≡ lending.Failed → Unlent 1 n) → (fault ≡ lending.OutOfMemory → Unlent 0 n) → result ≡ status → status ≡ lend_status fault → EndsReplay s wire place tells left Unlent o result
-not_lent s wire place tells left Unlent lending.Failed n o result status fewer lent unwritten cause failed ran_out is meant =
-    subst (λ (x : Status). EndsReplay s wire place tells left Unlent o x) (sym (is ∙ meant)) (record { how = inl (record { count = n; fewer = fewer; lent = lent; written = unwritten; why = cause refl; back = failed refl }) })
-not_lent s wire place tells left Unlent lending.OutOfMemory n o result status fewer lent unwritten cause failed ran_out is meant =
-    subst (λ (x : Status). EndsReplay s wire place tells left Unlent o x) (sym (is ∙ meant)) (record { how = inl (record { count = n; fewer = fewer; lent = lent; written = unwritten; why = tt; back = ran_out refl }) })
+not_lent s wire place tells left Unlent fault n o result status fewer lent unwritten cause failed ran_out is meant = record { how = inl (lending_fails s place Unlent fault n o result status fewer lent unwritten cause failed ran_out is meant) }
 
 -- so many calls failed, and then so many others
 both_failed : (n m b0 b1 b2 : ℕ) → b1 ≤ b2 → HasFailed n b0 b1 → HasFailed m b1 b2 → HasFailed (n + m) b0 b2

@@ -15,14 +15,16 @@ use Rattle.afs_model.specs.Messages.{received}
 use Rattle.afs_rows.specs.Hosts.{HostStep}
 use Rattle.afs_volrows.specs.NodeHosts.{node_kind, NodeHost}
 use Rattle.afs_volrows.specs.VolStates.{NodeState}
-use Rattle.afs_host.specs.Seats.{disk_of, IsStepDown, IsUp, Resting, ServerRunning}
-use Rattle.afs_host.specs.Serving.{HasServed, HasFallen}
+use Rattle.afs_host.specs.Seats.{Resting}
+use Rattle.afs_serverhost.specs.Seats.{disk_of, IsStepDown, IsUp, ServerRunning}
+use Rattle.afs_serverhost.specs.Serving.{HasFallen}
+use Rattle.afs_host.specs.Serving.{HasServed}
 use Rattle.afs_host.specs.declared.seats.Seat.TheVariants.{Down, Up}
 use Rattle.afs_clients.specs.Happening.{ClientTells}
 use Rattle.afs_cell.specs.SeatSteps.{HasHeard, IsFallen, IsSeatOf, SeatGoes, SeatHappens, SeatKeeps, ServersHappened}
 use Rattle.afs_cell.specs.Hearing.{IsUpAt, IsUpSeat, OneFalls, SeatBecomes, SeatFalls}
 use Rattle.afs_clients.specs.Places.{put_place, IsLifted, Room}
-use Rattle.afs_host.specs.Seated.{ServerSeat}
+use Rattle.afs_serverhost.specs.Seated.{ServerSeat}
 use Rattle.afs_clients.specs.declared.happening.Happened.{Happened}
 use Rattle.afs_clients.specs.declared.happening.Happened.TheVariants as happened
 use Rattle.afs_clients.proofs.Numbers.{at_here, some_is}

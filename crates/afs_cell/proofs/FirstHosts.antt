@@ -8,7 +8,7 @@ use Rattle.afs_disk.specs.declared.disks.Lent.{Lent}
 use Rattle.afs_journal.specs.Records.{whole_records}
 use Rattle.afs_clients.proofs.Numbers.{some_is}
 use Rattle.afs_host.specs.LocSeats.{loc_disk_of, DatabaseRunning}
-use Rattle.afs_host.specs.Seated.{ServerSeat}
+use Rattle.afs_serverhost.specs.Seated.{ServerSeat}
 use Rattle.afs_cell.specs.Ends.{AreAllLeft, AreLeft, IsRefused, IsRefusedBy, NoneFell, NoneRose, RoseAt}
 use Rattle.afs_cell.specs.FirstSeats.{AreFirstHosts, AreFirstSeats}
 use Rattle.afs_cell.specs.Founding.{IsFirstDatabase, IsLocLeft, IsLocRefused}

@@ -5,12 +5,12 @@ use Rattle.afs_num.specs.declared.types.Node.TheVariants.{Server}
 use Rattle.afs_history.specs.declared.scripts.Script.{Script}
 use Rattle.afs_disk.specs.Disk.{Rose}
 use Rattle.afs_disk.specs.declared.disks.Lent.{Lent}
-use Rattle.afs_host.specs.Seats.{ServerRunning}
+use Rattle.afs_serverhost.specs.Seats.{ServerRunning}
 use Rattle.afs_host.specs.declared.seats.Seat.TheVariants.{Down, Up}
 use Rattle.afs_cell.specs.Ends.{disk_node, AreLeft, IsRefused, IsRefusedBy, NoneFell, NoneRose, RoseAt}
 use Rattle.afs_cell.specs.FirstSeats.{AreBack, AreFirstSeats, IsBack, IsFirstSeat, IsFirstServer, IsRefusedAt}
 use Rattle.afs_cell.specs.Lends.{lent_from, AreLent}
-use Rattle.afs_host.specs.Seated.{seat_disk, ServerSeat}
+use Rattle.afs_serverhost.specs.Seated.{seat_disk, ServerSeat}
 use Rattle.afs_cell.specs.declared.faults.SetupFault.{SetupFault}
 use Rattle.afs_cell.specs.declared.faults.SetupFault.TheVariants as setup
 use Rattle.afs_cell.proofs.FirstStores.{same_back}

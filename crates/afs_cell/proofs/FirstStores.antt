@@ -30,7 +30,7 @@ use Rattle.afs_callbacks.specs.States.{IsPromiseToNode}
 use Rattle.afs_server_parts.specs.Turning.{IsBreakToNode}
 use Rattle.afs_volstore.specs.Opening.{IsSetUpFault, IsSetUpSoFar}
 use Rattle.afs_volstore.specs.Stores.{IsCaused, IsKept, Store}
-use Rattle.afs_host.specs.Seats.{CanRun, ServerRunning}
+use Rattle.afs_serverhost.specs.Seats.{CanRun, ServerRunning}
 use Rattle.afs_cell.specs.Ends.{IsLeftAt}
 use Rattle.afs_cell.specs.FirstSeats.{IsBack, IsCausedAt, IsFirstServer, IsFirstStore, IsRefusedAt}
 use Rattle.afs_cell.specs.Refusing.{refused_as}

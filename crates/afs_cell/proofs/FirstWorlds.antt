@@ -8,7 +8,7 @@ use Rattle.afs_history.specs.declared.lines.Entry as kept
 use Rattle.afs_history.specs.declared.scripts.Script.{Script}
 use Rattle.afs_disk.specs.declared.disks.Lent.{Lent}
 use Rattle.afs_grammar.specs.CellScripts.{IsCellScript}
-use Rattle.afs_rows.specs.Going.{ClientState}
+use Rattle.afs_copyrows.specs.Sites.{CopyState, new_copies}
 use Rattle.afs_adminrows.specs.AdminRow.{new_admin, AdminState}
 use Rattle.afs_rows.specs.Runs.{first_client}
 use Rattle.afs_runs.specs.NodeRuns.{first_node, node_start}
@@ -20,7 +20,7 @@ use Rattle.afs_clients.specs.Seating.{AreFirstClients, IsFirstClient}
 use Rattle.afs_cell.specs.Steps.{IsFirst}
 use Rattle.afs_cell.specs.Lends.{AreLent, LentTell}
 use Rattle.afs_host.specs.LocSeats.{DatabaseRunning}
-use Rattle.afs_host.specs.Seated.{seat_disk, IsHost, IsReadySeat, ServerSeat}
+use Rattle.afs_serverhost.specs.Seated.{seat_disk, IsHost, IsReadySeat, ServerSeat}
 use Rattle.afs_cell.specs.Worlds.{none_gone, AllTell, IsAdmin, IsCell, IsClient, IsReadyAdmin, IsReadyClient, IsSafe, IsWorld, LetGo, WorldState}
 use Rattle.afs_clients.specs.declared.clients.ClientSeat.{ClientSeat}
 use Rattle.afs_admins.specs.Seating.{AreFirstAdmins, IsFirstAdmin}
@@ -75,7 +75,7 @@ each_client s Q cs f h = each_from Q cs (clients_from s Q 1 cs f h)
 ready_client : (s : Script) (n : ℕ) (c : ClientSeat) → IsFirstClient s n c → IsReadyClient s n 0 c
 ready_client s n c h =
     let epoch = h.epoch in
-    let last : c.client.state.last ≡ 0 = ap (λ (x : ClientState). x.last) h.state in
+    let last : c.client.state.client.last ≡ 0 = ap (λ (x : CopyState). x.client.last) h.state in
     record { handed = h.handed; epoch = omega (arith, epoch); last = omega (arith, last) }
 
 -- ---- administrators
@@ -141,7 +141,7 @@ module _ {D : Type 0} (seen : D → Option (List ℕ)) (may_leave : D → List �
       host_count = sym seats_are;
       hosts = each_seat (λ (i : ℕ) (seat : ServerSeat D). IsHost seen may_leave limit (Server i) seat (first_node s i)) (host_seat s.capacity);
       count = sym count;
-      clients = each_client s (λ (n : ℕ) (c : ClientSeat). IsClient c (first_client s n) false) cs (λ n c first. record { state_is = first.state; away_is = first.up }) clients;
+      clients = each_client s (λ (n : ℕ) (c : ClientSeat). IsClient c (new_copies (first_client s n)) false) cs (λ n c first. record { state_is = first.state; away_is = first.up }) clients;
       sent = refl;
       clock = refl;
       handed = refl;

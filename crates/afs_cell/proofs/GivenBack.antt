@@ -14,10 +14,11 @@ use Rattle.afs_rows.specs.LocRow.{LocLasting, LocState}
 use Rattle.afs_rows.specs.Hosts.{Fall, MayBegin, MayFind}
 use Rattle.afs_rows.specs.States.{Lasting}
 use Rattle.afs_volrows.specs.VolStates.{NodeState}
-use Rattle.afs_host.specs.Seats.{IsDown, Resting}
+use Rattle.afs_host.specs.Seats.{Resting}
+use Rattle.afs_serverhost.specs.Seats.{IsDown}
 use Rattle.afs_host.proofs.LocRising.{loc_fits}
-use Rattle.afs_host.proofs.Rising.{server_fits}
-use Rattle.afs_host.specs.Standing.{LiesAs}
+use Rattle.afs_serverhost.proofs.Rising.{server_fits}
+use Rattle.afs_serverhost.specs.Standing.{LiesAs}
 use Rattle.afs_host.specs.declared.seats.Seat.TheVariants.{Down, Up}
 use Rattle.afs_cell.specs.FirstSeats.{AreKeptSeats, IsKeptSeat, IsLocKeptSeat}
 use Rattle.afs_cell.specs.Steps.{AreStanding, IsReadAfter, IsReadAfterAtLoc, LocStands, MayBeRead, MayBeReadAtLoc}
@@ -25,7 +26,7 @@ use Rattle.afs_cell.specs.Lends.{disks_of, lent_from, AreLent}
 use Rattle.afs_host.specs.LocSeated.{loc_seat_disk, DatabaseSeat, IsLocHost, IsLocReadySeat}
 use Rattle.afs_host.specs.LocSeats.{IsLocDown}
 use Rattle.afs_host.specs.LocStanding.{LocLiesAs}
-use Rattle.afs_host.specs.Seated.{seat_disk, IsHost, IsReadySeat, ServerSeat}
+use Rattle.afs_serverhost.specs.Seated.{seat_disk, IsHost, IsReadySeat, ServerSeat}
 use Rattle.afs_clients.specs.Places.{Each}
 use Rattle.afs_cell.specs.Worlds.{AllHold, IsCell, IsSafe, WorldState}
 use Rattle.afs_clients.proofs.Numbers.{none_some, some_is}

@@ -25,7 +25,7 @@ use Rattle.afs_clients.specs.Places.{put_place, Each}
 use Rattle.afs_cell.specs.Steps.{IsAt, Plays}
 use Rattle.afs_cell.specs.Worlds.{falls, falls_at, Counts, WorldState}
 use Rattle.afs_host.specs.LocSeated.{loc_seat_disk, DatabaseSeat}
-use Rattle.afs_host.specs.Seated.{seat_disk, IsHost, ServerSeat}
+use Rattle.afs_serverhost.specs.Seated.{seat_disk, IsHost, ServerSeat}
 use Rattle.afs_cell.proofs.Counts.{counts_put, loc_counts_put, Blames}
 use Rattle.afs_cell.proofs.Parcels.{messages_of-read, messages_spelled-append, parcels_read-append, told-push}
 use Rattle.afs_clients.proofs.Numbers.{each_put, length_put}

@@ -15,7 +15,7 @@ use Rattle.afs_volstore.specs.Stores.{Store}
 use Rattle.afs_cell.specs.Ends.{NoneFell, NoneRose, RoseAt}
 use Rattle.afs_cell.specs.Lends.{disks_of, lent_from}
 use Rattle.afs_cell.specs.Worlds.{Counts, IsCounted, WorldState}
-use Rattle.afs_host.specs.Seated.{seat_disk, ServerSeat}
+use Rattle.afs_serverhost.specs.Seated.{seat_disk, ServerSeat}
 use Rattle.afs_final.specs.Reading.{fault_in, kept_disk, or_memory, AreFound}
 use Rattle.afs_final.specs.declared.reading.Left.{Left}
 use Rattle.afs_final.specs.declared.reading.Left.TheVariants as left

@@ -41,9 +41,9 @@ pub mod Whole
 mod Since
 mod NextSince
 mod Bare
-mod RunEnds
-mod LentCounts
-mod Ended
+pub mod RunEnds
+pub mod LentCounts
+pub mod Ended
 mod Returned
 mod WrittenOn
 mod PlayedOn

@@ -9,7 +9,7 @@ use Rattle.afs_volrows.specs.NodeHosts.{NodeHost}
 use Rattle.afs_volrows.specs.VolStates.{NodeState}
 use Rattle.afs_cell.specs.SeatSteps.{SeatGoes, SeatHappens, SeatKeeps, ServersHappened}
 use Rattle.afs_clients.specs.Places.{IsLifted, Room}
-use Rattle.afs_host.specs.Seated.{ServerSeat}
+use Rattle.afs_serverhost.specs.Seated.{ServerSeat}
 use Rattle.afs_clients.specs.declared.happening.Happened.{Happened}
 use Rattle.afs_clients.specs.declared.happening.Happened.TheVariants as happened
 

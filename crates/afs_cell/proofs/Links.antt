@@ -19,7 +19,7 @@ use Rattle.afs_volrows.specs.VolStates.{NodeState}
 use Rattle.afs_clients.specs.Happening.{IsGiven}
 use Rattle.afs_cell.specs.SeatSteps.{HasHeard, HasStep, HasTimedOut, IsFallen, IsSeatStep, IsVoidServer}
 use Rattle.afs_cell.specs.Worlds.{falls, IsCell, WorldState}
-use Rattle.afs_host.specs.Seated.{seat_disk, ServerSeat}
+use Rattle.afs_serverhost.specs.Seated.{seat_disk, ServerSeat}
 use Rattle.afs_clients.specs.declared.happening.ServerInput.{ServerInput}
 use Rattle.afs_clients.specs.declared.happening.ServerInput.TheVariants as server
 use Rattle.afs_cell.proofs.Counts.{Blames}

@@ -17,7 +17,7 @@ use Rattle.afs_cell.specs.DatabaseSteps.{HasLocHeard, HasLocStep, IsLocFallen, I
 use Rattle.afs_cell.specs.Ready.{AllCanStep, CanTakeAtLoc}
 use Rattle.afs_cell.specs.Steps.{Stepped}
 use Rattle.afs_host.specs.LocSeated.{DatabaseSeat}
-use Rattle.afs_host.specs.Seated.{ServerSeat}
+use Rattle.afs_serverhost.specs.Seated.{ServerSeat}
 use Rattle.afs_cell.specs.Worlds.{most_entries, IsSafe, WorldState}
 use Rattle.afs_clients.specs.declared.clients.ClientSeat.{ClientSeat}
 use Rattle.afs_admins.specs.declared.admins.AdminSeat.{AdminSeat}

@@ -4,12 +4,12 @@ use Rattle.afs_num.specs.Places.{at_place}
 use Rattle.afs_num.specs.declared.types.Node.TheVariants.{Server}
 use Rattle.afs_volrows.specs.NodeHosts.{NodeHost}
 use Rattle.afs_node.specs.Seen.{node_seen}
-use Rattle.afs_host.specs.Seats.{ServerRunning}
+use Rattle.afs_serverhost.specs.Seats.{ServerRunning}
 use Rattle.afs_host.specs.declared.seats.Seat.TheVariants.{Up}
 use Rattle.afs_cell.specs.Happening.{Settles}
 use Rattle.afs_cell.specs.SeatSteps.{HasStep, IsVoidServer, ServersHappened}
 use Rattle.afs_cell.specs.SeatPicks.{OneLeavesPick}
-use Rattle.afs_host.specs.Seated.{IsHost, ServerSeat}
+use Rattle.afs_serverhost.specs.Seated.{IsHost, ServerSeat}
 use Rattle.afs_cell.specs.Picks.{IsPicked}
 use Rattle.afs_cell.specs.Worlds.{WorldState}
 use Rattle.afs_clients.specs.declared.events.Given.TheVariants as given

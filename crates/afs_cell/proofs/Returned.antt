@@ -45,7 +45,7 @@ pub record IsOver {D : Type 0} (seen : D → Option (List ℕ)) (may_leave : D �
   pub are : disks ≡ disks_of w
   pub standing : StandsSince seen may_leave limit w disks
 
-has_ended : {D : Type 0} (seen : D → Option (List ℕ)) (may_leave : D → List ℕ → Type 0) (faults limit : D → ℕ) (wire : Bool) (start : Option (List ℕ)) (count : ℕ) (gone : HistoryTold) (w : WorldState D) (now : Option (List ℕ)) (counted : ℕ) (written : Result (Unit {0}) Failed) (disks : List (Lent D))
+pub has_ended : {D : Type 0} (seen : D → Option (List ℕ)) (may_leave : D → List ℕ → Type 0) (faults limit : D → ℕ) (wire : Bool) (start : Option (List ℕ)) (count : ℕ) (gone : HistoryTold) (w : WorldState D) (now : Option (List ℕ)) (counted : ℕ) (written : Result (Unit {0}) Failed) (disks : List (Lent D))
     → RunLaws → IsOfCell w.script → w.is_lost ≡ false → IsWritten seen may_leave faults limit wire start count gone w now counted written → IsOver seen may_leave limit w disks → HasEnded seen may_leave faults limit w.script (whole gone w)
 has_ended {D} seen may_leave faults limit wire start count gone w now counted written disks law in_cell going told over = record {
   law = law;

@@ -21,6 +21,11 @@ use Rattle.afs_runs.specs.NodeRuns.{CellInput, NodeCell}
 use Rattle.afs_law.specs.Cells.{IsOfCell}
 use Rattle.afs_moves.proofs.Walk.{accepted_as_told, lines_stand_well}
 use Rattle.afs_stamps.proofs.ToldWalk.{entries_are_told}
+use Rattle.afs_walks.proofs.Senders.{senders_are_told}
+use Rattle.afs_surveys.proofs.OldCalls.{past_vain}
+use Rattle.afs_surveys.proofs.Surveying.{surveys_stored}
+use Rattle.afs_answers.proofs.Walk.{have_causes}
+use Rattle.afs_idle.proofs.Shut.{idle_ends, idle_legal}
 use Rattle.afs_runs.specs.PlainRuns.{NodeRunsAreLegal, NodeRunsEndWell}
 use Rattle.afs_text.specs.Telling.{told}
 use Rattle.afs_volstore.specs.Stores.{Store}
@@ -28,7 +33,7 @@ use Rattle.afs_clients.specs.Places.{Each}
 use Rattle.afs_cell.specs.Steps.{AreStanding, HasPlayed, IsStanding, IsStandingAtLoc, LocStands, MayBeRead, MayBeReadAtLoc}
 use Rattle.afs_cell.specs.Lends.{disks_of, lent_from}
 use Rattle.afs_host.specs.LocSeated.{loc_seat_disk}
-use Rattle.afs_host.specs.Seated.{seat_disk, ServerSeat}
+use Rattle.afs_serverhost.specs.Seated.{seat_disk, ServerSeat}
 use Rattle.afs_cell.specs.Worlds.{most_entries, own_falls, AllTell, IsCell, WorldState}
 use Rattle.afs_final.specs.Reading.{fault_in, kept_disk, part, AreFound, IsRead}
 use Rattle.afs_final.specs.declared.reading.Left.{Left}
@@ -323,8 +328,14 @@ legal_run {D} seen may_leave faults limit law IsSoFar others s w counts in_cell 
   stand = lines_stand_well s p.inputs p.runs.history p.cell p.runs.leads;
   locked = entries_are_told.locks s p.inputs p.runs.history p.cell p.runs.leads;
   located = entries_are_told.sites s p.inputs p.runs.history p.cell p.runs.leads;
+  senders = senders_are_told s p.inputs p.runs.history p.cell p.runs.leads;
+  past = past_vain s p.inputs p.runs.history p.cell p.runs.leads;
+  surveyed = surveys_stored s p.inputs;
+  caused = have_causes s p.inputs p.runs.history p.cell p.runs.leads;
   legal = λ none. law.0 s p.runs.history p.cell in_cell none (record { inputs = p.inputs; leads = p.runs.leads });
   well = λ none. law.1 s p.runs.history p.cell in_cell none (record { inputs = p.inputs; leads = p.runs.leads });
+  idle = λ idle. idle_legal s p.runs.history p.cell in_cell idle (record { inputs = p.inputs; leads = p.runs.leads });
+  idle_well = λ idle. idle_ends s p.runs.history p.cell in_cell idle (record { inputs = p.inputs; leads = p.runs.leads });
   failures = λ i has. subst (λ (n : ℕ). RoseBy (n + others i) (counts i)) (told_falls i p.inputs p.runs.history (told w.wire w.history) p.runs.tells) (failures i has);
 }
 

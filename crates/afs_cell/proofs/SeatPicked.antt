@@ -4,7 +4,7 @@ use Rattle.std.specs.List.{insert}
 use Rattle.afs_num.specs.Places.{at_place}
 use Rattle.afs_cell.specs.SeatPicks.{LeavesPick, OneLeavesPick}
 use Rattle.afs_clients.specs.Places.{IsLifted, Room}
-use Rattle.afs_host.specs.Seated.{ServerSeat}
+use Rattle.afs_serverhost.specs.Seated.{ServerSeat}
 use Rattle.afs_clients.specs.declared.happening.Happened.{Happened}
 use Rattle.afs_clients.specs.declared.happening.Happened.TheVariants as happened
 use Rattle.afs_clients.specs.declared.happening.ServerInput.{ServerInput}

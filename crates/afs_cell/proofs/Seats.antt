@@ -15,14 +15,15 @@ use Rattle.afs_volrows.specs.NodeHosts.{node_kind, node_timed_out, node_woken, p
 use Rattle.afs_volrows.specs.VolStates.{NodeState, PieceCall}
 use Rattle.afs_rows.specs.Hosts.{HostStep}
 use Rattle.afs_node.specs.Seen.{node_seen}
-use Rattle.afs_host.specs.Seats.{disk_of, waits_for, GoesOn, IsDown, IsStepDown, IsStepUp, IsUp, OnlyDraws, Resting, ServerRunning}
+use Rattle.afs_host.specs.Seats.{Resting}
+use Rattle.afs_serverhost.specs.Seats.{disk_of, waits_for, GoesOn, IsDown, IsStepDown, IsStepUp, IsUp, OnlyDraws, ServerRunning}
 use Rattle.afs_host.specs.Serving.{HasServed}
 use Rattle.afs_host.specs.Starting.{HasStarted}
 use Rattle.afs_host.specs.declared.seats.Seat.TheVariants.{Down, Up}
-use Rattle.afs_host.proofs.Stepping.{waits_idle, waits_late, IsLate}
+use Rattle.afs_serverhost.proofs.Stepping.{waits_idle, waits_late, IsLate}
 use Rattle.afs_clients.specs.Happening.{ClientTells}
 use Rattle.afs_cell.specs.SeatSteps.{GaveOut, HasHeard, HasStep, HasTimedOut, IsFallen, IsSeatOf, IsSeatStep, IsVoidServer, SeatHappens, SeatKeeps}
-use Rattle.afs_host.specs.Seated.{IsReady, ServerSeat}
+use Rattle.afs_serverhost.specs.Seated.{IsReady, ServerSeat}
 use Rattle.afs_clients.specs.declared.happening.Happened.{Happened}
 use Rattle.afs_clients.specs.declared.happening.Happened.TheVariants as happened
 use Rattle.afs_clients.specs.declared.happening.ServerInput.TheVariants as input

@@ -4,7 +4,7 @@ use Rattle.afs_disk.specs.declared.disks.Lent.{Lent}
 use Rattle.afs_cell.specs.Lends.{disks_of, lent_from}
 use Rattle.afs_cell.specs.Worlds.{WorldState}
 use Rattle.afs_host.specs.LocSeated.{loc_seat_disk, DatabaseSeat}
-use Rattle.afs_host.specs.Seated.{seat_disk, ServerSeat}
+use Rattle.afs_serverhost.specs.Seated.{seat_disk, ServerSeat}
 
 -- nothing is left
 pub none_left : {A : Type 0} (xs : List A) (n : ℕ) → n ≡ length xs → n ≡ 0 → xs ≡ []

@@ -5,7 +5,7 @@ use Rattle.afs_final.specs.Reading.{AreFound, IsRead}
 use Rattle.afs_final.specs.declared.reading.Left.{Left}
 use Rattle.afs_cell.specs.Readable.{AreReadable, IsReadable}
 use Rattle.afs_cell.specs.Lends.{lent_from}
-use Rattle.afs_host.specs.Seated.{seat_disk, ServerSeat}
+use Rattle.afs_serverhost.specs.Seated.{seat_disk, ServerSeat}
 
 -- so far as servers' disks were read, whatever is found on the others
 abbrev pub Completes : {D : Type 0} (seen : D → Option (List ℕ)) (faults limit : D → ℕ) (seats : List (ServerSeat D)) (node : ℕ) (rest : List (ServerSeat D)) (found : List (Left (Store D) D)) → Type 0

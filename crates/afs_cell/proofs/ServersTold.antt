@@ -19,7 +19,7 @@ use Rattle.afs_cell.specs.Happening.{Settles}
 use Rattle.afs_cell.specs.SeatSteps.{HasHeard, HasStep, IsFallen, IsSeatStep, IsVoidServer, OneHappened, ServersHappened}
 use Rattle.afs_cell.specs.Steps.{IsAt, Stepped}
 use Rattle.afs_clients.specs.Places.{put_place}
-use Rattle.afs_host.specs.Seated.{seat_disk, IsHost, ServerSeat}
+use Rattle.afs_serverhost.specs.Seated.{seat_disk, IsHost, ServerSeat}
 use Rattle.afs_cell.specs.Worlds.{most_entries, AllTell, IsSafe, WorldState}
 use Rattle.afs_cell.specs.declared.faults.WorldFault.{WorldFault}
 use Rattle.afs_clients.specs.declared.happening.Happened.{Happened}

@@ -22,7 +22,7 @@ use Rattle.afs_clients.specs.Places.{put_place, Each}
 use Rattle.afs_cell.specs.Steps.{IsAt, Plays, Stepped}
 use Rattle.afs_cell.specs.Worlds.{most_entries, AllHold, AllTell, Counts, IsCell, IsReadyAdmin, IsReadyClient, IsSafe, WorldState}
 use Rattle.afs_host.specs.LocSeated.{loc_seat_disk, DatabaseSeat, IsLocReadySeat}
-use Rattle.afs_host.specs.Seated.{seat_disk, IsReadySeat, ServerSeat}
+use Rattle.afs_serverhost.specs.Seated.{seat_disk, IsReadySeat, ServerSeat}
 use Rattle.afs_clients.specs.declared.clients.ClientSeat.{ClientSeat}
 use Rattle.afs_admins.specs.declared.admins.AdminSeat.{AdminSeat}
 use Rattle.afs_cell.specs.declared.faults.WorldFault.{WorldFault}

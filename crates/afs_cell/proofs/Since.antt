@@ -28,7 +28,7 @@ use Rattle.afs_cell.specs.Ready.{AllCanStep, CanTakeAtLoc}
 use Rattle.afs_clients.specs.Meaning.{IsMeant}
 use Rattle.afs_cell.specs.Since.{whole, DeliversKept, IsBefore, IsSafeSince, Keeps, LetsGo, SteppedSince}
 use Rattle.afs_host.specs.LocSeated.{DatabaseSeat}
-use Rattle.afs_host.specs.Seated.{ServerSeat}
+use Rattle.afs_serverhost.specs.Seated.{ServerSeat}
 use Rattle.afs_cell.specs.Worlds.{most_entries, most_ticks, HistoryTold, LetGo, WorldState}
 use Rattle.afs_clients.specs.declared.clients.ClientSeat.{ClientSeat}
 use Rattle.afs_admins.specs.declared.admins.AdminSeat.{AdminSeat}

@@ -13,11 +13,11 @@ use Rattle.afs_locstore.specs.LocFold.{loc_fold}
 use Rattle.afs_store.specs.Stores as kept
 use Rattle.afs_host.specs.LocSeated.{DatabaseSeat}
 use Rattle.afs_host.specs.LocSeats.{loc_disk_of, DatabaseRunning}
-use Rattle.afs_host.specs.Seats.{disk_of, IsUp, ServerRunning}
+use Rattle.afs_serverhost.specs.Seats.{disk_of, IsUp, ServerRunning}
 use Rattle.afs_host.specs.declared.seats.Seat.TheVariants.{Down, Up}
 use Rattle.afs_cell.specs.Ends.{IsLeftAt}
 use Rattle.afs_cell.specs.Founding.{IsFirstDatabase}
-use Rattle.afs_host.specs.Seated.{IsReady, ServerSeat}
+use Rattle.afs_serverhost.specs.Seated.{IsReady, ServerSeat}
 use Rattle.afs_cell.specs.declared.faults.SetupFault.{SetupFault}
 use Rattle.afs_cell.specs.declared.faults.SetupFault.TheVariants as setup
 

@@ -2,11 +2,11 @@
 use Rattle.std.specs.Prelude.{◌≡◌, ℕ, List, Option, Some, None}
 use Rattle.afs_num.specs.Places.{at_place}
 use Rattle.afs_history.specs.declared.lines.Line.{Line}
-use Rattle.afs_host.specs.Serving.{HasFallen}
+use Rattle.afs_serverhost.specs.Serving.{HasFallen}
 use Rattle.afs_host.specs.declared.seats.Seat.TheVariants.{Up, Down}
 use Rattle.afs_clients.specs.Happening.{ClientTells}
 use Rattle.afs_clients.specs.Places.{put_place}
-use Rattle.afs_host.specs.Seated.{ServerSeat}
+use Rattle.afs_serverhost.specs.Seated.{ServerSeat}
 use Rattle.afs_clients.specs.declared.happening.Happened.{Happened}
 use Rattle.afs_clients.specs.declared.happening.Happened.TheVariants as happened
 

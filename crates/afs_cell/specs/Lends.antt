@@ -3,7 +3,7 @@ use Rattle.std.specs.Prelude.{◌≡◌, ◌+◌, ℕ, List, [], ◌∷◌, Opti
 use Rattle.afs_disk.specs.declared.disks.Lent.{Lent}
 use Rattle.afs_clients.specs.Places.{Each}
 use Rattle.afs_host.specs.LocSeated.{loc_seat_disk}
-use Rattle.afs_host.specs.Seated.{seat_disk, ServerSeat}
+use Rattle.afs_serverhost.specs.Seated.{seat_disk, ServerSeat}
 use Rattle.afs_cell.specs.Worlds.{WorldState}
 
 -- the disks of these nodes, in order of number from this one on, each for so many bytes; number 0 is the location database

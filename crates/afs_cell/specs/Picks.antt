@@ -1,9 +1,9 @@
 -- What a crash leaves of a server's disk.
 use Rattle.std.specs.Prelude.{◌≡◌, ℕ, List, Option, Some, Result, Ok, Err}
 use Rattle.afs_num.specs.Places.{at_place}
-use Rattle.afs_host.specs.Seats.{disk_of, ServerRunning}
+use Rattle.afs_serverhost.specs.Seats.{disk_of, ServerRunning}
 use Rattle.afs_host.specs.declared.seats.Seat.TheVariants.{Up}
-use Rattle.afs_host.specs.Seated.{seat_disk, ServerSeat}
+use Rattle.afs_serverhost.specs.Seated.{seat_disk, ServerSeat}
 use Rattle.afs_cell.specs.declared.faults.WorldFault.{WorldFault}
 use Rattle.afs_clients.specs.declared.happening.Happened.{Happened}
 use Rattle.afs_clients.specs.declared.happening.Happened.TheVariants as happened

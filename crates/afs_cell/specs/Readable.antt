@@ -3,7 +3,7 @@ use Rattle.std.specs.Prelude.{◌≡◌, ◌≤◌, ◌+◌, ℕ, List, [], ◌�
 use Rattle.afs_num.specs.Nodes.{IsNode}
 use Rattle.afs_num.specs.declared.types.Node.TheVariants.{Server}
 use Rattle.afs_host.specs.declared.seats.Seat.TheVariants.{Down, Up}
-use Rattle.afs_host.specs.Seated.{seat_disk, ServerSeat}
+use Rattle.afs_serverhost.specs.Seated.{seat_disk, ServerSeat}
 
 -- no device call of a server that is up has failed
 abbrev pub IsOpen : {D : Type 0} → ServerSeat D → Type 0

@@ -6,7 +6,7 @@ use Rattle.afs_cell.specs.DatabaseSteps.{LocCanStep}
 use Rattle.afs_cell.specs.SeatSteps.{CanStep, IsSeatOf}
 use Rattle.afs_clients.specs.Places.{Each}
 use Rattle.afs_host.specs.LocSeated.{loc_seat_disk, DatabaseSeat}
-use Rattle.afs_host.specs.Seated.{seat_disk, ServerSeat}
+use Rattle.afs_serverhost.specs.Seated.{seat_disk, ServerSeat}
 
 -- a server can be given something, and is that of its number
 pub record CanTake {D : Type 0} (limit : D → ℕ) (i : ℕ) (seat : ServerSeat D) : Type 0 where

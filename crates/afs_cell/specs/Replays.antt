@@ -1,6 +1,6 @@
 -- What a replay of a script promises: what it writes is the text of a history of that, which is legal where the script names no
 -- administrators, and the disks that it gives back stand for what that history leaves.
-use Rattle.std.specs.Prelude.{◌≡◌, ◌≤◌, ◌<◌, ◌⊎◌, ℕ, zero, suc, ◌+◌, List, [], ◌∷◌, ◌++◌, length, Bool, false, nat_eq, if◌then◌else◌, Option, Some, None}
+use Rattle.std.specs.Prelude.{◌≡◌, ◌≤◌, ◌<◌, ◌⊎◌, ℕ, zero, suc, ◌+◌, List, [], ◌∷◌, ◌++◌, length, map, Bool, false, nat_eq, if◌then◌else◌, Option, Some, None}
 use Rattle.std.specs.Option.{option_map}
 use Rattle.afs_num.specs.declared.types.Parcel.{Parcel}
 use Rattle.afs_history.specs.declared.lines.Entry as kept
@@ -8,11 +8,16 @@ use Rattle.afs_history.specs.declared.scripts.Script.{Script}
 use Rattle.afs_disk.specs.declared.bank.Lend.{Lend}
 use Rattle.afs_disk.specs.declared.bank.Place.{Place}
 use Rattle.afs_disk.specs.declared.disks.Lent.{Lent}
+use Rattle.afs_idle.specs.Idle.{but_for_admins, AreIdle}
 use Rattle.afs_law.specs.Laws.{EndsWell}
 use Rattle.afs_law.specs.Legal.{Legal}
 use Rattle.afs_moves.specs.Accepting.{AreAcceptedAsTold}
 use Rattle.afs_moves.specs.Standing.{StandWell}
 use Rattle.afs_stamps.specs.Told.{AreLocatedAsTold, AreLockedAsTold}
+use Rattle.afs_walks.specs.Messages.{HaveSenders}
+use Rattle.afs_surveys.specs.Past.{AreVainOncePast}
+use Rattle.afs_surveys.specs.Surveys.{AreSurveyed}
+use Rattle.afs_answers.specs.Answers.{HaveCauses}
 use Rattle.afs_outside.specs.Outside.{AppendsFront}
 use Rattle.afs_records.specs.Durable.{Durable}
 use Rattle.afs_records.specs.LocDurable.{LocDurable}
@@ -125,8 +130,11 @@ one_other server i = if nat_eq server i then 1 else 0
 -- A run of the script: inputs lead from its set-up through this history to this cell, and the schedule was played so far by them. The history
 -- has no more entries than one may have. Behind each entry a server has a volume in service exactly where the history tells that it accepts
 -- stores, and each change is told by a server that accepts stores of its volume. The location database's entries are locked as was told, and
--- name the servers that were told. Where the script names no administrators, it is legal, and at its end the servers hold the ideal volumes,
--- with all that was acknowledged. The count of each disk rose by each failure of that disk in it, and by its others.
+-- name the servers that were told. Each message says of itself that it is of the node that sent it. Volume calls under stamps that are past
+-- are in vain, and moves, removals and recoveries bring theirs to all servers first. Each act of an administrator ends with the code of its
+-- cause, and each failure that is a cause ends it. Where the script names no administrators, it is legal, and at its end the servers hold the
+-- ideal volumes, with all that was acknowledged. So it is with a void entry in place of each of theirs, where they do nothing but stop and
+-- begin again. The count of each disk rose by each failure of that disk in it, and by its others.
 pub record IsLegalRun (s : Script) (IsSoFar : List CellInput → Type 0) (others : ℕ → ℕ) (disk_faults : ℕ → Span ℕ) (history : List Entry) (end : NodeCell) : Type 0 where
   pub inputs : List CellInput
   pub leads : NodeLeads (node_start s) inputs history end
@@ -136,8 +144,14 @@ pub record IsLegalRun (s : Script) (IsSoFar : List CellInput → Type 0) (others
   pub stand : StandWell s history
   pub locked : AreLockedAsTold s inputs history
   pub located : AreLocatedAsTold s inputs history
+  pub senders : HaveSenders history
+  pub past : AreVainOncePast s inputs history
+  pub surveyed : AreSurveyed s inputs
+  pub caused : HaveCauses history
   pub legal : s.admins ≡ 0 → Legal history s
   pub well : s.admins ≡ 0 → EndsWell s history (file_cell end)
+  pub idle : AreIdle history → Legal (map but_for_admins history) s
+  pub idle_well : AreIdle history → EndsWell s (map but_for_admins history) (file_cell end)
   pub failures : (i : ℕ) → HasDisk s i → RoseBy (own_falls i inputs history + others i) (disk_faults i)
 
 -- The inputs are the events of the script's schedule, one for one, with each drain as its deliveries.

@@ -1,7 +1,7 @@
 -- What a crash leaves of a server's disk.
 use Rattle.std.specs.Prelude.{◌≡◌, ℕ, List, Option, Some}
 use Rattle.afs_num.specs.Places.{at_place}
-use Rattle.afs_host.specs.Seated.{seat_disk, ServerSeat}
+use Rattle.afs_serverhost.specs.Seated.{seat_disk, ServerSeat}
 use Rattle.afs_clients.specs.declared.happening.Happened.{Happened}
 use Rattle.afs_clients.specs.declared.happening.Happened.TheVariants as happened
 use Rattle.afs_clients.specs.declared.happening.ServerInput.{ServerInput}

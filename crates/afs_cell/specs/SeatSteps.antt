@@ -14,12 +14,12 @@ use Rattle.afs_rows.specs.States.{BackCall}
 use Rattle.afs_volrows.specs.NodeHosts.{node_kind, node_timed_out, node_woken, piece_timed_out, NodeHost}
 use Rattle.afs_volrows.specs.VolStates.{NodeState, PieceCall}
 use Rattle.afs_server.specs.Seen.{CanDraw}
-use Rattle.afs_host.specs.Seats.{CanRun}
+use Rattle.afs_serverhost.specs.Seats.{CanRun}
 use Rattle.afs_host.specs.Serving.{HasServed}
 use Rattle.afs_host.specs.Starting.{HasStarted}
 use Rattle.afs_host.specs.declared.seats.Seat.TheVariants.{Up, Down}
 use Rattle.afs_clients.specs.Places.{put_place}
-use Rattle.afs_host.specs.Seated.{seat_disk, IsHost, IsReadySeat, ServerSeat}
+use Rattle.afs_serverhost.specs.Seated.{seat_disk, IsHost, IsReadySeat, ServerSeat}
 use Rattle.afs_clients.specs.declared.happening.Happened.{Happened}
 use Rattle.afs_clients.specs.declared.happening.Happened.TheVariants as happened
 use Rattle.afs_clients.specs.declared.happening.ServerInput.{ServerInput}

@@ -21,7 +21,7 @@ use Rattle.afs_schedule.specs.Schedules.{events_of, first_turn, left_by, tasks_o
 use Rattle.afs_clients.specs.Places.{Each}
 use Rattle.afs_text.specs.Telling.{told}
 use Rattle.afs_cell.specs.Worlds.{falls_at, most_entries, none_gone, AllTell, Counts, IsCell, IsSafe, Runs, WorldState}
-use Rattle.afs_host.specs.Seated.{seat_disk, ServerSeat}
+use Rattle.afs_serverhost.specs.Seated.{seat_disk, ServerSeat}
 use Rattle.afs_clients.specs.declared.clients.ClientSeat.{ClientSeat}
 use Rattle.afs_admins.specs.declared.admins.AdminSeat.{AdminSeat}
 use Rattle.afs_cell.specs.declared.faults.WorldFault.{WorldFault}

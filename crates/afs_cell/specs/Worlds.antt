@@ -8,13 +8,13 @@ use Rattle.afs_history.specs.declared.lines.Entry as kept
 use Rattle.afs_history.specs.declared.scripts.Script.{Script}
 use Rattle.afs_grammar.specs.CellScripts.{IsCellScript}
 use Rattle.afs_model.specs.Messages.{messages_spelled, parcels_read}
-use Rattle.afs_rows.specs.Going.{ClientState}
+use Rattle.afs_copyrows.specs.Sites.{CopyState}
 use Rattle.afs_adminrows.specs.AdminRow.{AdminState}
 use Rattle.afs_rows.specs.Runs.{gives, starts_again, Entry, locations}
 use Rattle.afs_runs.specs.NodeRuns.{bare_entry, node_start, usual, CellInput, NodeCell, NodeLeads}
 use Rattle.afs_rows.specs.Hosts.{fails_early, fails_midway, gives_out}
 use Rattle.afs_host.specs.LocSeated.{loc_seat_disk, DatabaseSeat, IsLocHost, IsLocReadySeat}
-use Rattle.afs_host.specs.Seated.{seat_disk, IsHost, IsReadySeat, ServerSeat}
+use Rattle.afs_serverhost.specs.Seated.{seat_disk, IsHost, IsReadySeat, ServerSeat}
 use Rattle.afs_clients.specs.Places.{Each}
 use Rattle.afs_text.specs.Telling.{told, sent_by, AreRead}
 use Rattle.afs_clients.specs.declared.clients.ClientSeat.{ClientSeat}
@@ -53,7 +53,7 @@ pub record HistoryTold : Type 0 where
 -- ---- the cell
 
 -- a client's seat has the state that the cell has, and is away where the cell has it away
-pub record IsClient (s : ClientSeat) (state : ClientState) (away : Bool) : Type 0 where
+pub record IsClient (s : ClientSeat) (state : CopyState) (away : Bool) : Type 0 where
   pub state_is : s.client.state ≡ state
   pub away_is : s.is_away ≡ away
 
@@ -81,7 +81,7 @@ pub record IsCell {D : Type 0} (seen : D → Option (List ℕ)) (may_leave : D �
 pub record IsReadyClient (s : Script) (n entries : ℕ) (seat : ClientSeat) : Type 0 where
   pub handed : IsHanded s n seat
   pub epoch : seat.epoch ≤ entries + 1
-  pub last : seat.client.state.last ≤ entries
+  pub last : seat.client.state.client.last ≤ entries
 
 -- and an administrator
 pub record IsReadyAdmin (s : Script) (n entries : ℕ) (seat : AdminSeat) : Type 0 where

@@ -6,10 +6,11 @@ ghost use Rattle.std.specs.Vec.Iter.{into_iter_items};
 ghost use Rattle.afs_cell.specs.FirstSeats.{AreKeptSeats, IsKeptSeat, IsLocKeptSeat};
 ghost use Rattle.afs_cell.specs.Lends.{lent_from};
 ghost use Rattle.afs_host.specs.LocSeated.{loc_seat_disk};
-ghost use Rattle.afs_host.specs.Seated.{seat_disk};
+ghost use Rattle.afs_serverhost.specs.Seated.{seat_disk};
 
 use afs_disk::{Disk, Lent};
-use afs_host::{DatabaseSeat, Seat, ServerSeat};
+use afs_host::{DatabaseSeat, Seat};
+use afs_serverhost::ServerSeat;
 use std::vec::IntoIter;
 
 /// The disk of a server.

@@ -15,8 +15,9 @@ use crate::{database, servers};
 use afs_clients::happening::{DatabaseInput, Happened, ServerInput};
 use afs_clients::places::Places;
 use afs_disk::Disk;
-use afs_host::{DatabaseSeat, ServerSeat};
+use afs_host::DatabaseSeat;
 use afs_num::types::Node;
+use afs_serverhost::ServerSeat;
 use core::mem::replace_with;
 use std::alloc::Global;
 

@@ -18,6 +18,6 @@ mod world;
 mod writing;
 
 pub use playing::Played;
-pub use replaying::replay;
+pub use replaying::{replay, status_of_setup};
 pub use setup::set_up;
 pub use world::World;

@@ -5,11 +5,12 @@ ghost use Rattle.afs_final.specs.Reading.{AreFound, IsRead};
 ghost use Rattle.afs_cell.specs.FirstSeats.{AreKeptSeats, IsKeptSeat};
 ghost use Rattle.afs_cell.specs.Readable.{AreReadable, IsReadable};
 ghost use Rattle.afs_cell.specs.Lends.{lent_from};
-ghost use Rattle.afs_host.specs.Seated.{seat_disk};
+ghost use Rattle.afs_serverhost.specs.Seated.{seat_disk};
 
 use afs_disk::Disk;
 use afs_final::{Left, read_disk, read_store};
-use afs_host::{Seat, ServerSeat};
+use afs_host::Seat;
+use afs_serverhost::ServerSeat;
 use afs_volstore::VolStore;
 use std::alloc::Global;
 

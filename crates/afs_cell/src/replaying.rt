@@ -27,7 +27,7 @@ use afs_scripts::laws::volumes_are_in_cell;
 use std::alloc::Global;
 
 /// The status where the cell wasn't set up.
-fn status_of_setup(fault: SetupFault) -> Status
+pub fn status_of_setup(fault: SetupFault) -> Status
     ensures { result ≡ set_up_status fault }
 {
     match fault {

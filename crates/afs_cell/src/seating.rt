@@ -15,12 +15,14 @@ use crate::founding::database_at_first;
 use afs_clients::setup::lines_at;
 use afs_disk::{Disk, Disks, Fuse, Lent};
 use afs_history::scripts::Script;
-use afs_host::{DatabaseRunning, Running, Seat, ServerRunning, ServerSeat};
+use afs_host::{DatabaseRunning, Seat};
 use afs_law::laws::set_ups_are_first;
 use afs_node::ServerNode;
 use afs_num::faults::StoreFault;
 use afs_num::types::{Mem, Node};
 use afs_scripts::laws::{numbers_ascend, set_ups_are_accepted};
+use afs_serverhost::server::over;
+use afs_serverhost::{ServerRunning, ServerSeat};
 use afs_setup::create;
 use afs_volstore::VolStore;
 use std::alloc::{AllocError, Global};
@@ -77,7 +79,7 @@ fn server_at_first<D: Disk>(
 {
     let store = store_at_first(alloc, script, server, disk)?;
     match ServerNode::new(alloc, &store, script.clients) {
-        Ok(memory) => Ok(Running::new(memory, store)),
+        Ok(memory) => Ok(over(memory, store)),
         Err(_) => Err((SetupFault::OutOfMemory, store.into_disk().into_inner())),
     }
 }

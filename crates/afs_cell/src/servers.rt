@@ -9,18 +9,19 @@ ghost use Rattle.afs_clients.specs.Happening.{IsDue};
 ghost use Rattle.afs_cell.specs.SeatSteps.{CanStep, GaveOut, HasHeard, HasStep, IsFallen, IsSeatOf, IsVoidServer, SeatGoes, SeatHappens, SeatKeeps};
 ghost use Rattle.afs_cell.specs.Hearing.{IsUpSeat, SeatBecomes, SeatFalls};
 ghost use Rattle.afs_cell.specs.SeatPicks.{LeavesPick};
-ghost use Rattle.afs_host.specs.Seated.{seat_disk};
-ghost use Rattle.afs_host.specs.Seats.{with_behind};
+ghost use Rattle.afs_serverhost.specs.Seated.{seat_disk};
+ghost use Rattle.afs_serverhost.specs.Seats.{with_behind};
 ghost use Rattle.afs_clients.specs.declared.happening.ServerInput.TheVariants as input;
 
 use afs_clients::happening::{Happened, ServerInput};
 use afs_clients::telling::told_alone;
 use afs_disk::Disk;
 use afs_history::lines::{Line, Outs};
-use afs_host::{Resting, Seat, ServerRunning, ServerSeat, Start};
+use afs_host::{Resting, Seat, Start};
 use afs_num::sequences::Sequence;
 use afs_num::types::{Node, Parcels};
 use afs_server_parts::faults::NodeFault;
+use afs_serverhost::{ServerRunning, ServerSeat, server, serving, starting};
 use std::alloc::Global;
 
 /// What a server's step gave out, with the messages that go behind it. Where memory is wanting for that it can't be told.
@@ -49,7 +50,7 @@ pub fn hear<D: Disk>(seat: &mut ServerSeat<D>, bytes: &[u8], now: u32) -> Option
     ensures falls { IfNone result (IsUpSeat seat.new) }
 {
     match seat {
-        Seat::Up(running) => match running.serve(bytes, now) {
+        Seat::Up(running) => match serving::serve(running, bytes, now) {
             Ok((outs, behind)) => Some(given_out(outs, behind)),
             Err(NodeFault::OutOfMemory) => Some(Happened::Unchanged),
             Err(NodeFault::Down) => None,
@@ -87,10 +88,10 @@ fn time_out<D: Disk>(
     ensures goes { (me : N) → IsSeatOf me (seat.Up running) → SeatGoes me (seat.Up running) result.0 result.1 }
     ensures keeps { SeatKeeps D.seen D.faults D.limit (seat.Up running) result.0 }
 {
-    if !running.waits_on(callee) {
+    if !server::waits_on(&running, callee) {
         return (Seat::Up(running), Happened::Nothing);
     }
-    match running.time_out(callee, now) {
+    match server::time_out(&mut running, callee, now) {
         Ok((outs, behind)) => (Seat::Up(running), given_out(outs, behind)),
         Err(_) => (Seat::Up(running), Happened::Unchanged),
     }
@@ -104,7 +105,7 @@ fn wake<D: Disk>(mut running: ServerRunning<D>, now: u32) -> (ServerSeat<D>, Hap
     ensures goes { (me : N) → IsSeatOf me (seat.Up running) → SeatGoes me (seat.Up running) result.0 result.1 }
     ensures keeps { SeatKeeps D.seen D.faults D.limit (seat.Up running) result.0 }
 {
-    match running.wake(now) {
+    match server::wake(&mut running, now) {
         Ok((outs, behind)) => (Seat::Up(running), given_out(outs, behind)),
         Err(_) => (Seat::Up(running), Happened::Unchanged),
     }
@@ -125,7 +126,10 @@ fn crash<D: Disk>(
     ensures picked { LeavesPick D.seen D.left_by result.1 (input.Crash pick) (seat.Up running) result.0 }
 {
     match told_alone(alloc, Line::Crash { node }) {
-        Ok(outs) => (Seat::Down(running.crash(pick)), Happened::Step(outs)),
+        Ok(outs) => (
+            Seat::Down(server::crash(running, pick)),
+            Happened::Step(outs),
+        ),
         Err(_) => (Seat::Up(running), Happened::Unchanged),
     }
 }
@@ -146,7 +150,7 @@ fn set_to_stop<D: Disk>(
 {
     match told_alone(alloc, Line::Stop { node, calls, pick }) {
         Ok(outs) => {
-            running.stop_after(calls, pick);
+            server::stop_after(&mut running, calls, pick);
             (Seat::Up(running), Happened::Step(outs))
         }
         Err(_) => (Seat::Up(running), Happened::Unchanged),
@@ -169,7 +173,7 @@ fn set_to_fail<D: Disk>(
 {
     match told_alone(alloc, Line::Fail { node, calls: call }) {
         Ok(outs) => {
-            running.fail_at(call);
+            server::fail_at(&mut running, call);
             (Seat::Up(running), Happened::Step(outs))
         }
         Err(_) => (Seat::Up(running), Happened::Unchanged),
@@ -219,7 +223,7 @@ fn begin_again<D: Disk>(
     ensures goes { SeatGoes node (seat.Down resting) result.0 result.1 }
     ensures keeps { SeatKeeps D.seen D.faults D.limit (seat.Down resting) result.0 }
 {
-    match resting.start(alloc, node, clients, now) {
+    match starting::start(resting, alloc, node, clients, now) {
         Start::Up(running, outs) => (Seat::Up(running), Happened::Step(outs)),
         Start::Down(resting, lines) => (
             Seat::Down(resting),

@@ -1,13 +1,14 @@
 //! The call that does all that the program does.
 
-ghost use Rattle.std.specs.Prelude.{◌≡◌, ◌⊎◌, ◌+◌, ◌↔◌, ℕ, map, string_bytes};
-ghost use Rattle.afs_outside.specs.Outside.{Gives, TakesAtMost};
+ghost use Rattle.std.specs.Prelude.{◌≡◌, ◌⊎◌, ◌+◌, ℕ, map, string_bytes};
+ghost use Rattle.afs_outside.specs.Outside.{TakesAtMost};
 ghost use Rattle.afs_command.specs.Forms.{HaveForm};
 ghost use Rattle.afs_command.specs.Spans.{span, RoseBy};
 ghost use Rattle.afs_lending.specs.Outside.{OneRose};
 ghost use Rattle.afs_cell.specs.Replays.{LendingLeaves, SetUpLeaves};
-ghost use Rattle.afs_top.specs.Top.{Ends, IsBeforeReplay, IsScript};
+ghost use Rattle.afs_top.specs.Top.{AskMade, CanPlay, Ends, IsBeforeReplay};
 
+use crate::made::make_and_play;
 use afs_arguments::arguments::form_of;
 use afs_cell::replay;
 use afs_command::scripts::script_in;
@@ -19,7 +20,8 @@ use std::alloc::Global;
 
 /// Plays the script that the source holds and writes its text to the sink, over disks that the bank lends. The words are those
 /// behind the program's name: `replay`, with `--wire` where the bytes of each message are asked for, and `--disks DIR` where the disks
-/// are to be files of that folder. The text is written as the script is played; where writing fails, the script is played on.
+/// are to be files of that folder. The text is written as the script is played; where writing fails, the script is played on. The words
+/// may be `gen` and a number, too: then the script that is made for that is played, and its summary is written.
 pub fn cell_main<S: Source, K: Sink, B: Bank<D: Drop>>(
     alloc: Global,
     words: &[String],
@@ -32,10 +34,11 @@ pub fn cell_main<S: Source, K: Sink, B: Bank<D: Drop>>(
     // Where the words have no form, or the input can't be read or is no script, nothing was done outside.
     ensures quiet { IsBeforeReplay result → (sink.new ≡ sink.old) × (bank.new ≡ bank.old) }
     ensures unread { result ≡ Status.Usage → source.new ≡ source.old }
+    ensures untouched { AskMade (map string_bytes words.now) → source.new ≡ source.old }
     ensures no_form { ¬ HaveForm (map string_bytes words.now) → result ≡ Status.Usage }
 
-    // A script that meets no fault is played to its end, or memory or the length of its history ended that.
-    ensures complete { HaveForm (map string_bytes words.now) → Gives IsScript (S.left source.old) → ¬ RoseBy 1 (span (S.faults source.old) (S.faults source.new)) → ¬ RoseBy 1 (span (K.faults sink.old) (K.faults sink.new)) → ¬ RoseBy 1 (span (B.faults bank.old) (B.faults bank.new)) → ¬ OneRose (λ (n : ℕ). span (B.lent_faults bank.old n) (B.lent_faults bank.new n))
+    // A script that meets no fault is played to its end, or memory or the length of its history ended that. Each made script is one.
+    ensures complete { CanPlay (map string_bytes words.now) (S.left source.old) → ¬ RoseBy 1 (span (S.faults source.old) (S.faults source.new)) → ¬ RoseBy 1 (span (K.faults sink.old) (K.faults sink.new)) → ¬ RoseBy 1 (span (B.faults bank.old) (B.faults bank.new)) → ¬ OneRose (λ (n : ℕ). span (B.lent_faults bank.old n) (B.lent_faults bank.new n))
         → (result ≡ Status.Done) ⊎ ((result ≡ Status.OutOfMemory) ⊎ (result ≡ Status.Limit)) }
 
     // It takes no more than one byte above the most that a script may have.
@@ -43,6 +46,7 @@ pub fn cell_main<S: Source, K: Sink, B: Bank<D: Drop>>(
 {
     let (wire, place) = match form_of(alloc, words) {
         Ok(Some(Form::Replay { wire, place })) => (wire, place),
+        Ok(Some(Form::Gen { number })) => return make_and_play(alloc, number, sink, bank),
         Ok(None) => return Status::Usage,
         Err(_) => return Status::OutOfMemory,
     };

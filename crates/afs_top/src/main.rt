@@ -2,6 +2,7 @@
 #![tactic(auto)]
 
 pub mod cell;
+mod made;
 pub mod program;
 mod streams;
 

@@ -1,13 +1,13 @@
 //! What the program does with its words and its streams.
 
 ghost use Rattle.std.specs.Prelude.{◌≡◌, ◌⊎◌, ◌+◌, ℕ, map, string_bytes};
-ghost use Rattle.afs_outside.specs.Outside.{Gives, Puts, TakesAtMost};
+ghost use Rattle.afs_outside.specs.Outside.{Puts, TakesAtMost};
 ghost use Rattle.afs_command.specs.Forms.{HaveForm};
 ghost use Rattle.afs_command.specs.Spans.{span, RoseBy};
 ghost use Rattle.afs_lending.specs.Outside.{OneRose};
 ghost use Rattle.afs_command.specs.Statuses.{Shows, status_line, status_number};
 ghost use Rattle.afs_cell.specs.Replays.{LendingLeaves, SetUpLeaves};
-ghost use Rattle.afs_top.specs.Top.{Ends, IsBeforeReplay, IsScript};
+ghost use Rattle.afs_top.specs.Top.{AskMade, CanPlay, Ends, IsBeforeReplay};
 
 use crate::cell::cell_main;
 use afs_command::statuses::Status;
@@ -57,8 +57,9 @@ pub fn run<S: Source, K: Sink, E: Sink, B: Bank<D: Drop>>(
     ensures ends { Ends (map string_bytes words.now) (span (S.left source.old) (S.left source.new)) (span (S.faults source.old) (S.faults source.new)) (B.tells bank.old) (SetUpLeaves B.D.seen B.D.may_leave B.D.faults) (LendingLeaves B.D.seen B.D.faults B.D.limit) (record { sink = span (K.held sink.old) (K.held sink.new); passed = K.passed sink.new; lends = span (B.lends bank.old) (B.lends bank.new); given = span (B.given bank.old) (B.given bank.new); sink_faults = span (K.faults sink.old) (K.faults sink.new); bank_faults = span (B.faults bank.old) (B.faults bank.new); disk_faults = λ (n : ℕ). span (B.lent_faults bank.old n) (B.lent_faults bank.new n) }) result.status }
     ensures quiet { IsBeforeReplay result.status → (sink.new ≡ sink.old) × (bank.new ≡ bank.old) }
     ensures unread { result.status ≡ Status.Usage → source.new ≡ source.old }
+    ensures untouched { AskMade (map string_bytes words.now) → source.new ≡ source.old }
     ensures no_form { ¬ HaveForm (map string_bytes words.now) → result.status ≡ Status.Usage }
-    ensures complete { HaveForm (map string_bytes words.now) → Gives IsScript (S.left source.old) → ¬ RoseBy 1 (span (S.faults source.old) (S.faults source.new)) → ¬ RoseBy 1 (span (K.faults sink.old) (K.faults sink.new)) → ¬ RoseBy 1 (span (B.faults bank.old) (B.faults bank.new)) → ¬ OneRose (λ (n : ℕ). span (B.lent_faults bank.old n) (B.lent_faults bank.new n))
+    ensures complete { CanPlay (map string_bytes words.now) (S.left source.old) → ¬ RoseBy 1 (span (S.faults source.old) (S.faults source.new)) → ¬ RoseBy 1 (span (K.faults sink.old) (K.faults sink.new)) → ¬ RoseBy 1 (span (B.faults bank.old) (B.faults bank.new)) → ¬ OneRose (λ (n : ℕ). span (B.lent_faults bank.old n) (B.lent_faults bank.new n))
         → (result.status ≡ Status.Done) ⊎ ((result.status ≡ Status.OutOfMemory) ⊎ (result.status ≡ Status.Limit)) }
     ensures stops { TakesAtMost (16777216 + 1) (S.left source.old) (S.left source.new) }
 

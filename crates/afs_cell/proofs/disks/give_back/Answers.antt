@@ -4,7 +4,7 @@ use Rattle.std.proofs.lemmas.List.{append-nil, length-append}
 use Rattle.afs_disk.specs.declared.disks.Lent.{Lent}
 use Rattle.afs_cell.specs.FirstSeats.{AreKeptSeats}
 use Rattle.afs_cell.specs.Lends.{lent_from}
-use Rattle.afs_host.specs.Seated.{ServerSeat}
+use Rattle.afs_serverhost.specs.Seated.{ServerSeat}
 use Rattle.afs_cell.proofs.SeatsGiven.{gives_on, none_left}
 use Rattle.afs_cell.proofs.disks.give_back.Goals as goal
 

@@ -3,7 +3,7 @@ use Rattle.std.specs.Vec.Iter.{into_iter_items, into_iter_steps}
 use Rattle.afs_volstore.specs.Stores.{Store}
 use Rattle.afs_final.specs.declared.reading.Left.{Left}
 use Rattle.afs_cell.specs.FirstSeats.{AreKeptSeats}
-use Rattle.afs_host.specs.Seated.{ServerSeat}
+use Rattle.afs_serverhost.specs.Seated.{ServerSeat}
 use Rattle.afs_cell.proofs.SeatsGiven.{none_left}
 use Rattle.afs_cell.specs.Readable.{AreReadable}
 use Rattle.afs_cell.proofs.SeatsRead.{all_found, next_readable, none_found, one_found}

@@ -4,7 +4,7 @@ use Rattle.std.proofs.lemmas.List.{length-append}
 use Rattle.afs_disk.specs.declared.disks.Lent.{Lent}
 use Rattle.afs_cell.specs.FirstSeats.{AreFirstSeats}
 use Rattle.afs_cell.specs.Lends.{lent_from}
-use Rattle.afs_host.specs.Seated.{ServerSeat}
+use Rattle.afs_serverhost.specs.Seated.{ServerSeat}
 use Rattle.afs_cell.proofs.FirstSeated.{comes_next, given_back, handed_all, length_lent, one_seat_more}
 use Rattle.afs_cell.proofs.SeatsGiven.{none_left}
 use Rattle.afs_cell.proofs.seating.servers_at_first.Goals as goal

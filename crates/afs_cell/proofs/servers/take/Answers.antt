@@ -1,7 +1,7 @@
 use Rattle.std.proofs.Common.{sym, subst, []}
 use Rattle.afs_host.specs.declared.seats.Seat.TheVariants.{Down}
 use Rattle.afs_cell.specs.SeatSteps.{HasStep, IsVoidServer, SeatHappens}
-use Rattle.afs_host.specs.Seated.{ServerSeat}
+use Rattle.afs_serverhost.specs.Seated.{ServerSeat}
 use Rattle.afs_clients.specs.declared.happening.ServerInput.{ServerInput}
 use Rattle.afs_cell.specs.SeatPicks.{LeavesPick}
 use Rattle.afs_cell.proofs.SeatPicked.{not_a_crash}

@@ -1,7 +1,7 @@
 use Rattle.std.proofs.Common.{ap, subst, sym, ℕ, List}
 use Rattle.afs_cell.specs.FirstSeats.{AreFirstHosts}
 use Rattle.afs_cell.specs.Worlds.{none_gone}
-use Rattle.afs_host.specs.Seated.{ServerSeat}
+use Rattle.afs_serverhost.specs.Seated.{ServerSeat}
 use Rattle.afs_cell.proofs.FirstHosts.{all_left_alone, none_fell_alone, none_rose_alone}
 use Rattle.afs_cell.proofs.FirstWorlds.{first_made, tell_so, world_made}
 use Rattle.afs_cell.proofs.setup.set_up.Goals as goal

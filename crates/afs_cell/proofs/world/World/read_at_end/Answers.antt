@@ -3,7 +3,7 @@ use Rattle.std.proofs.lemmas.List.{length-append}
 use Rattle.afs_disk.specs.declared.disks.Lent.{Lent}
 use Rattle.afs_final.specs.Reading.{AreFound}
 use Rattle.afs_host.specs.LocSeated.{loc_seat_disk, DatabaseSeat}
-use Rattle.afs_host.specs.Seated.{ServerSeat}
+use Rattle.afs_serverhost.specs.Seated.{ServerSeat}
 use Rattle.afs_cell.specs.FirstSeats.{AreKeptSeats, IsLocKeptSeat}
 use Rattle.afs_cell.specs.Lends.{lent_from}
 use Rattle.afs_cell.specs.Readable.{AreReadable}
