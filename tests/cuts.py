@@ -13,6 +13,8 @@ import judge
 
 SERVERS = ["s1", "s2", "s3"]
 DISKS = ["loc", *SERVERS]
+# that every client asks first for a read-only copy
+FIRST_SITE = "s2"
 # How many device calls a stop lets pass, and its pick. A record is four: it is written, synced, then its gate is written and synced.
 # What a stop leaves of what isn't synced matters behind a write alone.
 STOPS = [(0, 0), (1, 0), (1, 1), (1, 2), (1, 3), (2, 0), (3, 0), (3, 1), (3, 2), (3, 3)]
@@ -28,6 +30,11 @@ def closes(volume, names="ab"):
     return [f"do c1 close {volume}/{names[number % len(names)]} hex:{0x30 + number:02x}" for number in range(12)]
 
 
+def opens(*files):
+    """Client c2 reads files of proj and of its copies."""
+    return [f"do c2 open proj{file}" for file in files]
+
+
 def plays(node, count=1):
     """So many acts of a node, one after the other, each to its end."""
     return [f"act {node}", "drain"] * count
@@ -38,27 +45,39 @@ def give(count):
     return ["give"] * count
 
 
-def stores(*counts):
-    """The act goes on by so many messages, then client c1 begins a store; and so on. At last all messages are given."""
-    return ["act a1", *(event for count in counts for event in (*give(count), "act c1")), "drain"]
+def beside(*steps):
+    """The act goes on by so many messages, then a client begins an act of its own; and so on. At last all messages are given."""
+    return ["act a1", *(event for step in steps for event in (give(step) if isinstance(step, int) else [f"act {step}"])), "drain"]
 
 
-# Client c2 holds promises on what c1 stores, which has begun to do so.
-BEFORE = [*plays("c1"), *plays("a1", 4), *plays("c1"), *plays("c2", 2)]
+# What client c2 reads: the volume; a file of each copy before the act; beside it the file that it hasn't; both, beside and afterwards.
+FILES = opens("/a", "/b")
+COPIES_READ = opens(".readonly/a", ".backup/a", ".readonly/b", ".backup/b", *[".readonly/a", ".readonly/b"] * 4)
+RELEASES_READ = opens(".readonly/a", ".readonly/a", ".readonly/b", *[".readonly/a", ".readonly/b"] * 4)
+
+# Client c2 holds promises on what c1 stores, which has begun to do so, and on the copies.
+BEFORE = [*plays("c1"), *plays("a1", 4), *plays("c1"), *plays("c2", 4)]
 
 # Each act: its volume, its tasks, what goes before it, and the act with what clients do meanwhile.
 ACTS = {
-    "move": ("proj", [*closes("proj"), *COPIES, "do a1 move proj s2"], BEFORE, stores(13, 22, 12)),
-    "move back": ("proj", [*closes("proj"), *COPIES[:2], "do a1 move proj s2", "do a1 release proj", "do a1 move proj s1"], BEFORE, stores(12, 22, 12)),
-    "release": ("proj", [*closes("proj"), *COPIES[:2], "do a1 addsite proj s1", *["do a1 release proj"] * 2], BEFORE, stores(9, 22, 20)),
-    "first release": ("proj", [*closes("proj"), *COPIES[:2], "do a1 release proj"], [*plays("c1"), *plays("a1", 2), *plays("c2", 2)], stores(9, 22, 20)),
-    "create": ("more", ["do c1 make more/g", *closes("more", "g"), "do a1 create more s2 1000", "do c3 make more/a"], plays("c2", 2), stores(12, 6, 4)),
+    "move": ("proj", [*closes("proj"), *COPIES_READ, *COPIES, "do a1 move proj s2"], BEFORE,
+             beside(8, "c2", 7, "c1", 16, "c2", 14, "c1", 22, "c2", 8, "c1")),
+    "move back": ("proj", [*closes("proj"), *RELEASES_READ, *COPIES[:2], "do a1 move proj s2", "do a1 release proj", "do a1 move proj s1"], BEFORE,
+                  beside(8, "c2", 6, "c1", 16, "c2", 8, "c1", 18, "c2", 22, "c1")),
+    "release": ("proj", [*closes("proj"), *RELEASES_READ, *COPIES[:2], "do a1 addsite proj s1", *["do a1 release proj"] * 2], BEFORE,
+                beside(5, "c2", 6, "c1", 24, "c2", 8, "c1", 22, "c2", 10, "c1")),
+    "first release": ("proj", [*closes("proj"), *RELEASES_READ, *COPIES[:2], "do a1 release proj"], [*plays("c1"), *plays("a1", 2), *plays("c2", 2)],
+                      beside(9, "c1", 22, "c2", 6, "c1", 29, "c2")),
+    "create": ("more", ["do c1 make more/g", *closes("more", "g"), "do a1 create more s2 1000", "do c3 make more/a"], plays("c2", 2),
+               beside(12, "c1", 6, "c1", 4, "c1")),
     "restore": ("copy", [*closes("proj")[:1], *closes("copy"), "do a1 dump proj week 0", "do a1 restore copy s2 week"],
-                [*plays("c1"), *plays("a1"), *plays("c2", 2)], stores(14, 6, 4)),
-    "remove": ("proj", [*closes("proj"), *COPIES, "do a1 remove proj"], BEFORE, stores(9, 10, 8)),
-    "recover, not decided": ("proj", [*closes("proj"), *COPIES, *MOVES], [*BEFORE, "act a3", *give(41), "crash a3", "drain"], stores(9, 20, 12)),
-    "recover, decided": ("proj", [*closes("proj"), *COPIES, *MOVES], [*BEFORE, "act a3", *give(44), "crash a3", "drain"], stores(9, 20, 12)),
-    "backup": ("proj", [*closes("proj"), *COPIES, "do a1 backup proj"], BEFORE, stores(8, 6)),
+                [*plays("c1"), *plays("a1"), *plays("c2", 2)], beside(14, "c1", 6, "c1", 4, "c1")),
+    "remove": ("proj", [*closes("proj"), *COPIES_READ, *COPIES, "do a1 remove proj"], BEFORE, beside(5, "c2", 6, "c1", 8, "c2", 6, "c1", 10, "c2", 4, "c1")),
+    "recover, not decided": ("proj", [*closes("proj"), *COPIES_READ, *COPIES, *MOVES], [*BEFORE, "act a3", *give(41), "crash a3", "drain"],
+                             beside(9, "c1", 10, "c2", 12, "c1", 6, "c2", 16, "c1")),
+    "recover, decided": ("proj", [*closes("proj"), *COPIES_READ, *COPIES, *MOVES], [*BEFORE, "act a3", *give(44), "crash a3", "drain"],
+                         beside(9, "c1", 10, "c2", 12, "c1", 6, "c2", 8, "c1")),
+    "backup": ("proj", [*closes("proj"), *COPIES_READ, *COPIES, "do a1 backup proj"], BEFORE, beside(5, "c2", 8, "c1", 6, "c2", 4, "c1")),
 }
 
 
@@ -109,8 +128,9 @@ class Whole:
 
     def __init__(self, program, volume, tasks, before, part):
         self.program = program
-        ends = [f"do c3 close {volume}/a hex:7a", f"do c3 open {volume}/a"]
-        self.head = [*HEAD, "do c2 open proj/a", "do c2 open proj/b", *tasks, *[f"do a2 recover {volume}"] * 3, *ends]
+        self.has_copies = any(" addsite " in task for task in tasks)
+        ends = [f"do c3 close {volume}/a hex:7a", *(f"do c3 open {volume}{kind}/a" for kind in ("", ".readonly", ".backup"))]
+        self.head = [*HEAD, *FILES, *tasks, *[f"do a2 recover {volume}"] * 3, *ends]
         self.before = self.spelled([], before)
         self.part = self.spelled(self.before, part, True)
         self.play = program.play(self.script(self.before + self.part))
@@ -178,9 +198,10 @@ def goes_on(node):
 
 
 def ending(late=None):
-    """A store; a recovery, and the late message where there is one; a store; a recovery that finds nothing to do; another client."""
+    """A store; a recovery, and the late message where there is one; a store and reads of copies; a recovery that finds nothing to do;
+    another client."""
     again = [f"deliver {late}", "drain", *plays("a2")] if late else []
-    return ["drain", *plays("c1"), *plays("a2"), *again, *plays("c1"), *plays("a2"), *plays("c3", 3)]
+    return ["drain", *plays("c1"), *plays("a2"), *again, *plays("c1"), *plays("c2", 2), *plays("a2"), *plays("c3", 5)]
 
 
 class Cuts:
@@ -210,6 +231,8 @@ class Cuts:
         waiting = list(self.waiting(at))
         calls = [place for place, is_call, caller, _ in waiting if is_call and caller == "a1"]
         yield Cell("administrator gone", at, "", [*self.start(at, calls), "crash a1", *ending()], [("crash a1", "")])
+        if self.whole.has_copies:
+            yield self.first_site_down(at, calls)
         if waiting:
             yield from self.overtaken(at, [place for place, *_ in waiting])
         for place, is_call, caller, callee in waiting:
@@ -218,6 +241,14 @@ class Cuts:
                 yield from self.late(at, place)
             if is_call and callee in DISKS and callee != caller:
                 yield self.down(at, caller, callee)
+
+    def first_site_down(self, at, calls):
+        """The administrator is gone. Client c2 reads a copy; its first site goes down, promises end, and c2 reads once more."""
+        reads = ["drain", *plays("c2"), f"crash {FIRST_SITE} 0", "tick 7200", *plays("c2")]
+        reads += [event for _ in range(3) for event in (*timeouts("c2", FIRST_SITE), "drain")]
+        shows = [("crash a1", ""), ("begin c2 open", ""), (f"crash {FIRST_SITE}", ""), ("tick", ""), (f"restart {FIRST_SITE}", "")]
+        events = [*self.start(at, calls), "crash a1", *reads, *goes_on(FIRST_SITE), *ending()]
+        return Cell("gone, first site down", at, "", events, shows)
 
     def lost(self, at, place, caller, callee):
         """A message is lost, and sent again; or all of them are lost, until the call is given up."""
@@ -251,6 +282,7 @@ class Cuts:
         """The node that a call goes to is down, until whoever waits for it has given up, and so has the recovery that follows."""
         waits = ["drain", *(event for _ in range(3) for event in (*timeouts(caller, callee), "drain"))]
         waits += [event for _ in range(3) for event in (*timeouts("a1", callee), "drain")]
+        waits += ["act c2", "drain", *(event for _ in range(3) for event in (*timeouts("c2", callee), "drain"))]
         shows = [(f"crash {callee}", ""), (f"timeout {caller} {callee} ", " 3"), (f"restart {callee}", "")]
         return Cell("node down", at, callee, [*self.start(at), f"crash {callee} 0", *waits, *goes_on(callee), *ending()], shows)
 
@@ -293,7 +325,7 @@ def left_alone(program):
 
 
 class Tried:
-    """What came of a cell: what is wrong with it, and how many stores were acknowledged."""
+    """What came of a cell: what is wrong with it, and how many stores were acknowledged, reads of copies shown, and releases refused."""
 
     def __init__(self, program, reference, whole, cell):
         self.cell = cell
@@ -301,7 +333,7 @@ class Tried:
         self.text = program.text(self.script)
         judged = judge.judged(self.script, self.text)
         self.faults = judged.faults
-        self.stores = len(judged.stored)
+        self.counts = len(judged.stored), judged.copies_read, judged.refused
         if not cell.is_shown(self.text):
             self.faults.append("the cut isn't shown")
         if reference and reference.text(self.script) != self.text:
@@ -328,14 +360,15 @@ def main():
     words = words_of()
     program = Program(words.program)
     reference = Program(words.reference) if words.reference else None
-    all_cells = failed = acknowledged = 0
+    all_cells = failed = 0
+    shown = [0, 0, 0]
     with concurrent.futures.ThreadPoolExecutor(words.jobs) as pool:
         for act in words.acts:
             whole = Whole(program, *ACTS[act])
             counts = {}
             for tried in pool.map(lambda cell: Tried(program, reference, whole, cell), Cuts(whole).cells()):
                 counts[tried.cell.kind] = counts.get(tried.cell.kind, 0) + 1
-                acknowledged += tried.stores
+                shown = [sum(pair) for pair in zip(shown, tried.counts)]
                 if tried.faults:
                     failed += 1
                     print(f"failed: {act}, {tried.cell.kind} behind event {tried.cell.at} {tried.cell.note}: {'; '.join(tried.faults)[:400]}")
@@ -344,7 +377,8 @@ def main():
             all_cells += sum(counts.values())
             print(f"{act}, {len(whole.part)} events: {', '.join(f'{kind} {count}' for kind, count in counts.items())}", flush=True)
     print(left_alone(program))
-    print(f"{all_cells} cells, {failed} failed; {acknowledged} stores were acknowledged")
+    stores, reads, refused = shown
+    print(f"{all_cells} cells, {failed} failed; {stores} stores were acknowledged, {reads} reads of copies shown, {refused} older releases refused")
     return 1 if failed or not all_cells else 0
 
 

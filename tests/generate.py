@@ -6,7 +6,7 @@ on a tree of directories, files and links with access lists and users; `caches`,
 passes the ends of promises. Those of up to eight: `servers`, volumes on several of them, clients, and all these accidents at each
 node; `asks`, acts on volumes that the script doesn't have, or on copies that no volume has, and accidents of the location database;
 `admins`, administrators beside clients, whose acts are on volumes of the script and on new ones, and all these accidents at each
-node. In `admins` no client asks for a read-only volume or a backup. About one script in eight of `events`, `acts`, `asks` and
+node; three acts of clients in five ask for a read-only volume or a backup. About one script in eight of `events`, `acts`, `asks` and
 `admins` is spoiled in one place, so that it may be none.
 
 PROGRAM is a program that plays scripts, as the built one. It is asked how far a script goes: how many messages were sent, and
@@ -54,7 +54,7 @@ KINDS = {
     "caches": Kind([1, 2, 3, 4, 6, 16], [1, 2, 3, 4, 6, 8, 16, 64], True, 0.5, 0),
     "servers": Kind([1, 2, 3, 4], [64, 16, 3], True, 0.4, 0, (1, 2, 3, 4, 5, 6, 7, 8), 0.05),
     "asks": Kind([1, 1, 2, 3], [64, 3], True, 0.2, 0.125, (1, 1, 2, 3, 8), 0.5),
-    "admins": Kind([0, 1, 1, 2], [64, 3], True, 0.3, 0.125, (1, 2, 2, 3, 3, 8), 0.05, (1, 1, 2, 4)),
+    "admins": Kind([0, 1, 1, 2, 2, 3], [64, 3], True, 0.3, 0.125, (1, 2, 2, 3, 3, 8), 0.05, (1, 1, 2, 4)),
 }
 
 
@@ -184,38 +184,63 @@ class Paths:
         return self.rng.choice([self.volume, *(f"{self.volume}/{path}" for path in self.directories), self.any()])
 
 
+class Copy:
+    """Paths of a copy of a volume. Copies have numbers that acts of administrators have drawn."""
+
+    def __init__(self, rng, volume):
+        self.rng = rng
+        self.volume = volume
+        self.kind = rng.choice([".readonly", ".readonly", ".backup"])
+
+    def any(self):
+        return self.of_copy(self.volume.any())
+
+    def directory(self):
+        return self.of_copy(self.volume.directory())
+
+    def of_copy(self, path):
+        if path[0] == "@":
+            return f"@{536870912 + self.rng.randrange(16)}.{path.partition('.')[2]}"
+        name, slash, rest = path.partition("/")
+        return f"{name}{self.kind}{slash}{rest}"
+
+
 class Forest:
     """The paths of all volumes, and of volumes that aren't there."""
 
-    def __init__(self, rng, kind, volumes):
+    def __init__(self, rng, kind, volumes, released):
         self.rng = rng
         self.asks = kind.asks
         self.volumes = volumes
         self.has_copies = bool(kind.admins)
+        self.released = [volume for volume in volumes if volume.volume == released]
 
     def unknown(self):
         rng = self.rng
-        if self.has_copies:
-            name = rng.choice(["nosuch", "007", "%FF"])
-            return rng.choice([name, f"{name}/f0", f"@{rng.choice([0, 7, 536870911, 4294967295])}.1.1"])
         known = rng.choice(self.volumes).volume
         names = ["nosuch", f"{known}.readonly", f"{known}.backup", f"{known}.readonly.backup", ".readonly", "007", "n" * 32, "%FF"]
         number = rng.choice([0, 7, 536870911, self.volumes[-1].number + 1, 4294967295])
         name = rng.choice(names)
         return rng.choice([name, f"{name}/f0", f"{name}/d/x", f"@{number}.1.1", f"@{number}.2.2"])
 
+    def volume(self):
+        """A volume, or a copy of one."""
+        if self.has_copies and self.rng.random() < 0.6:
+            return Copy(self.rng, self.rng.choice(self.released * 20 + self.volumes))
+        return self.rng.choice(self.volumes)
+
     def any(self):
-        return self.unknown() if self.rng.random() < self.asks else self.rng.choice(self.volumes).any()
+        return self.unknown() if self.rng.random() < self.asks else self.volume().any()
 
     def two(self):
         """Two paths, mostly of one volume."""
         if self.rng.random() < 0.7:
-            volume = self.rng.choice(self.volumes)
+            volume = self.volume()
             return f"{volume.any()} {volume.any()}"
         return f"{self.any()} {self.any()}"
 
     def directory(self):
-        return self.unknown() if self.rng.random() < self.asks else self.rng.choice(self.volumes).directory()
+        return self.unknown() if self.rng.random() < self.asks else self.volume().directory()
 
 
 def act(rng, paths):
@@ -235,6 +260,12 @@ def act(rng, paths):
     if word == "setacl":
         return f"setacl {paths.directory()} hex:{rng.choice([*ACCESS_LISTS, b'x']).hex()}"
     return word if word == "giveup" else f"{word} {paths.any()}"
+
+
+def releases(rng, name, servers):
+    """The first errands in most scripts: this volume gets sites, and copies there."""
+    sites = [f"addsite {name} s{rng.randrange(1, servers + 1)}" for _ in range(rng.choice([1, 2, 3]))]
+    return [*sites, f"release {name}", *rng.choice([[], [f"backup {name}"]])] if rng.random() < 0.8 else []
 
 
 def errand(rng, names, servers):
@@ -305,7 +336,8 @@ class Nodes:
 
 def schedule(rng, kind, nodes, script):
     """Plays on: messages mostly come in order, some are lost, late or repeated."""
-    named = set()
+    script.look()
+    named = set(range(1, script.sent + 1))
     wild = rng.choice([0, 0.02, 0.1, 0.3])
     lost = rng.choice([0, 0.05, 0.3])
     for step in range(rng.choice([150, 300, 600]) if nodes.admins else rng.choice([20, 60, 150, 300])):
@@ -370,15 +402,21 @@ def make(name, seed, program):
     names = [volume.volume for volume in volumes]
     if admins:
         volumes += [Paths(rng, name, volumes[0].number, [], []) for name in NEW_VOLUMES]
-    paths = Forest(rng, kind, volumes)
+    released = rng.choice(names) if admins else ""
+    paths = Forest(rng, kind, volumes, released)
     nodes = Nodes(rng, kind, servers, clients, admins)
     tasks = []
     if clients:
         tasks = [f"do {nodes.client()} {act(rng, paths)}" for _ in range(rng.choice([3, 10, 30, 60]))]
+    first = releases(rng, released, servers) if admins else []
     if admins:
+        tasks += [f"do a1 {words}" for words in first]
         tasks += [f"do {rng.choice(nodes.admins)} {errand(rng, names, servers)}" for _ in range(rng.choice([3, 6, 12, 24]))]
     script = Script(program, [*lines, *more, *tasks])
     script.clean()
+    if first:
+        # mostly they are played undisturbed
+        script.events += ["act a1", "drain"] * rng.choice([0, len(first), len(first)])
     schedule(rng, kind, nodes, script)
     text = script.text()
     return spoil(rng, text) if rng.random() < kind.spoiled else text

@@ -6,8 +6,7 @@
 # besides, by both, and the disks of the location database and of each server have to have the same bytes then. A reference program
 # that reads a copy of a disk at the end leaves there what a record has written whose second or third device call failed or was
 # stopped, where this one cuts it: such a script differs in that disk alone.
-# It is no part of the gate: the reference program isn't in the repository. One that plays more than this program, as clients that
-# read read-only volumes, may differ in a spoiled script that asks for such, and in nothing else.
+# It is no part of the gate: the reference program isn't in the repository.
 # The program is the one that ./afscell or the gate built; AFSCELL names another one.
 set -eu
 
