@@ -13,10 +13,10 @@ trap 'rm -rf "$work"' EXIT
 trap 'exit 130' INT
 trap 'exit 143' TERM
 
-below='afs_num afs_xdr afs_shape afs_history afs_ideal afs_disk afs_journal afs_store afs_vnode afs_dir afs_acl afs_records afs_record afs_seats afs_volume afs_patch afs_memory afs_volstore'
+below='afs_num afs_disk afs_record afs_volume afs_volstore'
 mkdir "$work/crates"
 if [ -f HANDLES ]; then cp HANDLES "$work"; fi
-for crate in $below; do
+for crate in $(tests/needed.sh $below); do
     mkdir "$work/crates/$crate"
     for part in src specs proofs; do
         if [ -d "crates/$crate/$part" ]; then cp -R "crates/$crate/$part" "$work/crates/$crate"; fi

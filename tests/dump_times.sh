@@ -11,17 +11,10 @@ trap 'rm -rf "$work"' EXIT
 trap 'exit 130' INT
 trap 'exit 143' TERM
 
-# The crate and those below it, by crates.txt: a name without a folder is a library of the toolchain.
-needed() {
-    [ -d "crates/$1" ] || return 0
-    echo "$1"
-    for below in $(sed -n "s/^$1://p" crates.txt); do needed "$below"; done
-}
-
 below='afs_num afs_dir afs_vnode afs_volume afs_dump afs_restore'
 mkdir "$work/crates"
 if [ -f HANDLES ]; then cp HANDLES "$work"; fi
-for crate in $(for name in $below; do needed "$name"; done | sort -u); do
+for crate in $(tests/needed.sh $below); do
     mkdir "$work/crates/$crate"
     for part in src specs proofs; do
         if [ -d "crates/$crate/$part" ]; then cp -R "crates/$crate/$part" "$work/crates/$crate"; fi

@@ -3,16 +3,18 @@
 python3 tests/edits.py: each old text of an edit has to stand exactly once in its file, or once at or after the line that 'from'
 names. It prints a line for each edit of which that is not so, then how many were looked at, and ends with status 1 if there was one.
 
-An edit is a file of lines, of which these are read:
+An edit is a file of lines, of which these are read here:
   file: PATH   what the pairs that follow change
   from: TEXT   they change the first place at or after the first line with this text
   old: TEXT    stands there
   new: TEXT    comes instead; a second one is a further line
+Other lines begin with another word and a colon, or with a #. A line that begins otherwise is the rest of a text, and nobody would read it.
 """
 
 import dataclasses
 import glob
 import os
+import re
 import sys
 
 ROOT = os.path.dirname(os.path.dirname(os.path.abspath(__file__)))
@@ -55,6 +57,8 @@ def pairs_of(path):
                 if not pairs:
                     raise Misfit(f"line {number}: a new text stands before any old one")
                 pairs[-1].new.append(text)
+            elif line.strip() and not re.match(r"#|[a-z]+:", line):
+                raise Misfit(f"line {number}: it begins with no word that is read")
     if not pairs:
         raise Misfit("it has no old text")
     return pairs
@@ -99,7 +103,7 @@ def places():
         yield path, os.path.dirname(os.path.dirname(path))
     for path in sorted(glob.glob(f"{ROOT}/tests/wrong_programs/*/*.edit")):
         yield path, f"{ROOT}/crates/{os.path.basename(os.path.dirname(path))}"
-    for kind, folder in (("disks", "crates"), ("law", "crates"), ("operations", "crates/afs_ideal"), ("dumps", "crates/afs_dumps"), ("fold", "crates/afs_fold"), ("volrows", "crates/afs_volrows"), ("adminrows", "crates/afs_adminrows"), ("copyrows", "crates/afs_copyrows"), ("moves", "crates/afs_moves"), ("stamps", "crates/afs_stamps")):
+    for kind, folder in (("disks", "crates"), ("law", "crates"), ("operations", "crates/afs_ideal"), ("dumps", "crates/afs_dumps"), ("fold", "crates/afs_fold"), ("volrows", "crates/afs_volrows"), ("adminrows", "crates/afs_adminrows"), ("copyrows", "crates/afs_copyrows"), ("walks", "crates/afs_walks"), ("moves", "crates/afs_moves"), ("stamps", "crates/afs_stamps"), ("keys", "crates/afs_keys"), ("holds", "crates/afs_holds"), ("surveys", "crates/afs_surveys"), ("claims", "crates/afs_claims")):
         for path in sorted(glob.glob(f"{ROOT}/tests/wrong_{kind}/*.edit")):
             yield path, f"{ROOT}/{folder}"
 

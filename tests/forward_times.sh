@@ -11,28 +11,10 @@ trap 'rm -rf "$work"' EXIT
 trap 'exit 130' INT
 trap 'exit 143' TERM
 
-# These crates and those below them, by crates.txt: a name without a folder is a library of the toolchain.
-needed() {
-    awk -v names="$*" '
-        { sub(/#.*/, "") }
-        /:/ { name = $1; sub(/:/, "", name); $1 = ""; below[name] = $0 }
-        END {
-            left = split(names, todo, " ")
-            while (left > 0) {
-                name = todo[left--]
-                if (name in below && !seen[name]++) {
-                    print name
-                    count = split(below[name], lower, " ")
-                    for (i = 1; i <= count; i++) { todo[++left] = lower[i] }
-                }
-            }
-        }' crates.txt
-}
-
 below='afs_num afs_history afs_disk afs_setup afs_volstore afs_server afs_volserv'
 mkdir "$work/crates"
 cp HANDLES "$work"
-for crate in $(needed $below); do
+for crate in $(tests/needed.sh $below); do
     mkdir "$work/crates/$crate"
     for part in src specs proofs; do
         if [ -d "crates/$crate/$part" ]; then cp -R "crates/$crate/$part" "$work/crates/$crate"; fi

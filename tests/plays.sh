@@ -16,24 +16,6 @@ trap 'rm -rf "$work"' EXIT
 trap 'exit 130' INT
 trap 'exit 143' TERM
 
-# These crates and those below them, by crates.txt: a name without a folder is a library of the toolchain.
-needed() {
-    awk -v names="$*" '
-        { sub(/#.*/, "") }
-        /:/ { name = $1; sub(/:/, "", name); $1 = ""; below[name] = $0 }
-        END {
-            left = split(names, todo, " ")
-            while (left > 0) {
-                name = todo[left--]
-                if (name in below && !seen[name]++) {
-                    print name
-                    count = split(below[name], lower, " ")
-                    for (i = 1; i <= count; i++) { todo[++left] = lower[i] }
-                }
-            }
-        }' crates.txt
-}
-
 # Records of another program stand in a crate of tests, and the player takes them from there.
 shared=crates/afs_volstore_tests/src/vectors.rt
 
@@ -41,7 +23,7 @@ shared=crates/afs_volstore_tests/src/vectors.rt
 below=$(cat tests/plays/player/*.play | sed -n 's/.*\(afs_[a-z_]*\)::.*/\1/p' | sort -u | tr '\n' ' ')
 mkdir "$work/crates" "$work/told"
 cp HANDLES "$work"
-for crate in $(needed $below); do
+for crate in $(tests/needed.sh $below); do
     mkdir "$work/crates/$crate"
     for part in src specs proofs; do
         if [ -d "crates/$crate/$part" ]; then cp -R "crates/$crate/$part" "$work/crates/$crate"; fi

@@ -14,7 +14,7 @@ trap 'exit 143' TERM
 below='afs_num afs_breaks afs_promise'
 mkdir "$work/crates"
 if [ -f HANDLES ]; then cp HANDLES "$work"; fi
-for crate in $below; do
+for crate in $(tests/needed.sh $below); do
     mkdir "$work/crates/$crate"
     for part in src specs proofs; do
         if [ -d "crates/$crate/$part" ]; then cp -R "crates/$crate/$part" "$work/crates/$crate"; fi

@@ -44,16 +44,9 @@ finish() {
     exit 0
 }
 
-# The crate and those below it, by crates.txt: a name without a folder is a library of the toolchain.
-needed() {
-    [ -d "crates/$1" ] || return 0
-    echo "$1"
-    for below in $(sed -n "s/^$1://p" crates.txt); do needed "$below"; done
-}
-
 mkdir "$work/crates"
 if [ -f HANDLES ]; then cp HANDLES "$work"; fi
-for crate in $(needed afs_disk_tests | sort -u); do
+for crate in $(tests/needed.sh afs_disk_tests); do
     cp -R "crates/$crate" "$work/crates"
     grep "^$crate:" crates.txt >> "$work/crates.txt"
 done

@@ -43,13 +43,6 @@ finish() {
     exit 0
 }
 
-# The crate and those below it, by crates.txt: a name without a folder is a library of the toolchain.
-needed() {
-    [ -d "crates/$1" ] || return 0
-    echo "$1"
-    for below in $(sed -n "s/^$1://p" crates.txt); do needed "$below"; done
-}
-
 # The file of proofs and those below it, each once.
 stands_on() {
     while [ "$#" -gt 0 ]; do
@@ -63,7 +56,7 @@ stands_on() {
 
 mkdir "$work/crates"
 if [ -f HANDLES ]; then cp HANDLES "$work"; fi
-for crate in $(needed afs_law | sort -u); do
+for crate in $(tests/needed.sh afs_law); do
     cp -R "crates/$crate" "$work/crates"
     grep "^$crate:" crates.txt >> "$work/crates.txt"
 done

@@ -5,8 +5,8 @@
 # crate afs_dumps in the same way, by tests/wrong_dumps; WRONG=fold and WRONG=volrows try the records and the rows of a volume server
 # (crates afs_fold and afs_volrows), by tests/wrong_fold and tests/wrong_volrows; WRONG=adminrows tries the acts of administrators (crate
 # afs_adminrows) by tests/wrong_adminrows, and WRONG=copyrows clients of read-only volumes (crate afs_copyrows) by tests/wrong_copyrows.
-# WRONG=moves and WRONG=stamps try laws on runs with administrators (crates afs_moves and afs_stamps), by tests/wrong_moves and
-# tests/wrong_stamps.
+# WRONG=walks, moves, stamps, keys, holds, surveys, claims and answers try laws on runs with administrators (crates afs_walks,
+# afs_moves, afs_stamps, afs_keys, afs_holds, afs_surveys, afs_claims and afs_answers), by tests/wrong_walks and so on.
 # Run it when the definitions or the rows have changed. It takes some 15 s an edit, so it is no part of the gate. With NAMEs it
 # tries these alone. All is done in a copy: the repository stays as it is.
 #
@@ -29,7 +29,13 @@ case ${WRONG:-operations} in
     copyrows) changed_crate=afs_copyrows edits=tests/wrong_copyrows law=copies_are_plain ;;
     moves) changed_crate=afs_moves edits=tests/wrong_moves law=lines_stand_well ;;
     stamps) changed_crate=afs_stamps edits=tests/wrong_stamps law=entries_are_told ;;
-    *) echo 'WRONG is operations, dumps, fold, volrows, adminrows, copyrows, moves or stamps'; exit 1 ;;
+    keys) changed_crate=afs_keys edits=tests/wrong_keys law=calls_run_in_order ;;
+    walks) changed_crate=afs_walks edits=tests/wrong_walks law=senders_are_told ;;
+    holds) changed_crate=afs_holds edits=tests/wrong_holds law=stamps_have_owners ;;
+    surveys) changed_crate=afs_surveys edits=tests/wrong_surveys law=surveys_are_stored ;;
+    answers) changed_crate=afs_answers edits=tests/wrong_answers law=answers_have_causes ;;
+    claims) changed_crate=afs_claims edits=tests/wrong_claims law=transactions_are_asked_for ;;
+    *) echo 'WRONG is operations, dumps, fold, volrows, adminrows, copyrows, walks, moves, stamps, keys, holds, surveys, claims or answers'; exit 1 ;;
 esac
 
 work=$(mktemp -d)
@@ -55,16 +61,9 @@ told() {
     sed -n "s/^$2: //p" "$1"
 }
 
-# The crate and those below it, by crates.txt: a name without a folder is a library of the toolchain.
-needed() {
-    [ -d "crates/$1" ] || return 0
-    echo "$1"
-    for below in $(sed -n "s/^$1://p" crates.txt); do needed "$below"; done
-}
-
 mkdir "$work/crates"
 if [ -f HANDLES ]; then cp HANDLES "$work"; fi
-for crate in $(needed "$changed_crate" | sort -u); do
+for crate in $(tests/needed.sh "$changed_crate"); do
     cp -R "crates/$crate" "$work/crates"
     grep "^$crate:" crates.txt >> "$work/crates.txt"
 done
