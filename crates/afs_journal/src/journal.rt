@@ -8,7 +8,7 @@ use crate::found::Found;
 use crate::mend::settle;
 use crate::opening::open;
 use crate::put::put;
-use crate::spelling::{SPELLED, TAKEN, make_room, spell};
+use crate::spelling::{SPELLED, TAKEN, give_back, make_room, spell};
 use afs_disk::Disk;
 use afs_num::faults::JournalFault;
 use afs_num::types::Mem;
@@ -230,6 +230,7 @@ impl<D: Disk> Journal<D> {
         spell(&mut self.place, self.count + 1, rec)?;
         match put(&mut self.disk, self.gate, &self.place) {
             Ok(()) => {
+                give_back(&mut self.place);
                 self.count += 1;
                 self.gate += len + SPELLED;
                 Ok(self.count)

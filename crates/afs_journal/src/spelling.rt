@@ -36,6 +36,19 @@ pub(crate) fn make_room<D: Disk>(disk: &mut D, place: &mut Vec<u8>, gate: u64, m
     Ok(())
 }
 
+/// How many bytes a place may have that is kept for the next record: one with a file's whole contents has fewer.
+const KEPT: usize = 131_072;
+
+/// Gives the memory of a long place back.
+pub(crate) fn give_back(place: &mut Vec<u8>)
+    ensures { vec_capacity place.new ≤ 131072 }
+{
+    if place.capacity() > KEPT {
+        let alloc = *place.allocator();
+        *place = Vec::new(alloc);
+    }
+}
+
 /// Spells the place of a record. The memory is there.
 #[tactic(auto, unfolding(afs_xdr::specs::Words::word))]
 pub(crate) fn spell(place: &mut Vec<u8>, number: u64, rec: &[u8]) -> Result<(), AllocError>

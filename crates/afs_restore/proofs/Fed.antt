@@ -1,6 +1,5 @@
 -- What a restorer was fed, and how far it was read.
-use Rattle.std.proofs.Common.{◌≡◌, ℕ, zero, suc, ◌+◌, ◌-◌, ◌≤◌, ◌<◌, List, [], ◌∷◌, ◌++◌, length, take, drop, Option, Some, None, refl, sym, ap, subst, ◌∙◌, append_assoc, arith}
-use Rattle.std.proofs.lemmas.List.{length-append, length-drop}
+use Rattle.std.proofs.Common.{◌≡◌, ℕ, zero, suc, ◌-◌, ◌≤◌, ◌<◌, List, [], ◌∷◌, ◌++◌, length, take, drop, Option, Some, None, refl, sym, ap, subst, ◌∙◌, append_assoc, arith}
 use Rattle.afs_num.specs.declared.vnodes.Vnode as image
 use Rattle.afs_xdr.specs.Words.{word_at}
 use Rattle.afs_ideal.specs.DirectoryLaws.{IsBytes}
@@ -13,16 +12,18 @@ use Rattle.afs_dumps.specs.Streams.{dump_at, dump_header_field, ended}
 use Rattle.afs_dumps.proofs.Feeding.{readers_read_on}
 use Rattle.afs_dumps.proofs.Streams.{refused_stays}
 use Rattle.afs_restore.specs.Parts.{dump_in, AreSame, IsAtFirst, IsNoted, Keeps}
-use Rattle.afs_restore.specs.ReadOn.{bytes_before, bytes_read, IsFed, IsFedSoFar, Reaches, Stands, Waits}
+use Rattle.afs_restore.specs.ReadOn.{bytes_before, bytes_read, left_of, IsFed, IsFedSoFar, Reaches, ReadsOn, Stands, Waits}
 use Rattle.afs_restore.specs.Reading.{headers_told, words_in}
 use Rattle.afs_restore.specs.Steps.{past_pairs, stage_of, stepped_past, IsStep}
 use Rattle.afs_restore.specs.declared.headers.Headers as read
 use Rattle.afs_restore.specs.declared.parts.Noted.{Noted}
 use Rattle.afs_restore.specs.declared.parts.Parts.{Parts}
+use Rattle.afs_restore.specs.declared.reading.Read.{Read}
+use Rattle.afs_restore.specs.declared.reading.Read.TheVariants as reads
 use Rattle.afs_restore.specs.declared.steps.Step.{Step}
 use Rattle.afs_restore.specs.declared.steps.Step.TheVariants as steps
-use Rattle.afs_restore.proofs.Fronts.{front_place, past_is, same_bytes, IsFront}
-use Rattle.afs_restore.proofs.Lists.{bytes_with, no_bytes, still_first}
+use Rattle.afs_restore.proofs.Fronts.{past_is}
+use Rattle.afs_restore.proofs.Lists.{no_bytes, still_first}
 
 -- ---- what came so far
 
@@ -223,6 +224,11 @@ reaches from step before after bytes rest left many within place may same readin
     reading = subst (λ (t : List ℕ). IsReading (bytes_read step after t) (stage_of step after) t) place (subst (λ (t : List ℕ). IsReading t (stage_of step after) rest) (sym same) reading);
   };
 }
+
+-- what is left lies within what was read
+pub left_within : (from : Step) (before after : Parts) (bytes : List ℕ) (read : Read) → ReadsOn from before bytes after read → left_of read ≤ length bytes
+left_within from before after bytes (reads.Waits step left short) on = on.0.within
+left_within from before after bytes (reads.Refused step left short) on = on.0.within
 
 -- ---- at the end
 

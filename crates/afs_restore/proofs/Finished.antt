@@ -1,6 +1,6 @@
 -- What a restorer makes of a volume.
 use Rattle.std.proofs.Common.{◌≡◌, ℕ, ◌-◌, List, [], length, Option, Some, None, refl, sym, ap, subst, ◌∙◌}
-use Rattle.std.specs.Prelude.{Result, Ok, Err}
+use Rattle.std.specs.Prelude.{Result, Err}
 use Rattle.afs_records.specs.Durable.{Stored}
 use Rattle.afs_dumps.specs.Dumps.{Dump}
 use Rattle.afs_dumps.specs.Fields.{Taken, took, cut_at, bad_at}
@@ -9,7 +9,6 @@ use Rattle.afs_dumps.specs.Streams.{dump_at, ended, FitsDump}
 use Rattle.afs_dumps.proofs.Streams.{dump_spelled}
 use Rattle.afs_restore.specs.Parts.{dump_in}
 use Rattle.afs_restore.specs.ReadOn.{bytes_read, IsFed, IsFedSoFar, Waits}
-use Rattle.afs_restore.specs.Steps.{stage_of}
 use Rattle.afs_restore.specs.declared.faults.DumpFault.{DumpFault}
 use Rattle.afs_restore.specs.declared.faults.DumpFault.TheVariants.{Bad}
 use Rattle.afs_restore.specs.declared.parts.Parts.{Parts}

@@ -1,12 +1,10 @@
 -- The images of a dump stand in the order of its list, and are good.
 use Rattle.std.proofs.Common.{◌≡◌, ℕ, zero, suc, ◌+◌, ◌<◌, ◌≤◌, Bool, true, false, cond, List, [], ◌∷◌, length, map, Option, Some, None, nat_eq, refl, sym, ap, subst, ◌∙◌, arith}
-use Rattle.std.specs.Prelude.{not, nat_lt}
 use Rattle.std.proofs.lemmas.Bool.{eqb-true}
 use Rattle.std.proofs.lemmas.Bool.Decides.{nat_tests}
 use Rattle.afs_ideal.specs.Images.{Image}
 use Rattle.afs_ideal.specs.Tables.{AscendsFrom}
 use Rattle.afs_ideal.specs.VnodeImage.{kind_fits}
-use Rattle.afs_ideal.specs.VnodeMaps.{most_vnodes}
 use Rattle.afs_dumps.specs.Dumps.{Dump}
 use Rattle.afs_dumps.specs.Restores.{image_in}
 use Rattle.afs_dumps.specs.Streams.{dump_field, image_field, live_field, FitImages, FitPairs, FitsDump, FitsEither}

@@ -1,10 +1,9 @@
 -- Vnodes that are made pair by pair stand in the order of the list, and can be read.
-use Rattle.std.proofs.Common.{◌≡◌, ℕ, suc, ◌+◌, ◌≤◌, Bool, true, false, List, [], ◌∷◌, ◌++◌, length, Option, Some, None, is_some, refl, sym, ap, subst, ◌∙◌, arith}
+use Rattle.std.proofs.Common.{◌≡◌, ℕ, suc, ◌+◌, ◌≤◌, Bool, true, false, List, [], ◌∷◌, ◌++◌, length, Option, Some, refl, sym, ap, subst}
 use Rattle.afs_ideal.specs.Images.{Image}
 use Rattle.afs_ideal.specs.Tables.{AscendsFrom}
 use Rattle.afs_ideal.specs.VnodeMaps.{AllFit}
 use Rattle.afs_vnode.specs.Stores.{table_of}
-use Rattle.afs_volume.specs.Seen.{IsReadable}
 use Rattle.afs_volume.proofs.Readable.{AllReadable}
 use Rattle.afs_restore.specs.Filling.{image_indexed, AreMade, IsGiven, IsMade}
 

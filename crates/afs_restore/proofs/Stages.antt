@@ -1,10 +1,10 @@
 -- A field that was read brings the reader to the next stage; one that is cut, or no good, stops it there.
-use Rattle.std.proofs.Common.{◌≡◌, ℕ, zero, suc, ◌+◌, ◌-◌, ◌<◌, true, false, List, [], ◌∷◌, ◌++◌, drop, slice_get, Option, Some, None, nat_eq, refl, sym, ap, subst, ◌∙◌, append-nil, arith}
+use Rattle.std.proofs.Common.{◌≡◌, ℕ, zero, suc, ◌+◌, ◌-◌, ◌<◌, List, [], ◌∷◌, ◌++◌, drop, slice_get, Option, Some, None, refl, sym, ap, subst, ◌∙◌, append-nil, arith}
 use Rattle.std.specs.Prelude.{Err}
 use Rattle.std.proofs.lemmas.List.{drop-drop}
 use Rattle.afs_xdr.specs.Reading.{Reading}
 use Rattle.afs_ideal.specs.Images.{Image}
-use Rattle.afs_dumps.specs.Feeding.{Stage, at_count, at_pair, at_image, at_contents, at_magic, at_end, after_words, begun, stepped, with_next, words_at}
+use Rattle.afs_dumps.specs.Feeding.{Stage, at_count, at_pair, at_image, at_contents, at_magic, at_end, after_words, stepped, with_next, words_at}
 use Rattle.afs_dumps.specs.Fields.{Taken, took, cut_at, bad_at, ◌>>=◌, mark}
 use Rattle.afs_dumps.specs.Streams.{acl_field, contents_field, count_field, end_magic, headers_field, image_made, image_words_field, next_at, pair_field, ImageWords}
 use Rattle.afs_restore.specs.Parts.{dump_in, IsAtFirst}
@@ -12,7 +12,6 @@ use Rattle.afs_restore.specs.Reading.{headers_told, words_in, ReadsField}
 use Rattle.afs_restore.specs.Steps.{begun_in, past_pairs, pairs_step, stage_of, stepped_past, IsPlaceOf, IsStep}
 use Rattle.afs_restore.specs.declared.headers.Headers as read
 use Rattle.afs_restore.specs.declared.parts.Parts.{Parts}
-use Rattle.afs_restore.specs.declared.steps.Step.{Step}
 use Rattle.afs_restore.specs.declared.steps.Step.TheVariants as steps
 use Rattle.afs_restore.specs.declared.stops.Stop.{Stop}
 use Rattle.afs_restore.specs.declared.stops.Stop.TheVariants as stops

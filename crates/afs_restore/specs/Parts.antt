@@ -1,5 +1,5 @@
 -- What a reader of a dump keeps of what it read.
-use Rattle.std.specs.Prelude.{◌≡◌, ℕ, List, [], length, take}
+use Rattle.std.specs.Prelude.{◌≡◌, [], length, take}
 use Rattle.afs_dumps.specs.Dumps.{Dump}
 use Rattle.afs_restore.specs.Reading.{headers_told}
 use Rattle.afs_restore.specs.declared.parts.Noted.{Noted}

@@ -63,6 +63,15 @@ pub record Reaches (from : Step) (before : Parts) (bytes : List ℕ) (step : Ste
   pub same : bytes_read step after (drop (length bytes - left) bytes) ≡ bytes_read from before bytes
   pub stands : Stands step after (drop (length bytes - left) bytes)
 
+-- so many of the bytes are pending then
+abbrev pub left_of : Read → ℕ
+left_of (reads.Waits step left short) = left
+left_of (reads.Refused step left short) = left
+
+-- the bytes that are
+abbrev pub pending_of : Read → List ℕ → List ℕ
+pending_of read bytes = drop (length bytes - left_of read) bytes
+
 abbrev pub ReadsOn : Step → Parts → List ℕ → Parts → Read → Type 0
 ReadsOn from before bytes after (reads.Waits step left short) =
     Reaches from before bytes step after left × Waits step (bytes_read from before bytes) (drop (length bytes - left) bytes) short

@@ -1,5 +1,5 @@
 -- A stream that is read as its bytes come: at which stage its reader is, and what a step makes of the bytes.
-use Rattle.std.specs.Prelude.{◌≡◌, ◌≤◌, ◌<◌, ℕ, zero, suc, List, [], drop, length, slice_get, Option, Some, None, Result, Ok, Err, nat_eq, false, true}
+use Rattle.std.specs.Prelude.{◌≡◌, ◌≤◌, ◌<◌, ℕ, zero, suc, List, [], drop, length, slice_get, Option, Some, None, Result, Err, nat_eq, false, true}
 use Rattle.afs_dumps.specs.Feeding.{Begun, Stage, at_headers, at_count, at_pair, at_image, at_acl, at_contents, at_magic, at_end, begun, stepped}
 use Rattle.afs_dumps.specs.Fields.{Taken, took, ◌>>=◌}
 use Rattle.afs_restore.specs.Parts.{dump_in, IsAtFirst}

@@ -1,8 +1,8 @@
 //! Bytes are read on as far as they go.
 
-ghost use Rattle.std.specs.Prelude.{◌≡◌, IfOk, OnErr};
+ghost use Rattle.std.specs.Prelude.{◌≡◌, ◌++◌, ◌-◌, ◌≤◌, drop, length, IfOk, OnErr};
 ghost use Rattle.afs_restore.specs.Parts.{AreSame, Keeps};
-ghost use Rattle.afs_restore.specs.ReadOn.{ReadsOn, Stands};
+ghost use Rattle.afs_restore.specs.ReadOn.{left_of, pending_of, ReadsOn, Stands};
 
 use crate::fields::are_bytes;
 use crate::parts::Parts;
@@ -47,8 +47,18 @@ fn read_on(alloc: Global, bytes: &[u8], parts: &mut Parts, from: Step) -> Mem<Re
     Ok(Read::Waits(step, 0, 0))
 }
 
+/// How many bytes are left from where the step comes next.
+fn left_of(read: Read) -> usize
+    ensures { result ≡ left_of read }
+{
+    match read {
+        Read::Waits(_, left, _) => left,
+        Read::Refused(_, left, _) => left,
+    }
+}
+
 /// Reads on as far as the bytes go. Running out of memory leaves what was read as it was.
-pub fn read_or_go_back(alloc: Global, bytes: &[u8], parts: &mut Parts, from: Step) -> Mem<Read>
+fn read_or_go_back(alloc: Global, bytes: &[u8], parts: &mut Parts, from: Step) -> Mem<Read>
     requires { Stands from parts.old bytes.now }
     ensures read { IfOk result (ReadsOn from parts.old bytes.now parts.new) }
     ensures same { OnErr result (AreSame parts.old parts.new) }
@@ -60,5 +70,115 @@ pub fn read_or_go_back(alloc: Global, bytes: &[u8], parts: &mut Parts, from: Ste
             parts.go_back(noted);
             Err(fault)
         }
+    }
+}
+
+/// Takes all bytes away but so many at the end. Where none is left, their room is given back.
+fn keep_last(alloc: Global, bytes: &mut Vec<u8>, left: usize)
+    requires { left ≤ length bytes.old.items }
+    ensures { bytes.new.items ≡ drop (length bytes.old.items - left) bytes.old.items }
+{
+    if left == 0 {
+        *bytes = Vec::new(alloc);
+    } else {
+        let count = bytes.len() - left;
+        bytes.drain(..count);
+    }
+}
+
+/// Reads on with a piece behind the bytes that are pending.
+fn read_behind(
+    alloc: Global,
+    pending: &mut Vec<u8>,
+    piece: &[u8],
+    parts: &mut Parts,
+    from: Step,
+) -> Mem<Read>
+    requires { Stands from parts.old (pending.old.items ++ piece.now) }
+    ensures read { IfOk result (ReadsOn from parts.old (pending.old.items ++ piece.now) parts.new) }
+    ensures pending { IfOk result (λ read. pending.new.items ≡ pending_of read (pending.old.items ++ piece.now)) }
+    ensures same { OnErr result (AreSame parts.old parts.new) }
+    ensures stays { OnErr result (pending.new.items ≡ pending.old.items) }
+{
+    let before = pending.len();
+    pending.extend_from_slice(piece)?;
+    match read_or_go_back(alloc, pending.as_slice(), parts, from) {
+        Ok(read) => {
+            keep_last(alloc, pending, left_of(read));
+            Ok(read)
+        }
+        Err(fault) => {
+            pending.truncate(before);
+            Err(fault)
+        }
+    }
+}
+
+/// The last of these bytes, so many, in memory of their own.
+fn last(alloc: Global, bytes: &[u8], left: usize) -> Mem<Vec<u8>>
+    requires { left ≤ length bytes.now }
+    ensures { IfOk result (λ rest. rest.items ≡ drop (length bytes.now - left) bytes.now) }
+{
+    let (_, rest) = bytes.split_at(bytes.len() - left);
+    Ok(Vec::from_slice(alloc, rest)?)
+}
+
+/// Reads on as far as the bytes go, and copies what is left.
+fn read_and_keep(alloc: Global, bytes: &[u8], parts: &mut Parts, from: Step) -> Mem<(Read, Vec<u8>)>
+    requires { Stands from parts.old bytes.now }
+    ensures read { IfOk result (λ r. ReadsOn from parts.old bytes.now parts.new r.0) }
+    ensures pending { IfOk result (λ r. r.1.items ≡ pending_of r.0 bytes.now) }
+    ensures kept { Keeps parts.old parts.new }
+{
+    let read = read_on(alloc, bytes, parts, from)?;
+    let rest = last(alloc, bytes, left_of(read))?;
+    Ok((read, rest))
+}
+
+/// Reads on with a piece where nothing is pending. The piece is read where it lies, and what waits of it is copied.
+fn read_alone(
+    alloc: Global,
+    pending: &mut Vec<u8>,
+    piece: &[u8],
+    parts: &mut Parts,
+    from: Step,
+) -> Mem<Read>
+    requires { Stands from parts.old piece.now }
+    ensures read { IfOk result (ReadsOn from parts.old piece.now parts.new) }
+    ensures pending { IfOk result (λ read. pending.new.items ≡ pending_of read piece.now) }
+    ensures same { OnErr result (AreSame parts.old parts.new) }
+    ensures stays { OnErr result (pending.new.items ≡ pending.old.items) }
+{
+    let noted = parts.noted(alloc)?;
+    match read_and_keep(alloc, piece, parts, from) {
+        Ok((read, rest)) => {
+            *pending = rest;
+            Ok(read)
+        }
+        Err(fault) => {
+            parts.go_back(noted);
+            Err(fault)
+        }
+    }
+}
+
+/// Reads on with a piece more, and keeps what is pending then. Running out of memory leaves all as it was.
+pub fn read_more(
+    alloc: Global,
+    pending: &mut Vec<u8>,
+    piece: &[u8],
+    parts: &mut Parts,
+    from: Step,
+) -> Mem<Read>
+    requires { Stands from parts.old (pending.old.items ++ piece.now) }
+    ensures read { IfOk result (ReadsOn from parts.old (pending.old.items ++ piece.now) parts.new) }
+    ensures pending { IfOk result (λ read. pending.new.items ≡ pending_of read (pending.old.items ++ piece.now)) }
+    ensures same { OnErr result (AreSame parts.old parts.new) }
+    ensures stays { OnErr result (pending.new.items ≡ pending.old.items) }
+{
+    if pending.is_empty() {
+        read_alone(alloc, pending, piece, parts, from)
+    } else {
+        read_behind(alloc, pending, piece, parts, from)
     }
 }

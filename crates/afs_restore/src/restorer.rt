@@ -1,6 +1,6 @@
 //! A dump that comes in pieces.
 
-ghost use Rattle.std.specs.Prelude.{◌≡◌, ◌++◌, ◌-◌, ◌≤◌, ℕ, [], drop, length, Err, IfOk, None, Ok, OnOk, Some};
+ghost use Rattle.std.specs.Prelude.{◌≡◌, ◌++◌, ℕ, [], Err, IfOk, None, Ok, OnOk, Some};
 ghost use Rattle.afs_dumps.specs.Restores.{fed, finished};
 ghost use Rattle.afs_volume.specs.Taking.{stored_of};
 ghost use Rattle.afs_restore.specs.declared.faults.DumpFault.TheVariants.{Bad, OutOfMemory};
@@ -8,7 +8,7 @@ ghost use Rattle.afs_restore.specs.declared.faults.DumpFault.TheVariants.{Bad, O
 use crate::faults::DumpFault;
 use crate::fields::are_bytes;
 use crate::parts::Parts;
-use crate::reading::{Read, read_or_go_back};
+use crate::reading::{Read, read_more};
 use crate::restoring::made;
 use crate::steps::Step;
 use afs_volume::Volume;
@@ -43,19 +43,6 @@ impl Model for Restorer {
     ghost invariant = { λ r. IsFed r.step r.parts r.pending.items r.length r.short r.refused };
 }
 
-/// Takes all bytes away but so many at the end. Where none is left, their room is given back.
-fn keep_last(alloc: Global, bytes: &mut Vec<u8>, left: usize)
-    requires { left ≤ length bytes.old.items }
-    ensures { bytes.new.items ≡ drop (length bytes.old.items - left) bytes.old.items }
-{
-    if left == 0 {
-        *bytes = Vec::new(alloc);
-    } else {
-        let count = bytes.len() - left;
-        bytes.drain(..count);
-    }
-}
-
 impl Restorer {
     /// Nothing came yet. It takes no memory.
     pub fn new(alloc: Global) -> Restorer
@@ -86,28 +73,21 @@ impl Restorer {
             return Err(DumpFault::OutOfMemory);
         };
         are_bytes(piece);
-        let before = self.pending.len();
-        self.pending.extend_from_slice(piece)?;
-        match read_or_go_back(alloc, self.pending.as_slice(), &mut self.parts, self.step) {
-            Ok(Read::Waits(step, left, short)) => {
+        match read_more(alloc, &mut self.pending, piece, &mut self.parts, self.step) {
+            Ok(Read::Waits(step, _left, short)) => {
                 self.step = step;
                 self.length = length;
                 self.short = short;
-                keep_last(alloc, &mut self.pending, left);
                 Ok(())
             }
-            Ok(Read::Refused(step, left, short)) => {
+            Ok(Read::Refused(step, _left, short)) => {
                 let offset = length.saturating_sub(short as u64);
                 self.step = step;
                 self.length = length;
                 self.refused = Some(offset);
-                keep_last(alloc, &mut self.pending, left);
                 Err(DumpFault::Bad(offset))
             }
-            Err(_) => {
-                self.pending.truncate(before);
-                Err(DumpFault::OutOfMemory)
-            }
+            Err(_) => Err(DumpFault::OutOfMemory),
         }
     }
 

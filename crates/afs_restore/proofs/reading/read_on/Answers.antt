@@ -1,4 +1,4 @@
-use Rattle.std.proofs.Common.{◌≡◌, ℕ, ◌-◌, List, length, drop, Some, ap, subst, sym, ◌∙◌, rules, arith}
+use Rattle.std.proofs.Common.{◌≡◌, ℕ, ◌-◌, length, drop, subst, sym, ◌∙◌, rules, arith}
 use Rattle.std.specs.Prelude.{Err}
 use Rattle.afs_dumps.specs.Fields.{took}
 use Rattle.afs_dumps.specs.Laws.{IsReading}

@@ -1,4 +1,4 @@
-use Rattle.std.proofs.Common.{◌≡◌, ℕ, Option, Some, None, refl, ap, ◌∙◌, drop}
+use Rattle.std.proofs.Common.{ℕ, Option, refl, ap, ◌∙◌, drop}
 use Rattle.afs_dumps.specs.Fields.{took}
 use Rattle.afs_dumps.specs.Streams.{next_at}
 use Rattle.afs_restore.specs.Steps.{stage_of}

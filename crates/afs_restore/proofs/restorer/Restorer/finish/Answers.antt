@@ -1,6 +1,5 @@
-use Rattle.std.proofs.Common.{◌≡◌, ℕ, ◌∙◌, ◌-◌, None, ap, subst, sym, rules}
-use Rattle.std.specs.Prelude.{Err, Ok, Some}
-use Rattle.afs_dumps.specs.Restores.{finished}
+use Rattle.std.proofs.Common.{◌≡◌, ℕ, ◌∙◌, None, ap, subst, sym, rules}
+use Rattle.std.specs.Prelude.{Err, Some}
 use Rattle.afs_volume.specs.Taking.{stored_of}
 use Rattle.afs_volume.specs.declared.faults.AssembleFault.{AssembleFault}
 use Rattle.afs_restore.specs.Parts.{dump_in}
