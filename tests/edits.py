@@ -103,7 +103,7 @@ def places():
         yield path, os.path.dirname(os.path.dirname(path))
     for path in sorted(glob.glob(f"{ROOT}/tests/wrong_programs/*/*.edit")):
         yield path, f"{ROOT}/crates/{os.path.basename(os.path.dirname(path))}"
-    for kind, folder in (("disks", "crates"), ("law", "crates"), ("operations", "crates/afs_ideal"), ("dumps", "crates/afs_dumps"), ("fold", "crates/afs_fold"), ("volrows", "crates/afs_volrows"), ("adminrows", "crates/afs_adminrows"), ("copyrows", "crates/afs_copyrows"), ("walks", "crates/afs_walks"), ("moves", "crates/afs_moves"), ("stamps", "crates/afs_stamps"), ("keys", "crates/afs_keys"), ("holds", "crates/afs_holds"), ("surveys", "crates/afs_surveys"), ("claims", "crates/afs_claims")):
+    for kind, folder in (("disks", "crates"), ("law", "crates"), ("operations", "crates/afs_ideal"), ("dumps", "crates/afs_dumps"), ("fold", "crates/afs_fold"), ("volrows", "crates/afs_volrows"), ("adminrows", "crates/afs_adminrows"), ("copyrows", "crates/afs_copyrows"), ("walks", "crates/afs_walks"), ("moves", "crates/afs_moves"), ("stamps", "crates/afs_stamps"), ("keys", "crates/afs_keys"), ("holds", "crates/afs_holds"), ("courses", "crates/afs_courses"), ("grips", "crates/afs_grips"), ("surveys", "crates/afs_surveys"), ("claims", "crates/afs_claims"), ("families", "crates/afs_families"), ("numbers", "crates/afs_numbers"), ("fences", "crates/afs_fences"), ("brought", "crates/afs_brought"), ("closed", "crates/afs_closed")):
         for path in sorted(glob.glob(f"{ROOT}/tests/wrong_{kind}/*.edit")):
             yield path, f"{ROOT}/{folder}"
 

@@ -5,8 +5,8 @@
 # crate afs_dumps in the same way, by tests/wrong_dumps; WRONG=fold and WRONG=volrows try the records and the rows of a volume server
 # (crates afs_fold and afs_volrows), by tests/wrong_fold and tests/wrong_volrows; WRONG=adminrows tries the acts of administrators (crate
 # afs_adminrows) by tests/wrong_adminrows, and WRONG=copyrows clients of read-only volumes (crate afs_copyrows) by tests/wrong_copyrows.
-# WRONG=walks, moves, stamps, keys, holds, surveys, claims and answers try laws on runs with administrators (crates afs_walks,
-# afs_moves, afs_stamps, afs_keys, afs_holds, afs_surveys, afs_claims and afs_answers), by tests/wrong_walks and so on.
+# WRONG=walks, moves, stamps, keys, holds, courses, grips, surveys, claims, families, numbers, fences, brought, closed and answers try laws on runs with
+# administrators: each those of the crate of that name (walks those of afs_walks), by tests/wrong_walks and so on.
 # Run it when the definitions or the rows have changed. It takes some 15 s an edit, so it is no part of the gate. With NAMEs it
 # tries these alone. All is done in a copy: the repository stays as it is.
 #
@@ -35,7 +35,14 @@ case ${WRONG:-operations} in
     surveys) changed_crate=afs_surveys edits=tests/wrong_surveys law=surveys_are_stored ;;
     answers) changed_crate=afs_answers edits=tests/wrong_answers law=answers_have_causes ;;
     claims) changed_crate=afs_claims edits=tests/wrong_claims law=transactions_are_asked_for ;;
-    *) echo 'WRONG is operations, dumps, fold, volrows, adminrows, copyrows, walks, moves, stamps, keys, holds, surveys, claims or answers'; exit 1 ;;
+    courses) changed_crate=afs_courses edits=tests/wrong_courses law=calls_are_on_course ;;
+    grips) changed_crate=afs_grips edits=tests/wrong_grips law=grips_are_drawn ;;
+    families) changed_crate=afs_families edits=tests/wrong_families law=transactions_are_of_families ;;
+    numbers) changed_crate=afs_numbers edits=tests/wrong_numbers law=numbers_are_apart ;;
+    fences) changed_crate=afs_fences edits=tests/wrong_fences law=claims_are_true ;;
+    brought) changed_crate=afs_brought edits=tests/wrong_brought law=stamps_are_brought ;;
+    closed) changed_crate=afs_closed edits=tests/wrong_closed law=a_volume_accepts_at_one_server ;;
+    *) echo 'WRONG is operations, dumps, fold, volrows, adminrows, copyrows, walks, moves, stamps, keys, holds, courses, grips, surveys, claims, families, numbers, fences, brought, closed or answers'; exit 1 ;;
 esac
 
 work=$(mktemp -d)

@@ -11,7 +11,6 @@ use Rattle.afs_disk.specs.declared.bank.LendFault.{LendFault}
 use Rattle.afs_disk.specs.declared.bank.LendFault.TheVariants as lending
 use Rattle.afs_disk.specs.declared.bank.Place.{Place}
 use Rattle.afs_disk.specs.declared.disks.Lent.{Lent}
-use Rattle.afs_law.specs.Cells.{IsOfCell}
 use Rattle.afs_outside.specs.Outside.{AppendsFront}
 use Rattle.afs_records.specs.Durable.{Durable}
 use Rattle.afs_records.specs.LocDurable.{LocDurable}
@@ -39,12 +38,12 @@ use Rattle.afs_command.specs.Spans.{span, IsUnchanged, RoseBy, Span}
 use Rattle.afs_lending.specs.Outside.{DidNotRise, Outside, SoManyFailed, Writes, WritesAll, WritesText, WritesWhole}
 use Rattle.afs_cell.specs.Refusing.{set_up_status}
 use Rattle.afs_lending.specs.Parts.{lend_status, returned, TellsLeft}
-use Rattle.afs_cell.specs.Replays.{lends_of, no_other, one_other, AreAllBut, AreOfNodes, AtBankFault, EndsReplay, EndsRun, GivesBack, GivesBackLent, GivesBackThose, HasDisk, IsFew, IsFull, IsLegalRun, IsServerOf, LendingFails, LendingLeaves, MissedByTheBank, NoneIsMissing, NotToItsEnd, ReadingFails, Replays, ReplaysFirst, ReplaysSome, ReplaysUnread, SettingUpFails, SettingUpStops, SetUpLeaves, SomeOfIt, ToItsEnd, WritesEntries, WritesRun}
+use Rattle.afs_cell.specs.Replays.{lends_of, no_other, one_other, AreAllBut, AreOfNodes, AtBankFault, EndsReplay, EndsRun, GivesBack, GivesBackLent, GivesBackThose, HasDisk, IsFew, IsFull, IsRun, IsServerOf, LendingFails, LendingLeaves, MissedByTheBank, NoneIsMissing, NotToItsEnd, ReadingFails, Replays, ReplaysFirst, ReplaysSome, ReplaysUnread, SettingUpFails, SettingUpStops, SetUpLeaves, SomeOfIt, ToItsEnd, WritesEntries, WritesRun}
 use Rattle.afs_command.specs.declared.statuses.Status.{Status}
 use Rattle.afs_command.specs.declared.statuses.Status.TheVariants as statuses
 use Rattle.afs_cell.proofs.Bare.{bare_history, told_length}
 use Rattle.afs_cell.proofs.LentCounts.{all_but_one, all_counted, counts_lent, failed_among, failed_at, none_of, none_rose, one_disk_failed, one_rose, rose_at, rose_once, AreCounted, IsAmong, OneFailed}
-use Rattle.afs_cell.proofs.RunEnds.{found_come, found_count, given_so, left_so, legal_run, length_told, lent_come, lent_length, no_others, read_so, Missing, RunLaws}
+use Rattle.afs_cell.proofs.RunEnds.{found_come, found_count, given_so, is_run, left_so, length_told, lent_come, lent_length, no_others, read_so, Missing}
 
 -- ---- the disks go back
 
@@ -74,8 +73,6 @@ rose_by {D} seen faults own s disks o goes all are i has =
 
 -- what is known of it
 pub record HasEnded {D : Type 0} (seen : D → Option (List ℕ)) (may_leave : D → List ℕ → Type 0) (faults limit : D → ℕ) (s : Script) (w : WorldState D) : Type 0 where
-  pub law : RunLaws
-  pub in_cell : IsOfCell s
   pub world : IsWorld seen may_leave faults limit s w
   pub going : w.is_lost ≡ false
   pub standing : AllTell seen w → (c : NodeCell) → IsCell seen may_leave limit w c → AreStanding seen limit c (disks_of w)
@@ -156,7 +153,7 @@ replays {D} seen may_leave faults limit s w fs wire Writes MayBeMissing o is fou
     record {
       history = p.1.runs.history;
       end = p.1.cell;
-      run = legal_run seen may_leave faults limit is.law (ToItsEnd s) no_other s w o.disk_faults is.in_cell is.world.safe.entries p.1 (found_rose seen may_leave faults limit s w p.1.inputs p.1.cell fs o is.world p.1.runs found back);
+      run = is_run seen may_leave faults limit (ToItsEnd s) no_other s w o.disk_faults is.world.safe.entries p.1 (found_rose seen may_leave faults limit s w p.1.inputs p.1.cell fs o is.world p.1.runs found back);
       kept = map part fs;
       keep = so.keep;
       loc = so.loc;
@@ -181,7 +178,7 @@ reading_fails {D} seen may_leave faults limit s w fs wire o is found failed writ
       told = λ p. record {
         history = p.1.runs.history;
         end = p.1.cell;
-        run = legal_run seen may_leave faults limit is.law (ToItsEnd s) (one_other (failed_at 1 fs)) s w o.disk_faults is.in_cell is.world.safe.entries p.1
+        run = is_run seen may_leave faults limit (ToItsEnd s) (one_other (failed_at 1 fs)) s w o.disk_faults is.world.safe.entries p.1
             (rose_by seen faults (λ (j : ℕ). own_falls j p.1.inputs (told w.wire w.history) + one_other (failed_at 1 fs) j) s (all_kept (loc_seat_disk w.database) fs) o back count
             (all_but_one seen faults limit (λ (j : ℕ). own_falls j p.1.inputs (told w.wire w.history)) (loc_seat_disk w.database) (lent_from 1 w.servers) fs found failed (counts_lent faults (λ (j : ℕ). own_falls j p.1.inputs (told w.wire w.history)) w p.1.runs.counts)));
         written = written_told seen may_leave faults limit s w wire o p.1.inputs p.1.cell is.world p.1.runs written;
@@ -197,7 +194,7 @@ reading_stops {D} seen may_leave faults limit s w fs wire o is found written bac
     record {
       history = p.1.runs.history;
       end = p.1.cell;
-      run = legal_run seen may_leave faults limit is.law (SomeOfIt s) no_other s w o.disk_faults is.in_cell is.world.safe.entries some (found_rose seen may_leave faults limit s w p.1.inputs p.1.cell fs o is.world p.1.runs found back);
+      run = is_run seen may_leave faults limit (SomeOfIt s) no_other s w o.disk_faults is.world.safe.entries some (found_rose seen may_leave faults limit s w p.1.inputs p.1.cell fs o is.world p.1.runs found back);
       written = written_told seen may_leave faults limit s w wire o p.1.inputs p.1.cell is.world p.1.runs written;
       given = found_come (MissedByTheBank o) seen faults limit s.servers w fs o.given.before o.given.after is.world.safe.server_count p.0 found (missed seen faults (all_kept (loc_seat_disk w.database) fs) o back);
     }
@@ -233,20 +230,14 @@ ended {D} seen may_leave faults limit s w fs wire o written statuses.Limit taken
 
 -- ---- memory ran out in the run, or for the disks
 
--- what is known of a world whose run is no more than begun, and may be lost
-pub record HasStopped {D : Type 0} (seen : D → Option (List ℕ)) (may_leave : D → List ℕ → Type 0) (faults limit : D → ℕ) (s : Script) (w : WorldState D) : Type 0 where
-  pub law : RunLaws
-  pub in_cell : IsOfCell s
-  pub world : IsWorld seen may_leave faults limit s w
-
 pub stopped : {D : Type 0} (seen : D → Option (List ℕ)) (may_leave : D → List ℕ → Type 0) (faults limit : D → ℕ) (s : Script) (w : WorldState D) (wire : Bool) (o : Outside)
-    → HasStopped seen may_leave faults limit s w → Writes o (kept_history_text wire w.wire w.history) → GoesBack seen faults (disks_of w) o → Part seen may_leave faults limit s w → ReplaysSome s wire o
+    → IsWorld seen may_leave faults limit s w → Writes o (kept_history_text wire w.wire w.history) → GoesBack seen faults (disks_of w) o → Part seen may_leave faults limit s w → ReplaysSome s wire o
 stopped {D} seen may_leave faults limit s w wire o is written back p = record {
   history = p.1.runs.history;
   end = p.1.cell;
-  run = legal_run seen may_leave faults limit is.law (SomeOfIt s) no_other s w o.disk_faults is.in_cell is.world.safe.entries p.1 (lent_rose seen may_leave faults limit s w p.1.inputs p.1.cell o is.world p.1.runs back);
-  written = written_told seen may_leave faults limit s w wire o p.1.inputs p.1.cell is.world p.1.runs written;
-  given = lent_come (MissedByTheBank o) seen s.servers w o.given.before o.given.after is.world.safe.server_count p.0 (missed seen faults (disks_of w) o back);
+  run = is_run seen may_leave faults limit (SomeOfIt s) no_other s w o.disk_faults is.safe.entries p.1 (lent_rose seen may_leave faults limit s w p.1.inputs p.1.cell o is p.1.runs back);
+  written = written_told seen may_leave faults limit s w wire o p.1.inputs p.1.cell is p.1.runs written;
+  given = lent_come (MissedByTheBank o) seen s.servers w o.given.before o.given.after is.safe.server_count p.0 (missed seen faults (disks_of w) o back);
 }
 
 -- all was played by then
@@ -265,7 +256,7 @@ was_cut {D} seen may_leave faults limit s w wire o is full written back = record
       record {
         history = p.1.0.runs.history;
         end = p.1.0.cell;
-        run = legal_run seen may_leave faults limit is.law (NotToItsEnd s) no_other s w o.disk_faults is.in_cell is.world.safe.entries p.1.0 (lent_rose seen may_leave faults limit s w p.1.0.inputs p.1.0.cell o is.world p.1.0.runs back);
+        run = is_run seen may_leave faults limit (NotToItsEnd s) no_other s w o.disk_faults is.world.safe.entries p.1.0 (lent_rose seen may_leave faults limit s w p.1.0.inputs p.1.0.cell o is.world p.1.0.runs back);
         full = sym (told_length p.1.0.runs.history (told w.wire w.history) p.1.0.runs.tells) ∙ (length_told w.wire w.history ∙ full);
         kept = left.0;
         keep = left.1.keep;
@@ -338,24 +329,12 @@ pub since_same : (o : Outside) → Since o o
 since_same o = record { sink = refl; passed = refl; given = refl; sink_faults = refl; disk_faults = λ n. refl; bank_faults = refl }
 
 -- so many failures were counted
-run_as : (s : Script) (IsSoFar : List CellInput → Type 0) (others : ℕ → ℕ) (history : List Entry) (end : NodeCell) (o earlier : Outside) → Since o earlier → IsLegalRun s IsSoFar others o.disk_faults history end → IsLegalRun s IsSoFar others earlier.disk_faults history end
+run_as : (s : Script) (IsSoFar : List CellInput → Type 0) (others : ℕ → ℕ) (history : List Entry) (end : NodeCell) (o earlier : Outside) → Since o earlier → IsRun s IsSoFar others o.disk_faults history end → IsRun s IsSoFar others earlier.disk_faults history end
 run_as s IsSoFar others history end o earlier since run = record {
   inputs = run.inputs;
   leads = run.leads;
   so_far = run.so_far;
   few = run.few;
-  accepted = run.accepted;
-  stand = run.stand;
-  locked = run.locked;
-  located = run.located;
-  senders = run.senders;
-  past = run.past;
-  surveyed = run.surveyed;
-  caused = run.caused;
-  legal = run.legal;
-  well = run.well;
-  idle = run.idle;
-  idle_well = run.idle_well;
   failures = λ i has. subst (λ (x : Span ℕ). RoseBy (own_falls i run.inputs history + others i) x) (sym (since.disk_faults i)) (run.failures i has);
 }
 

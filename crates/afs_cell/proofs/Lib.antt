@@ -41,9 +41,11 @@ pub mod Whole
 mod Since
 mod NextSince
 mod Bare
-pub mod RunEnds
-pub mod LentCounts
-pub mod Ended
+mod RunEnds
+mod LentCounts
+mod Ended
 mod Returned
 mod WrittenOn
 mod PlayedOn
+mod CountedOn
+mod SummedUp

@@ -6,7 +6,6 @@ use Rattle.afs_num.specs.declared.devices.Failed as bank
 use Rattle.afs_history.specs.declared.scripts.Script.{Script}
 use Rattle.afs_disk.specs.Disk.{Rose}
 use Rattle.afs_disk.specs.declared.disks.Lent.{Lent}
-use Rattle.afs_law.specs.Cells.{IsOfCell}
 use Rattle.afs_outside.specs.declared.outside.Failed.{Failed}
 use Rattle.afs_text.specs.FinalText.{final_text}
 use Rattle.afs_volstore.specs.Stores.{Store}
@@ -25,7 +24,7 @@ use Rattle.afs_cell.specs.Replays.{EndsRun, IsFew, WritesEntries}
 use Rattle.afs_command.specs.declared.statuses.Status.{Status}
 use Rattle.afs_command.specs.declared.statuses.Status.TheVariants as statuses
 use Rattle.afs_cell.proofs.Ended.{all_played, ended, entries_of, stopped, was_cut, GoesBack, HasEnded}
-use Rattle.afs_cell.proofs.RunEnds.{lent_length, RunLaws}
+use Rattle.afs_cell.proofs.RunEnds.{lent_length}
 
 -- ---- the disks that were read
 
@@ -46,16 +45,14 @@ pub record IsOver {D : Type 0} (seen : D → Option (List ℕ)) (may_leave : D �
   pub standing : StandsSince seen may_leave limit w disks
 
 pub has_ended : {D : Type 0} (seen : D → Option (List ℕ)) (may_leave : D → List ℕ → Type 0) (faults limit : D → ℕ) (wire : Bool) (start : Option (List ℕ)) (count : ℕ) (gone : HistoryTold) (w : WorldState D) (now : Option (List ℕ)) (counted : ℕ) (written : Result (Unit {0}) Failed) (disks : List (Lent D))
-    → RunLaws → IsOfCell w.script → w.is_lost ≡ false → IsWritten seen may_leave faults limit wire start count gone w now counted written → IsOver seen may_leave limit w disks → HasEnded seen may_leave faults limit w.script (whole gone w)
-has_ended {D} seen may_leave faults limit wire start count gone w now counted written disks law in_cell going told over = record {
-  law = law;
-  in_cell = in_cell;
+    → w.is_lost ≡ false → IsWritten seen may_leave faults limit wire start count gone w now counted written → IsOver seen may_leave limit w disks → HasEnded seen may_leave faults limit w.script (whole gone w)
+has_ended {D} seen may_leave faults limit wire start count gone w now counted written disks going told over = record {
   world = told.world;
   going = going;
   standing = λ tells c is. subst (λ (ls : List (Lent D)). AreStanding seen limit c ls) over.are (over.standing going gone told.is told.world.safe c is);
 }
 
-module _ {D : Type 0} (seen : D → Option (List ℕ)) (may_leave : D → List ℕ → Type 0) (faults limit : D → ℕ) (wire : Bool) (start : Option (List ℕ)) (count : ℕ) (gone : HistoryTold) (w : WorldState D) (now : Option (List ℕ)) (counted : ℕ) (written : Result (Unit {0}) Failed) (disks : List (Lent D)) (o : Outside) (law : RunLaws) (in_cell : IsOfCell w.script)
+module _ {D : Type 0} (seen : D → Option (List ℕ)) (may_leave : D → List ℕ → Type 0) (faults limit : D → ℕ) (wire : Bool) (start : Option (List ℕ)) (count : ℕ) (gone : HistoryTold) (w : WorldState D) (now : Option (List ℕ)) (counted : ℕ) (written : Result (Unit {0}) Failed) (disks : List (Lent D)) (o : Outside)
     (told : IsWritten seen may_leave faults limit wire start count gone w now counted written) where
   -- played to its end, and what the servers' disks keep was read
   pub end_of : (d : D) (fs : List (Left (Store D) D)) (status result : Status) (taken : Result (Unit {0}) bank.Failed) → w.is_lost ≡ false → IsOver seen may_leave limit w disks → d ≡ loc_seat_disk w.database → AreFound seen faults limit (lent_from 1 w.servers) fs
@@ -65,7 +62,7 @@ module _ {D : Type 0} (seen : D → Option (List ℕ)) (may_leave : D → List �
       → ((n : ℕ) → (o.disk_faults n).after ≡ with_faults faults (all_kept d fs) n (o.disk_faults n).before) → o.bank_faults.before ≤ o.bank_faults.after → result ≡ returned status taken
       → EndsRun w.script wire (AllTell seen w × HasPlayedAll seen may_leave faults limit w.script (whole gone w)) ⊥ o result
   end_of d fs status result taken going over same found tells all quiet cause goes counts never_falls are =
-      let is = has_ended seen may_leave faults limit wire start count gone w now counted written disks law in_cell going told over in
+      let is = has_ended seen may_leave faults limit wire start count gone w now counted written disks going told over in
       let back : GoesBack seen faults (all_kept (loc_seat_disk w.database) fs) o = subst (λ (x : D). GoesBack seen faults (all_kept x fs) o) same (record { back = goes; counts = counts; never_falls = never_falls }) in
       let all_here = subst (λ (x : D). OnOk taken (GivesBackBut seen 0 (all_kept x fs) o.given.before o.given.after)) same all in
       subst (λ (x : Status). EndsRun w.script wire (AllTell seen w × HasPlayedAll seen may_leave faults limit w.script (whole gone w)) ⊥ o x) (sym are) (ended seen may_leave faults limit w.script (whole gone w) fs wire o written status taken is found tells all_here quiet cause back)
@@ -86,16 +83,16 @@ module _ {D : Type 0} (seen : D → Option (List ℕ)) (may_leave : D → List �
     pub cut_of : w.is_lost ≡ false → w.gone.entries + length w.history ≡ most_entries → result ≡ statuses.Limit → EndsRun w.script wire (AllTell seen w × HasPlayedFirst seen may_leave faults limit w.script (whole gone w)) ⊥ o result
     cut_of going full are =
         subst (λ (x : Status). EndsRun w.script wire (AllTell seen w × HasPlayedFirst seen may_leave faults limit w.script (whole gone w)) ⊥ o x) (sym are)
-        (was_cut seen may_leave faults limit w.script (whole gone w) wire o (has_ended seen may_leave faults limit wire start count gone w now counted written disks law in_cell going told over) (full_by full) writes gone_back)
+        (was_cut seen may_leave faults limit w.script (whole gone w) wire o (has_ended seen may_leave faults limit wire start count gone w now counted written disks going told over) (full_by full) writes gone_back)
 
     -- memory ran out
     pub stopped_of : result ≡ statuses.OutOfMemory → EndsRun w.script wire (AllTell seen w × HasPlayedSome seen may_leave faults limit w.script (whole gone w)) ⊥ o result
     stopped_of are =
         subst (λ (x : Status). EndsRun w.script wire (AllTell seen w × HasPlayedSome seen may_leave faults limit w.script (whole gone w)) ⊥ o x) (sym are)
-        (inr (record { written = entries; told = λ p. stopped seen may_leave faults limit w.script (whole gone w) wire o (record { law = law; in_cell = in_cell; world = told.world }) writes gone_back p }))
+        (inr (record { written = entries; told = λ p. stopped seen may_leave faults limit w.script (whole gone w) wire o told.world writes gone_back p }))
 
     -- so it was for its disks
     pub unread_of : result ≡ statuses.OutOfMemory → EndsRun w.script wire (AllTell seen w × HasPlayedAll seen may_leave faults limit w.script (whole gone w)) ⊥ o result
     unread_of are =
         subst (λ (x : Status). EndsRun w.script wire (AllTell seen w × HasPlayedAll seen may_leave faults limit w.script (whole gone w)) ⊥ o x) (sym are)
-        (inr (record { written = entries; told = λ p. stopped seen may_leave faults limit w.script (whole gone w) wire o (record { law = law; in_cell = in_cell; world = told.world }) writes gone_back (all_played seen may_leave faults limit w.script (whole gone w) p) }))
+        (inr (record { written = entries; told = λ p. stopped seen may_leave faults limit w.script (whole gone w) wire o told.world writes gone_back (all_played seen may_leave faults limit w.script (whole gone w) p) }))

@@ -1,5 +1,5 @@
--- The end of a replay: its history is legal, what was read from the disks is what the history leaves, and so are the disks that were
--- given back.
+-- The end of a replay: its history is a run of the script, what was read from the disks is what the history leaves, and so are the disks
+-- that were given back.
 use Rattle.std.specs.Prelude.{◌≡◌, ◌≤◌, ◌⊎◌, ℕ, suc, ◌+◌, List, [], ◌∷◌, ◌++◌, drop, map, length, Option, Some, None, IsSome}
 use Rattle.std.proofs.Common.{refl, ap, sym, subst, ◌∙◌, inl, inr, append_assoc, arith}
 use Rattle.std.proofs.lemmas.List.{append-nil}
@@ -18,15 +18,6 @@ use Rattle.afs_volstore.specs.Stands.{Stands}
 use Rattle.afs_records.proofs.Forms.{some_is}
 use Rattle.afs_rows.specs.Runs.{Entry}
 use Rattle.afs_runs.specs.NodeRuns.{CellInput, NodeCell}
-use Rattle.afs_law.specs.Cells.{IsOfCell}
-use Rattle.afs_moves.proofs.Walk.{accepted_as_told, lines_stand_well}
-use Rattle.afs_stamps.proofs.ToldWalk.{entries_are_told}
-use Rattle.afs_walks.proofs.Senders.{senders_are_told}
-use Rattle.afs_surveys.proofs.OldCalls.{past_vain}
-use Rattle.afs_surveys.proofs.Surveying.{surveys_stored}
-use Rattle.afs_answers.proofs.Walk.{have_causes}
-use Rattle.afs_idle.proofs.Shut.{idle_ends, idle_legal}
-use Rattle.afs_runs.specs.PlainRuns.{NodeRunsAreLegal, NodeRunsEndWell}
 use Rattle.afs_text.specs.Telling.{told}
 use Rattle.afs_volstore.specs.Stores.{Store}
 use Rattle.afs_clients.specs.Places.{Each}
@@ -40,7 +31,7 @@ use Rattle.afs_final.specs.declared.reading.Left.{Left}
 use Rattle.afs_final.specs.declared.reading.Left.TheVariants as left
 use Rattle.afs_lending.specs.Lending.{all_kept, kept_disks, GivesBackBut}
 use Rattle.afs_command.specs.Spans.{RoseBy, Span}
-use Rattle.afs_cell.specs.Replays.{no_other, AreAllKept, AreKept, AreOf, GivesBack, GivesBackThose, HasDisk, IsLegalRun, MayKeep}
+use Rattle.afs_cell.specs.Replays.{no_other, AreAllKept, AreKept, AreOf, GivesBack, GivesBackThose, HasDisk, IsRun, MayKeep}
 use Rattle.afs_cell.proofs.Bare.{told_falls, told_length}
 
 some_of : {A : Type 0} (o : Option A) → IsSome o → (x : A) × (o ≡ Some x)
@@ -312,30 +303,14 @@ pub length_told : (ps : List Parcel) (es : List kept.Entry) → length (told ps 
 length_told ps [] = refl
 length_told ps (e ∷ es) = ap suc (length_told (drop e.sent ps) es)
 
--- what is known of runs: they are legal, and they end well, where the script names no administrators
-abbrev pub RunLaws : Type 0
-RunLaws = NodeRunsAreLegal × NodeRunsEndWell
-
 -- what a world has played is a run of its script, as far as it was played
-pub legal_run : {D : Type 0} (seen : D → Option (List ℕ)) (may_leave : D → List ℕ → Type 0) (faults limit : D → ℕ) (law : RunLaws) (IsSoFar : List CellInput → Type 0) (others : ℕ → ℕ) (s : Script) (w : WorldState D) (counts : ℕ → Span ℕ) → IsOfCell s → length w.history ≤ most_entries → (p : HasPlayed seen may_leave faults limit IsSoFar s w) → ((i : ℕ) → HasDisk s i → RoseBy (own_falls i p.inputs (told w.wire w.history) + others i) (counts i))
-    → IsLegalRun s IsSoFar others counts p.runs.history p.cell
-legal_run {D} seen may_leave faults limit law IsSoFar others s w counts in_cell few p failures = record {
+pub is_run : {D : Type 0} (seen : D → Option (List ℕ)) (may_leave : D → List ℕ → Type 0) (faults limit : D → ℕ) (IsSoFar : List CellInput → Type 0) (others : ℕ → ℕ) (s : Script) (w : WorldState D) (counts : ℕ → Span ℕ) → length w.history ≤ most_entries → (p : HasPlayed seen may_leave faults limit IsSoFar s w) → ((i : ℕ) → HasDisk s i → RoseBy (own_falls i p.inputs (told w.wire w.history) + others i) (counts i))
+    → IsRun s IsSoFar others counts p.runs.history p.cell
+is_run {D} seen may_leave faults limit IsSoFar others s w counts few p failures = record {
   inputs = p.inputs;
   leads = p.runs.leads;
   so_far = p.played;
   few = omega (arith, told_length p.runs.history (told w.wire w.history) p.runs.tells, length_told w.wire w.history, few);
-  accepted = accepted_as_told s p.inputs p.runs.history p.cell p.runs.leads;
-  stand = lines_stand_well s p.inputs p.runs.history p.cell p.runs.leads;
-  locked = entries_are_told.locks s p.inputs p.runs.history p.cell p.runs.leads;
-  located = entries_are_told.sites s p.inputs p.runs.history p.cell p.runs.leads;
-  senders = senders_are_told s p.inputs p.runs.history p.cell p.runs.leads;
-  past = past_vain s p.inputs p.runs.history p.cell p.runs.leads;
-  surveyed = surveys_stored s p.inputs;
-  caused = have_causes s p.inputs p.runs.history p.cell p.runs.leads;
-  legal = λ none. law.0 s p.runs.history p.cell in_cell none (record { inputs = p.inputs; leads = p.runs.leads });
-  well = λ none. law.1 s p.runs.history p.cell in_cell none (record { inputs = p.inputs; leads = p.runs.leads });
-  idle = λ idle. idle_legal s p.runs.history p.cell in_cell idle (record { inputs = p.inputs; leads = p.runs.leads });
-  idle_well = λ idle. idle_ends s p.runs.history p.cell in_cell idle (record { inputs = p.inputs; leads = p.runs.leads });
   failures = λ i has. subst (λ (n : ℕ). RoseBy (n + others i) (counts i)) (told_falls i p.inputs p.runs.history (told w.wire w.history) p.runs.tells) (failures i has);
 }
 

@@ -20,3 +20,5 @@ pub mod Since
 pub mod UnderWaySince
 pub mod Writing
 pub mod Replays
+pub mod Counted
+pub mod Made

@@ -1,6 +1,6 @@
--- What a replay of a script promises: what it writes is the text of a history of that, which is legal where the script names no
--- administrators, and the disks that it gives back stand for what that history leaves.
-use Rattle.std.specs.Prelude.{◌≡◌, ◌≤◌, ◌<◌, ◌⊎◌, ℕ, zero, suc, ◌+◌, List, [], ◌∷◌, ◌++◌, length, map, Bool, false, nat_eq, if◌then◌else◌, Option, Some, None}
+-- What a replay of a script promises: what it writes is the text of a history of that, and the disks that it gives back stand for what that
+-- history leaves.
+use Rattle.std.specs.Prelude.{◌≡◌, ◌≤◌, ◌<◌, ◌⊎◌, ℕ, zero, suc, ◌+◌, List, [], ◌∷◌, ◌++◌, length, Bool, false, nat_eq, if◌then◌else◌, Option, Some, None}
 use Rattle.std.specs.Option.{option_map}
 use Rattle.afs_num.specs.declared.types.Parcel.{Parcel}
 use Rattle.afs_history.specs.declared.lines.Entry as kept
@@ -8,23 +8,12 @@ use Rattle.afs_history.specs.declared.scripts.Script.{Script}
 use Rattle.afs_disk.specs.declared.bank.Lend.{Lend}
 use Rattle.afs_disk.specs.declared.bank.Place.{Place}
 use Rattle.afs_disk.specs.declared.disks.Lent.{Lent}
-use Rattle.afs_idle.specs.Idle.{but_for_admins, AreIdle}
-use Rattle.afs_law.specs.Laws.{EndsWell}
-use Rattle.afs_law.specs.Legal.{Legal}
-use Rattle.afs_moves.specs.Accepting.{AreAcceptedAsTold}
-use Rattle.afs_moves.specs.Standing.{StandWell}
-use Rattle.afs_stamps.specs.Told.{AreLocatedAsTold, AreLockedAsTold}
-use Rattle.afs_walks.specs.Messages.{HaveSenders}
-use Rattle.afs_surveys.specs.Past.{AreVainOncePast}
-use Rattle.afs_surveys.specs.Surveys.{AreSurveyed}
-use Rattle.afs_answers.specs.Answers.{HaveCauses}
 use Rattle.afs_outside.specs.Outside.{AppendsFront}
 use Rattle.afs_records.specs.Durable.{Durable}
 use Rattle.afs_records.specs.LocDurable.{LocDurable}
 use Rattle.afs_volstore.specs.Stands.{Stands}
 use Rattle.afs_rows.specs.Runs.{Entry}
 use Rattle.afs_runs.specs.NodeRuns.{node_start, CellInput, NodeCell, NodeLeads}
-use Rattle.afs_runs.specs.PlainRuns.{file_cell}
 use Rattle.afs_text.specs.FinalText.{final_text}
 use Rattle.afs_text.specs.HistoryText.{history_text, text}
 use Rattle.afs_text.specs.KeptText.{kept_history_text}
@@ -128,30 +117,12 @@ abbrev pub one_other : ℕ → ℕ → ℕ
 one_other server i = if nat_eq server i then 1 else 0
 
 -- A run of the script: inputs lead from its set-up through this history to this cell, and the schedule was played so far by them. The history
--- has no more entries than one may have. Behind each entry a server has a volume in service exactly where the history tells that it accepts
--- stores, and each change is told by a server that accepts stores of its volume. The location database's entries are locked as was told, and
--- name the servers that were told. Each message says of itself that it is of the node that sent it. Volume calls under stamps that are past
--- are in vain, and moves, removals and recoveries bring theirs to all servers first. Each act of an administrator ends with the code of its
--- cause, and each failure that is a cause ends it. Where the script names no administrators, it is legal, and at its end the servers hold the
--- ideal volumes, with all that was acknowledged. So it is with a void entry in place of each of theirs, where they do nothing but stop and
--- begin again. The count of each disk rose by each failure of that disk in it, and by its others.
-pub record IsLegalRun (s : Script) (IsSoFar : List CellInput → Type 0) (others : ℕ → ℕ) (disk_faults : ℕ → Span ℕ) (history : List Entry) (end : NodeCell) : Type 0 where
+-- has no more entries than one may have. The count of each disk rose by each failure of that disk in it, and by its others.
+pub record IsRun (s : Script) (IsSoFar : List CellInput → Type 0) (others : ℕ → ℕ) (disk_faults : ℕ → Span ℕ) (history : List Entry) (end : NodeCell) : Type 0 where
   pub inputs : List CellInput
   pub leads : NodeLeads (node_start s) inputs history end
   pub so_far : IsSoFar inputs
   pub few : length history ≤ most_entries
-  pub accepted : AreAcceptedAsTold s inputs history
-  pub stand : StandWell s history
-  pub locked : AreLockedAsTold s inputs history
-  pub located : AreLocatedAsTold s inputs history
-  pub senders : HaveSenders history
-  pub past : AreVainOncePast s inputs history
-  pub surveyed : AreSurveyed s inputs
-  pub caused : HaveCauses history
-  pub legal : s.admins ≡ 0 → Legal history s
-  pub well : s.admins ≡ 0 → EndsWell s history (file_cell end)
-  pub idle : AreIdle history → Legal (map but_for_admins history) s
-  pub idle_well : AreIdle history → EndsWell s (map but_for_admins history) (file_cell end)
   pub failures : (i : ℕ) → HasDisk s i → RoseBy (own_falls i inputs history + others i) (disk_faults i)
 
 -- The inputs are the events of the script's schedule, one for one, with each drain as its deliveries.
@@ -170,7 +141,7 @@ SomeOfIt s = λ (inputs : List CellInput). AreInputs (first_turn s) (events_of s
 pub record Replays (s : Script) (wire : Bool) (Writes : List ℕ → Type 0) (MayBeMissing : ℕ → Type 0) (o : Outside) : Type 0 where
   pub history : List Entry
   pub end : NodeCell
-  pub run : IsLegalRun s (ToItsEnd s) no_other o.disk_faults history end
+  pub run : IsRun s (ToItsEnd s) no_other o.disk_faults history end
   pub kept : List Durable
   pub keep : MayKeep end 1 kept
   pub loc : LocDurable
@@ -183,7 +154,7 @@ pub record Replays (s : Script) (wire : Bool) (Writes : List ℕ → Type 0) (Ma
 pub record ReplaysFirst (s : Script) (wire : Bool) (o : Outside) : Type 0 where
   pub history : List Entry
   pub end : NodeCell
-  pub run : IsLegalRun s (NotToItsEnd s) no_other o.disk_faults history end
+  pub run : IsRun s (NotToItsEnd s) no_other o.disk_faults history end
   pub full : length history ≡ most_entries
   pub kept : List Durable
   pub keep : MayKeep end 1 kept
@@ -197,7 +168,7 @@ pub record ReplaysFirst (s : Script) (wire : Bool) (o : Outside) : Type 0 where
 pub record ReplaysSome (s : Script) (wire : Bool) (o : Outside) : Type 0 where
   pub history : List Entry
   pub end : NodeCell
-  pub run : IsLegalRun s (SomeOfIt s) no_other o.disk_faults history end
+  pub run : IsRun s (SomeOfIt s) no_other o.disk_faults history end
   pub written : Writes o (history_text wire history)
   pub given : GivesBackThose (MissedByTheBank o) (s.servers + 1) o.given.before o.given.after
 
@@ -206,7 +177,7 @@ pub record ReplaysSome (s : Script) (wire : Bool) (o : Outside) : Type 0 where
 pub record ReplaysUnread (s : Script) (wire : Bool) (server : ℕ) (o : Outside) : Type 0 where
   pub history : List Entry
   pub end : NodeCell
-  pub run : IsLegalRun s (ToItsEnd s) (one_other server) o.disk_faults history end
+  pub run : IsRun s (ToItsEnd s) (one_other server) o.disk_faults history end
   pub written : Writes o (history_text wire history)
   pub given : GivesBackThose (MissedByTheBank o) (s.servers + 1) o.given.before o.given.after
 

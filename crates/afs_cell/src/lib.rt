@@ -8,6 +8,7 @@ mod ending;
 pub mod faults;
 mod founding;
 mod giving;
+mod made;
 mod playing;
 mod reading;
 mod replaying;
@@ -17,6 +18,7 @@ mod setup;
 mod world;
 mod writing;
 
+pub use made::play_made;
 pub use playing::Played;
 pub use replaying::{replay, status_of_setup};
 pub use setup::set_up;

@@ -22,8 +22,6 @@ use afs_history::scripts::Script;
 use afs_lending::telling::{give_up, put_no_more, returned, status_of_lend, tell_left, tell_none};
 use afs_lending::{give_back, lend_all};
 use afs_outside::outside::{Failed, Sink};
-use afs_runs::laws::{node_runs_are_legal, node_runs_end_well};
-use afs_scripts::laws::volumes_are_in_cell;
 use std::alloc::Global;
 
 /// The status where the cell wasn't set up.
@@ -50,9 +48,6 @@ fn end<K: Sink, B: Bank<D: Drop>>(
     ensures lends { B.lends bank.new ≡ B.lends bank.old }
     ensures never_falls { B.faults bank.old ≤ B.faults bank.new }
 {
-    node_runs_are_legal();
-    node_runs_end_well();
-    volumes_are_in_cell();
     let (database, left) = match world.read_at_end() {
         Ok(read) => read,
         Err(disks) => {
@@ -79,9 +74,6 @@ fn cut<K: Sink, B: Bank<D: Drop>>(
     ensures lends { B.lends bank.new ≡ B.lends bank.old }
     ensures never_falls { B.faults bank.old ≤ B.faults bank.new }
 {
-    node_runs_are_legal();
-    node_runs_end_well();
-    volumes_are_in_cell();
     let disks = world.end();
     // The status stands already; that the sink failed is counted.
     let _passed = put_no_more(sink, written);
@@ -100,9 +92,6 @@ fn give_in<K: Sink, B: Bank<D: Drop>>(
     ensures lends { B.lends bank.new ≡ B.lends bank.old }
     ensures never_falls { B.faults bank.old ≤ B.faults bank.new }
 {
-    node_runs_are_legal();
-    node_runs_end_well();
-    volumes_are_in_cell();
     let disks = world.end();
     // The status stands already; that the sink failed is counted.
     let _passed = put_no_more(sink, written);

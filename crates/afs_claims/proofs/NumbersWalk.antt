@@ -96,7 +96,7 @@ module _ (P : ℕ → ℕ → ℕ → ℕ → Type 0) (low : ℕ) (new : (n volu
     wake_on = inr (refl, λ k. k)
 
     -- it begins as it was, or in the next boot
-    begun_on : (after : Bool) (fall : Fall) → (boot h.state < boot (begun_from (node_kind (Server i)) h.state after fall).state) ⊎ ((boot (begun_from (node_kind (Server i)) h.state after fall).state ≡ boot h.state) × ((begun_from (node_kind (Server i)) h.state after fall).state.vol ≡ h.state.vol))
+    pub begun_on : (after : Bool) (fall : Fall) → (boot h.state < boot (begun_from (node_kind (Server i)) h.state after fall).state) ⊎ ((boot (begun_from (node_kind (Server i)) h.state after fall).state ≡ boot h.state) × ((begun_from (node_kind (Server i)) h.state after fall).state.vol ≡ h.state.vol))
     begun_on after at_rest = inr (refl, refl)
     begun_on false (in_step m at b) = inr (refl, refl)
     begun_on true (in_step m at b) = inr (after_boot (Server i) h.state at m, refl)

@@ -11,12 +11,14 @@ use Rattle.afs_num.specs.declared.types.Head.{Head}
 use Rattle.afs_num.specs.declared.types.Key.{Key}
 use Rattle.afs_num.specs.declared.types.Node.{Node}
 use Rattle.afs_num.specs.declared.types.Node.TheVariants.{Admin, Client, Loc, Server}
+use Rattle.afs_history.specs.declared.scripts.Script.{Script}
 use Rattle.afs_adminrows.specs.AdminRow.{admin_begin_row, admin_reborn, admin_row, admin_timeout_row, errand_of, AdminState}
 use Rattle.afs_copyrows.specs.Sites.{CopyState}
 use Rattle.afs_ideal.specs.Operations.{is_number}
 use Rattle.afs_records.specs.Durable.{Durable}
 use Rattle.afs_rows.specs.Hosts.{at_rest, begun_from, comes_up, ends, fails_early, fails_midway, in_boot, in_step, is_full, served_by, settled, struck, Blow, Fall, Host, HostStep, Kind, Outcome}
 use Rattle.afs_rows.specs.LocRow.{LocState}
+use Rattle.afs_history.specs.declared.scripts.Script.{Script}
 use Rattle.afs_rows.specs.Runs.{Entry}
 use Rattle.afs_rows.specs.States.{durable_of, Seat}
 use Rattle.afs_rows.specs.Steps.{Begun, Step}
@@ -24,11 +26,12 @@ use Rattle.afs_volrows.specs.NodeHosts.{node_kind, NodeHost}
 use Rattle.afs_volrows.specs.VolStates.{NodeState, Sending, VolState}
 use Rattle.afs_volrows.specs.VolSteps.{vol_decides}
 use Rattle.afs_runs.specs.NodeRuns.{admin_falls, admin_moves, admin_rises, client_falls, client_moves, client_rises, loc_placed, node_moved, node_start, placed, ticked, voided, CellInput, NodeCell, NodeLeads, NodeMoved}
+use Rattle.afs_moves.specs.Accepting.{cell_behind}
 use Rattle.afs_stamps.specs.Given.{AreTheirs, IsTheirs}
 use Rattle.afs_stamps.specs.Stamps.{next_stamp}
 use Rattle.afs_stamps.proofs.Giving.{none_given, restart_gives, serve_gives, still_theirs, Gave, Give}
 use Rattle.afs_walks.specs.Messages.{FallIs}
-use Rattle.afs_walks.specs.Sends.{AnswersAre, AsksIs, CellIs, ClientMakes, HeldIs, NodeIs, SeatsAre, ServerMakes, VolMakes}
+use Rattle.afs_walks.specs.Sends.{AnswersAre, AsksIs, CellIs, ClientMakes, HeldIs, LocIs, NodeIs, SeatsAre, ServerMakes, VolMakes}
 use Rattle.afs_walks.proofs.AdminSends.{admin_begun, admin_given, admin_late, AdminSends}
 use Rattle.afs_walks.proofs.AllMessages.{admin_falls_is, admin_moves_is, admin_rises_is, all_put, client_falls_is, client_moves_is, client_rises_is, placed_is}
 use Rattle.afs_walks.proofs.CopySends.{client_begun, client_given, client_late, client_seek_late, CopySends}
@@ -447,14 +450,39 @@ led owner c (x ∷ xs) (e ∷ es) end h is =
       used = (weaker_all (IsFair more.now (next_stamp end)) (IsUsed more.now (next_stamp end)) e.sent (λ m q. q.1) sent, more.used);
     }
 
+-- at set-up nothing was sent, and no stamp was drawn
+no_owner : ℕ → Key
+no_owner stamp = record { node = Loc; epoch = 0; number = 0 }
+
+first_fair : (s : Script) → Fair no_owner (node_start s)
+first_fair s = record {
+  nodes = record { hosts = λ i. record { file = record { seats = tt; kept = tt; held = tt }; seats = tt; held = tt; sendings = λ n. tt }; clients = λ n. tt; admins = λ n. tt; loc = record { seats = tt; kept = tt } };
+  gave = record { seats = tt; kept = tt };
+  falls = λ i. tt;
+  sent = tt;
+  acts = λ n r is. absurd cc;
+}
+
 pub have_owners : StampsHaveOwners
-have_owners s inputs history end leads =
-    let owner : ℕ → Key = λ (stamp : ℕ). record { node = Loc; epoch = 0; number = 0 } in
-    let one = led owner (node_start s) inputs history end (record {
-      nodes = record { hosts = λ i. record { file = record { seats = tt; kept = tt; held = tt }; seats = tt; held = tt; sendings = λ n. tt }; clients = λ n. tt; admins = λ n. tt; loc = record { seats = tt; kept = tt } };
-      gave = record { seats = tt; kept = tt };
-      falls = λ i. tt;
-      sent = tt;
-      acts = λ n r is. absurd cc;
-    }) leads in
-    record { owner = one.now; theirs = one.theirs; used = one.used }
+have_owners s inputs history end leads = let one = led no_owner (node_start s) inputs history end (first_fair s) leads in record { owner = one.now; theirs = one.theirs; used = one.used }
+
+-- ---- each message that was sent
+
+-- whose stamp it gives, and under whose it is; and whose stamps kept replies give
+pub record AllOwned (c : NodeCell) : Type 0 where
+  pub owner : ℕ → Key
+  pub kept : LocIs (IsTheirs owner (next_stamp c)) c.loc.state
+  pub theirs : AllByRecursion (IsTheirs owner (next_stamp c)) c.sent
+  pub used : AllByRecursion (IsUsed owner (next_stamp c)) c.sent
+
+owned_behind : (owner : ℕ → Key) (c : NodeCell) (xs : List CellInput) → Fair owner c → AllOwned (cell_behind c xs)
+owned_behind owner c [] h = record {
+  owner = owner;
+  kept = record { seats = h.gave.seats; kept = h.gave.kept };
+  theirs = weaker_all (IsFair owner (next_stamp c)) (IsTheirs owner (next_stamp c)) c.sent (λ m q. q.0) h.sent;
+  used = weaker_all (IsFair owner (next_stamp c)) (IsUsed owner (next_stamp c)) c.sent (λ m q. q.1) h.sent;
+}
+owned_behind owner c (x ∷ xs) h = let one = goes owner c h x in owned_behind one.now (node_moved c x).cell xs one.fair
+
+pub all_owned : (s : Script) (inputs : List CellInput) → AllOwned (cell_behind (node_start s) inputs)
+all_owned s inputs = owned_behind no_owner (node_start s) inputs (first_fair s)

@@ -11,10 +11,12 @@ use Rattle.afs_grammar.specs.Lines.{script_of}
 use Rattle.afs_outside.specs.Outside.{Gives, HadAll}
 use Rattle.afs_command.specs.Forms.{form_in, Asks, HaveForm}
 use Rattle.afs_command.specs.Spans.{IsUnchanged, RoseBy, Span}
+use Rattle.afs_lawful.specs.Lawful.{EachIsLawful}
 use Rattle.afs_lending.specs.Outside.{OneRose, Outside}
 use Rattle.afs_command.specs.Reading.{GivesNone, GivesScript, level}
 use Rattle.afs_cell.specs.Replays.{AtBankFault, EndsReplay, EndsRun, LendingFails, LendsAll}
-use Rattle.afs_top.specs.Made.{DoesNothing, EndsMade, IsUnmade}
+use Rattle.afs_cell.specs.Made.{EndsMade}
+use Rattle.afs_top.specs.Made.{DoesNothing, IsUnmade}
 use Rattle.afs_top.specs.Top.{AskMade, AskReplay, CanPlay, Ends, EndsByForm, IsBeforeReplay, IsScript}
 use Rattle.afs_command.specs.declared.statuses.Form.{Form}
 use Rattle.afs_command.specs.declared.statuses.Form.TheVariants.{Gen, Replay}
@@ -98,9 +100,9 @@ replay_isnt_before s wire place tells left Unlent o status ends before = either 
   either statuses.OutOfMemory how before = before
   either statuses.Limit how before = before
 
-pub ends_replayed : (words : List (List ℕ)) (source : Span (Option (List ℕ))) (faults : Span ℕ) (Tells : Place → Type 0) (Left : Script → Outside → Type 0) (Unlent : Script → Outside → ℕ → ℕ → Type 0) (o : Outside) (status : Status) (wire : Bool) (place : Place) (s : Script) → Asks (Replay wire place) words → GivesScript source faults s → EndsReplay s wire place (Tells place) (Left s o) (Unlent s o) o status → Ends words source faults Tells Left Unlent o status
-ends_replayed words source faults Tells Left Unlent o status wire place s asked gives ends = ends_by_form words source faults Tells Left Unlent o status (λ before. replay_isnt_before s wire place _ _ _ o status ends before) (Replay wire place, asked)
-    (inl (record { quiet = gives.quiet; wire = wire; place = place; asked = asked; input = gives.input; had = gives.had; at_end = gives.at_end; script = s; read = gives.read; ends = ends }))
+pub ends_replayed : (words : List (List ℕ)) (source : Span (Option (List ℕ))) (faults : Span ℕ) (Tells : Place → Type 0) (Left : Script → Outside → Type 0) (Unlent : Script → Outside → ℕ → ℕ → Type 0) (o : Outside) (status : Status) (wire : Bool) (place : Place) (s : Script) → Asks (Replay wire place) words → GivesScript source faults s → EachIsLawful s → EndsReplay s wire place (Tells place) (Left s o) (Unlent s o) o status → Ends words source faults Tells Left Unlent o status
+ends_replayed words source faults Tells Left Unlent o status wire place s asked gives lawful ends = ends_by_form words source faults Tells Left Unlent o status (λ before. replay_isnt_before s wire place _ _ _ o status ends before) (Replay wire place, asked)
+    (inl (record { quiet = gives.quiet; wire = wire; place = place; asked = asked; input = gives.input; had = gives.had; at_end = gives.at_end; script = s; read = gives.read; lawful = lawful; ends = ends }))
 
 is_before : (status : Status) → status ≡ statuses.Usage → IsBeforeReplay status
 is_before status is = subst IsBeforeReplay (sym is) tt
@@ -147,8 +149,8 @@ pub has_form : (words : List (List ℕ)) (form : Form) → form_in words ≡ Som
 has_form words form read = (form, asked_as_read words form read)
 
 -- a replay as the words ask
-pub ends_read : (words : List (List ℕ)) (source : Span (Option (List ℕ))) (faults : Span ℕ) (Tells : Place → Type 0) (Left : Script → Outside → Type 0) (Unlent : Script → Outside → ℕ → ℕ → Type 0) (o : Outside) (status : Status) (wire : Bool) (place : Place) (s : Script) → EndsReplay s wire place (Tells place) (Left s o) (Unlent s o) o status → GivesScript source faults s → form_in words ≡ Some (Replay wire place) → Ends words source faults Tells Left Unlent o status
-ends_read words source faults Tells Left Unlent o status wire place s ends gives form = ends_replayed words source faults Tells Left Unlent o status wire place s (asked_as_read words (Replay wire place) form) gives ends
+pub ends_read : (words : List (List ℕ)) (source : Span (Option (List ℕ))) (faults : Span ℕ) (Tells : Place → Type 0) (Left : Script → Outside → Type 0) (Unlent : Script → Outside → ℕ → ℕ → Type 0) (o : Outside) (status : Status) (wire : Bool) (place : Place) (s : Script) → EndsReplay s wire place (Tells place) (Left s o) (Unlent s o) o status → GivesScript source faults s → EachIsLawful s → form_in words ≡ Some (Replay wire place) → Ends words source faults Tells Left Unlent o status
+ends_read words source faults Tells Left Unlent o status wire place s ends gives lawful form = ends_replayed words source faults Tells Left Unlent o status wire place s (asked_as_read words (Replay wire place) form) gives lawful ends
 
 -- ---- a made script
 
@@ -165,13 +167,13 @@ made_isnt_before number s tells left Unlent o statuses.BankFault ends before = b
 made_isnt_before number s tells left Unlent o statuses.OutOfMemory ends before = before
 made_isnt_before number s tells left Unlent o statuses.Limit ends before = before
 
-pub ends_made : (words : List (List ℕ)) (source : Span (Option (List ℕ))) (faults : Span ℕ) (Tells : Place → Type 0) (Left : Script → Outside → Type 0) (Unlent : Script → Outside → ℕ → ℕ → Type 0) (o : Outside) (status : Status) (number : ℕ) → form_in words ≡ Some (Gen number) → IsUnchanged source → IsUnchanged faults
+pub ends_made : (words : List (List ℕ)) (source : Span (Option (List ℕ))) (faults : Span ℕ) (Tells : Place → Type 0) (Left : Script → Outside → Type 0) (Unlent : Script → Outside → ℕ → ℕ → Type 0) (o : Outside) (status : Status) (number : ℕ) → form_in words ≡ Some (Gen number) → EachIsLawful (generated number) → IsUnchanged source → IsUnchanged faults
     → IsUnmade o status ⊎ EndsMade number (generated number) (Tells Memory) (Left (generated number) o) (Unlent (generated number) o) o status → Ends words source faults Tells Left Unlent o status
-ends_made words source faults Tells Left Unlent o status number form untouched quiet (inl unmade) =
+ends_made words source faults Tells Left Unlent o status number form lawful untouched quiet (inl unmade) =
     subst (λ (x : Status). Ends words source faults Tells Left Unlent o x) (sym unmade.0) ((Gen number, asked_as_read words (Gen number) form), inl (quiet, unmade.1))
-ends_made words source faults Tells Left Unlent o status number form untouched quiet (inr ends) =
+ends_made words source faults Tells Left Unlent o status number form lawful untouched quiet (inr ends) =
     let asked = asked_as_read words (Gen number) form in
-    ends_by_form words source faults Tells Left Unlent o status (λ before. made_isnt_before number (generated number) _ _ _ o status ends before) (Gen number, asked) (inr (record { untouched = untouched; quiet = quiet; number = number; asked = asked; ends = ends }))
+    ends_by_form words source faults Tells Left Unlent o status (λ before. made_isnt_before number (generated number) _ _ _ o status ends before) (Gen number, asked) (inr (record { untouched = untouched; quiet = quiet; number = number; asked = asked; lawful = lawful; ends = ends }))
 
 -- the script that was made is played
 pub ends_as_made : (number : ℕ) (s made : Script) → s ≡ made → (tells : Type 0) (Left : Script → Outside → Type 0) (Unlent : Script → Outside → ℕ → ℕ → Type 0) (o : Outside) (status : Status) → EndsMade number s tells (Left s o) (Unlent s o) o status → EndsMade number made tells (Left made o) (Unlent made o) o status

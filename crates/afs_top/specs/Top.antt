@@ -10,13 +10,15 @@ use Rattle.afs_grammar.specs.Lines.{script_of}
 use Rattle.afs_outside.specs.Outside.{Gives, HadAll}
 use Rattle.afs_command.specs.Forms.{Asks, HaveForm}
 use Rattle.afs_command.specs.Spans.{IsUnchanged, RoseBy, Span}
+use Rattle.afs_lawful.specs.Lawful.{EachIsLawful}
 use Rattle.afs_lending.specs.Outside.{Outside}
 use Rattle.afs_command.specs.declared.statuses.Form.TheVariants.{Gen, Replay}
 use Rattle.afs_command.specs.declared.statuses.Status.{Status}
 use Rattle.afs_command.specs.declared.statuses.Status.TheVariants as statuses
 use Rattle.afs_command.specs.Reading.{level, IsBad, IsReadOut}
 use Rattle.afs_cell.specs.Replays.{EndsReplay}
-use Rattle.afs_top.specs.Made.{DoesNothing, EndsMade}
+use Rattle.afs_cell.specs.Made.{EndsMade}
+use Rattle.afs_top.specs.Made.{DoesNothing}
 
 -- ---- how a call of the program ends
 
@@ -24,7 +26,8 @@ use Rattle.afs_top.specs.Made.{DoesNothing, EndsMade}
 abbrev pub IsScript : List ℕ → Type 0
 IsScript input = (script : Script) × (script_of level input ≡ Ok script)
 
--- The words ask for a replay. All was read that the source had left, which didn't fail, and that is a script. Its replay ends so.
+-- The words ask for a replay. All was read that the source had left, which didn't fail, and that is a script. Each run of that script is
+-- lawful, and its replay ends so: the run that this tells of is one of those.
 pub record Answers (words : List (List ℕ)) (source : Span (Option (List ℕ))) (source_faults : Span ℕ) (Ends : Script → Bool → Place → Type 0) : Type 0 where
   pub quiet : IsUnchanged source_faults
   pub wire : Bool
@@ -35,14 +38,16 @@ pub record Answers (words : List (List ℕ)) (source : Span (Option (List ℕ)))
   pub at_end : IsAtEnd source.after
   pub script : Script
   pub read : script_of level input ≡ Ok script
+  pub lawful : EachIsLawful script
   pub ends : Ends script wire place
 
--- The words ask for the script that is made for a number. The source was not touched, and its run ends so.
+-- The words ask for the script that is made for a number. The source was not touched. Each run of that script is lawful, and its run ends so.
 pub record Makes (words : List (List ℕ)) (source : Span (Option (List ℕ))) (source_faults : Span ℕ) (Ends : ℕ → Type 0) : Type 0 where
   pub untouched : IsUnchanged source
   pub quiet : IsUnchanged source_faults
   pub number : ℕ
   pub asked : Asks (Gen number) words
+  pub lawful : EachIsLawful (generated number)
   pub ends : Ends number
 
 -- the words ask for a replay

@@ -14,8 +14,11 @@ use afs_cell::replay;
 use afs_command::scripts::script_in;
 use afs_command::statuses::{Form, Status};
 use afs_disk::Bank;
+use afs_generate::laws::generated_are_of_cells;
 use afs_grammar::laws::scripts_are_of_cells;
+use afs_lawful::laws::runs_are_lawful;
 use afs_outside::outside::{Sink, Source};
+use afs_scripts::laws::volumes_are_in_cell;
 use std::alloc::Global;
 
 /// Plays the script that the source holds and writes its text to the sink, over disks that the bank lends. The words are those
@@ -44,13 +47,16 @@ pub fn cell_main<S: Source, K: Sink, B: Bank<D: Drop>>(
     // It takes no more than one byte above the most that a script may have.
     ensures stops { TakesAtMost (16777216 + 1) (S.left source.old) (S.left source.new) }
 {
+    runs_are_lawful();
+    volumes_are_in_cell();
+    scripts_are_of_cells();
+    generated_are_of_cells();
     let (wire, place) = match form_of(alloc, words) {
         Ok(Some(Form::Replay { wire, place })) => (wire, place),
         Ok(Some(Form::Gen { number })) => return make_and_play(alloc, number, sink, bank),
         Ok(None) => return Status::Usage,
         Err(_) => return Status::OutOfMemory,
     };
-    scripts_are_of_cells();
     match script_in(alloc, source) {
         Ok(script) => replay(alloc, &script, wire, &place, sink, bank),
         Err(status) => status,

@@ -1,5 +1,5 @@
 -- The steps of an administrator: what it sends and keeps stays P, where what it then asks is.
-use Rattle.std.proofs.Common.{◌≡◌, ℕ, Bool, true, false, cond, List, [], ◌∷◌, ◌++◌, Option, Some, None, refl}
+use Rattle.std.proofs.Common.{◌≡◌, ℕ, Bool, true, false, cond, List, [], ◌∷◌, Option, Some, None, refl}
 use Rattle.std.specs.List.{AllByRecursion}
 use Rattle.afs_num.specs.Nodes.{same_node}
 use Rattle.afs_num.specs.declared.messages.Carried.{Carried}
@@ -13,10 +13,10 @@ use Rattle.afs_history.specs.declared.lines.Line.TheVariants as lines
 use Rattle.afs_history.specs.declared.scripts.AdminAct.{AdminAct}
 use Rattle.afs_model.specs.Calls.{admitted, is_sent_again, Admitted}
 use Rattle.afs_model.specs.Calls as pairs
-use Rattle.afs_rows.specs.ServerRow.{boot_told, not_served, refusal, seat_for}
+use Rattle.afs_rows.specs.ServerRow.{not_served, refusal, seat_for}
 use Rattle.afs_rows.specs.Steps.{Step}
 use Rattle.afs_adminrows.specs.Acts.{answered, begins_with, refused}
-use Rattle.afs_adminrows.specs.AdminRow.{admin_begin_row, admin_row, admin_timeout_line, admin_timeout_row, admits, ask_of, awaits, dump_held, errand_of, gets, hears, is_for, label_in, sends_again, takes_in, told, turned, AdminState}
+use Rattle.afs_adminrows.specs.AdminRow.{admin_begin_row, admin_row, admin_timeout_line, admin_timeout_row, admits, ask_of, awaits, dump_held, errand_of, gets, hears, is_for, label_in, sends_again, told, turned, AdminState}
 use Rattle.afs_adminrows.specs.Turns.{dead}
 use Rattle.afs_adminrows.specs.declared.turns.Running.{Running}
 use Rattle.afs_adminrows.specs.declared.turns.Turn.{Turn}

@@ -1,7 +1,6 @@
 -- What is asked of each message that a node sends or keeps goes on through every run, where it holds of what each kind of node makes.
-use Rattle.std.proofs.Common.{◌≡◌, ℕ, zero, suc, Bool, true, false, cond, List, [], ◌∷◌, ◌++◌, Option, Some, None, refl, sym, subst, nat_eq, eqb-true}
+use Rattle.std.proofs.Common.{◌≡◌, ℕ, suc, Bool, true, false, cond, List, [], ◌∷◌, ◌++◌, Option, Some, None, refl, sym, subst, nat_eq, eqb-true}
 use Rattle.std.proofs.lemmas.List.{append-nil}
-use Rattle.std.specs.Prelude.{⊤}
 use Rattle.std.specs.List.{AllByRecursion}
 use Rattle.afs_num.specs.declared.histories.Actor.{Actor}
 use Rattle.afs_num.specs.declared.histories.Actor.TheVariants as actors
@@ -15,19 +14,18 @@ use Rattle.afs_copyrows.specs.CopyRow.{copies_reborn}
 use Rattle.afs_copyrows.specs.Sites.{CopyState}
 use Rattle.afs_history.specs.declared.lines.Line.TheVariants as lines
 use Rattle.afs_rows.specs.Callbacks.{put}
-use Rattle.afs_rows.specs.Hosts.{at_rest, begun_from, comes_up, ends, fails_early, fails_midway, in_boot, in_step, is_full, restarted, served, served_by, settled, struck, Blow, Fall, Host, HostStep, Kind, Luck, Outcome}
-use Rattle.afs_rows.specs.LocRow.{loc_decides, LocState}
+use Rattle.afs_rows.specs.Hosts.{at_rest, begun_from, comes_up, ends, fails_early, fails_midway, in_boot, in_step, is_full, served_by, settled, struck, Blow, Fall, Host, HostStep, Kind, Outcome}
+use Rattle.afs_rows.specs.LocRow.{LocState}
 use Rattle.afs_rows.specs.LocSteps.{loc_kind, LocHost}
-use Rattle.afs_rows.specs.Runs.{message_at, Entry}
+use Rattle.afs_rows.specs.Runs.{Entry}
 use Rattle.afs_rows.specs.States.{durable_of}
 use Rattle.afs_rows.specs.Steps.{Begun, Step}
 use Rattle.afs_volrows.specs.NodeHosts.{node_kind, NodeHost}
 use Rattle.afs_volrows.specs.VolStates.{NodeState, Sending}
-use Rattle.afs_volrows.specs.VolSteps.{vol_decides}
 use Rattle.afs_runs.specs.NodeRuns.{admin_falls, admin_moves, admin_rises, client_falls, client_moves, client_rises, loc_placed, node_moved, node_start, placed, ticked, voided, CellInput, NodeCell, NodeLeads, NodeMoved}
 use Rattle.afs_walks.specs.Kinds.{IsGiven}
 use Rattle.afs_walks.specs.Messages.{cell_after, AllAre, AreSent, FallIs, Rules}
-use Rattle.afs_walks.specs.Sends.{CellIs, LocIs, LocMakes, NodeIs, SeatsAre, SentBy, SentIs, VolMakes}
+use Rattle.afs_walks.specs.Sends.{CellIs, NodeIs, SeatsAre, SentBy, SentIs}
 use Rattle.afs_walks.proofs.AdminSends.{admin_begun, admin_given, admin_late, AdminSends}
 use Rattle.afs_walks.proofs.CopySends.{client_begun, client_given, client_late, client_seek_late, CopySends}
 use Rattle.afs_walks.proofs.EachKind.{any_admin, any_client, any_database, any_server, each}

@@ -1,5 +1,5 @@
 -- The steps of a client that reads read-only volumes too: what it sends and keeps stays P, where what it makes is.
-use Rattle.std.proofs.Common.{ℕ, Bool, true, false, cond, List, [], ◌∷◌, ◌++◌, Option, Some, None, refl}
+use Rattle.std.proofs.Common.{ℕ, Bool, true, false, cond, List, [], ◌∷◌, Option, Some, None, refl}
 use Rattle.std.specs.Prelude.{◌&&◌, ◌||◌, nat_lt, filter}
 use Rattle.std.specs.List.{list_any, AllByRecursion}
 use Rattle.afs_history.specs.declared.acts.Act.{Act}
@@ -17,7 +17,7 @@ use Rattle.afs_num.specs.declared.messages.Reply.TheVariants as tell
 use Rattle.afs_num.specs.declared.types.Node.{Node}
 use Rattle.afs_rows.specs.ClientRow.{begin_row, call_of, dropped, given_up_in, guest_row, is_awaited, is_busy_code, is_spent, left_in, seek_timeout_row, timeout_line, timeout_row}
 use Rattle.afs_rows.specs.Going.{ClientState, Going, Seek}
-use Rattle.afs_rows.specs.States.{CacheEntry, Seat}
+use Rattle.afs_rows.specs.States.{Seat}
 use Rattle.afs_rows.specs.Steps.{Step}
 use Rattle.afs_copyrows.specs.CopyRow.{answers_at, answers_in, answers_to, by_release, copy_begin_row, copy_row, copy_seek_row, copy_timeout_row, dies_at, dropping, entry_told, hears_by, is_below_release, is_over, offer_in, offers, renewing, tells_new, times_out, uses, uses_newer, without_older, Offer}
 use Rattle.afs_copyrows.specs.Sites.{as_it_is, asked_since, behind_first, calls_round, goes_round, leaves_site, round_of, seen_of, sited, sited_by, sited_in, unasked, with_client, CopyState, Round}

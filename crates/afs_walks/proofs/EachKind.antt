@@ -1,7 +1,6 @@
 -- What holds of each kind of step holds of whatever the cell is given.
 use Rattle.std.proofs.Common.{◌≡◌, ℕ, zero, suc, Bool, true, false, cond, Option, Some, None, refl}
 use Rattle.afs_num.specs.declared.messages.Message.{Message}
-use Rattle.afs_num.specs.declared.messages.Received.TheVariants.{Whole}
 use Rattle.afs_num.specs.declared.types.Node.{Node}
 use Rattle.afs_num.specs.declared.types.Node.TheVariants.{Admin, Client, Loc, Server}
 use Rattle.afs_history.specs.declared.acts.Act.{Act}

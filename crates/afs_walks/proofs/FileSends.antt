@@ -10,8 +10,7 @@ use Rattle.afs_num.specs.declared.messages.Call.TheVariants as ask
 use Rattle.afs_num.specs.declared.messages.Carried.{Carried}
 use Rattle.afs_num.specs.declared.messages.Carried.TheVariants as carried
 use Rattle.afs_num.specs.declared.messages.Message.{Message}
-use Rattle.afs_num.specs.declared.messages.Received.{Received}
-use Rattle.afs_num.specs.declared.messages.Received.TheVariants.{Nothing, Unserved, Unreadable, Whole}
+use Rattle.afs_num.specs.declared.messages.Received.TheVariants.{Whole}
 use Rattle.afs_num.specs.declared.types.Head.{Head}
 use Rattle.afs_num.specs.declared.types.Node.{Node}
 use Rattle.afs_breaks.specs.declared.types.OwedBreak.{OwedBreak}
@@ -27,7 +26,7 @@ use Rattle.afs_rows.specs.ServerRow.{carried_by, change_reply_to, decided, begun
 use Rattle.afs_rows.specs.ServerSteps.{back_timeout_row, stepped, wake_row}
 use Rattle.afs_rows.specs.States.{durable_of, BackCall, Backs, Held, ServerState}
 use Rattle.afs_rows.specs.Steps.{Begun, Step}
-use Rattle.afs_volrows.specs.FileRow.{file_admits, file_called, file_carried, file_decides, file_hears, file_in, file_received, file_row, file_serves, file_start, file_volume, held_code, closed_code, unless_closed}
+use Rattle.afs_volrows.specs.FileRow.{file_admits, file_carried, file_decides, file_hears, file_in, file_received, file_row, file_serves, file_start, file_volume, closed_code, unless_closed}
 use Rattle.afs_walks.specs.Sends.{AdmittedIs, FileIs, FileMakes, HeldAre, HeldIs, IsTo, SeatsAre}
 use Rattle.afs_walks.proofs.Seats.{admitted_is, all_filter, all_more, placed_is, seated_is}
 

@@ -1,5 +1,5 @@
 -- The steps of the location database: what it sends and keeps stays P, where what it makes is.
-use Rattle.std.proofs.Common.{◌≡◌, ℕ, Bool, true, false, cond, List, [], ◌∷◌, Option, Some, None, refl}
+use Rattle.std.proofs.Common.{◌≡◌, ℕ, Bool, true, false, cond, Option, Some, None, refl}
 use Rattle.std.specs.Prelude.{⊤}
 use Rattle.std.specs.List.{AllByRecursion}
 use Rattle.afs_num.specs.Nodes.{same_node}
@@ -14,14 +14,13 @@ use Rattle.afs_num.specs.declared.types.Node.TheVariants.{Loc}
 use Rattle.afs_model.specs.Calls.{admitted, Admitted}
 use Rattle.afs_model.specs.Calls as pairs
 use Rattle.afs_records.specs.LocDurable.{loc_has_room}
-use Rattle.afs_rows.specs.Hosts.{at_rest, begun_from, comes_up, crashed, ends, fails_early, fails_midway, in_boot, in_step, is_full, restarted, served, served_by, set_to_fail, set_to_stop, settled, struck, Blow, Fall, HostStep, Luck, Outcome}
+use Rattle.afs_rows.specs.Hosts.{at_rest, begun_from, comes_up, crashed, ends, fails_early, fails_midway, in_boot, in_step, is_full, restarted, served, served_by, set_to_fail, set_to_stop, struck, Blow, Fall, HostStep, Luck, Outcome}
 use Rattle.afs_rows.specs.LocRow.{admits, decided, drops, hears, loc_decides, loc_durable_of, loc_left, loc_op, loc_record_of, loc_saved, loc_sent, refuses, repeats, reply_to, runs_carried, saves, shows, tells_boot, LocChange, LocDecision, LocResult, LocState}
 use Rattle.afs_rows.specs.LocRow as row
 use Rattle.afs_rows.specs.LocSteps.{loc_begun_after, loc_kind, loc_row, loc_start_row, LocHost}
-use Rattle.afs_rows.specs.ServerRow.{no_room, not_served, refusal}
-use Rattle.afs_rows.specs.States.{Seat}
+use Rattle.afs_rows.specs.ServerRow.{no_room, not_served}
 use Rattle.afs_rows.specs.Steps.{Begun}
-use Rattle.afs_walks.specs.Sends.{AdmittedIs, AnswersAre, IsTo, KeptIs, LocIs, LocMakes, SeatsAre}
+use Rattle.afs_walks.specs.Sends.{AdmittedIs, AnswersAre, IsTo, LocIs, LocMakes, SeatsAre}
 use Rattle.afs_walks.proofs.Seats.{admitted_is, any_seats, placed_is, seated_is}
 
 -- ---- what it decides: on a call to it, or with a kept reply

@@ -1,27 +1,19 @@
 -- Where the answers lead an act: from each place to those that may come behind it. What holds of all these holds behind every answer.
 use Rattle.std.proofs.Common.{◌≡◌, refl, ℕ, Bool, true, false, cond, zero, suc, List, [], ◌∷◌, Option, Some, None}
-use Rattle.std.specs.Prelude.{⊤, nat_eq, ◌&&◌, ◌++◌, map, length}
+use Rattle.std.specs.Prelude.{⊤, nat_eq, ◌++◌}
 use Rattle.std.specs.List.{list_any}
-use Rattle.afs_num.specs.Names.{volume_name_ok}
-use Rattle.afs_num.specs.declared.location_calls.LocEntry.{LocEntry}
 use Rattle.afs_num.specs.declared.location_calls.LocReply.TheVariants as entries
 use Rattle.afs_num.specs.declared.messages.Reply.{Reply}
 use Rattle.afs_num.specs.declared.messages.Reply.TheVariants as tell
 use Rattle.afs_num.specs.declared.types.Code.{Code}
-use Rattle.afs_num.specs.declared.volume_calls.ListedVolume.{ListedVolume}
 use Rattle.afs_num.specs.declared.volume_calls.VolReply.TheVariants as volumes
-use Rattle.afs_history.specs.declared.scripts.AdminAct.{AdminAct}
-use Rattle.afs_history.specs.declared.scripts.AdminAct.TheVariants as acts
-use Rattle.afs_adminrows.specs.Acts.{answered, begins_with, can_go_on, goes_on, locked, refused}
-use Rattle.afs_adminrows.specs.Asks.{all_servers, home}
-use Rattle.afs_adminrows.specs.Copying.{backup_answered, dump_answered, dumps_on, has_room, clones_or_renews, adds, add_answered}
-use Rattle.afs_adminrows.specs.Creating.{create_answered, create_refused, dump_in, enters_not, fills_on, fills_or_closes, scraps_by}
-use Rattle.afs_adminrows.specs.Entries.{has_read_only_at, is_usable}
-use Rattle.afs_adminrows.specs.Moving.{move_answered, moved_off, moves_to, plan_answered}
-use Rattle.afs_adminrows.specs.Recovering.{drops_others, entry_answered, mend_answered, mend_of, mended, mends_on, opens_or_frees, takes_copies}
-use Rattle.afs_adminrows.specs.Releasing.{goes_to, is_listed, numbers, reaches, release_answered, releases_lock, site_fails, site_fails_open, skips, takes_or_makes, tour_answered, tour_of, tour_refused, tours_on, visit_answered, visit_refused}
+use Rattle.afs_adminrows.specs.Copying.{backup_answered, dump_answered, has_room}
+use Rattle.afs_adminrows.specs.Creating.{create_answered, create_refused, dump_in, fills_or_closes}
+use Rattle.afs_adminrows.specs.Moving.{move_answered}
+use Rattle.afs_adminrows.specs.Recovering.{drops_others, mend_answered, mended, opens_or_frees, takes_copies}
+use Rattle.afs_adminrows.specs.Releasing.{goes_to, is_listed, release_answered, skips, tour_answered, visit_answered, visit_refused}
 use Rattle.afs_adminrows.specs.Removing.{others_of, remove_answered, sweep_answered, sweeps}
-use Rattle.afs_adminrows.specs.Surveying.{survey_answered, survey_refused, surveys, surveys_all}
+use Rattle.afs_adminrows.specs.Surveying.{survey_refused}
 use Rattle.afs_adminrows.specs.Turns.{code_or, fails, fine, is_dead, not_there, is_superseded, is_unlisted, mend_fails, seek_fails}
 use Rattle.afs_dumps.specs.Streams.{is_last_at}
 use Rattle.afs_volrows.specs.VolRow.{most_piece}
@@ -59,7 +51,6 @@ use Rattle.afs_adminrows.specs.declared.places.Touring.TheVariants as touring
 use Rattle.afs_adminrows.specs.declared.places.Trip.{Trip}
 use Rattle.afs_adminrows.specs.declared.places.Visiting.{Visiting}
 use Rattle.afs_adminrows.specs.declared.places.Visiting.TheVariants as visiting
-use Rattle.afs_adminrows.specs.declared.turns.Errand.{Errand}
 use Rattle.afs_adminrows.specs.declared.turns.Turn.{Turn}
 use Rattle.afs_adminrows.specs.declared.turns.Turn.TheVariants as turns
 

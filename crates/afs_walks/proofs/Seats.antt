@@ -1,5 +1,5 @@
 -- Kept replies: what is asked of all of them goes on, and the one that is sent again has it.
-use Rattle.std.proofs.Common.{◌≡◌, ℕ, zero, suc, Bool, true, false, cond, List, [], ◌∷◌, ◌++◌, Option, Some, None, refl, subst, nat_eq, nat_lt}
+use Rattle.std.proofs.Common.{◌≡◌, ℕ, zero, suc, Bool, true, false, List, [], ◌∷◌, ◌++◌, Option, Some, None, subst, nat_eq, nat_lt}
 use Rattle.std.specs.Prelude.{⊤, filter, if◌then◌else◌}
 use Rattle.std.specs.List.{AllByRecursion}
 use Rattle.afs_num.specs.Nodes.{node_number, same_node}

@@ -1,23 +1,19 @@
 -- Each message says of itself that it is of the node that sent it.
-use Rattle.std.proofs.Common.{◌≡◌, ℕ, ℤ, Bool, true, false, cond, List, [], ◌∷◌, Option, Some, None, refl, sym, subst}
+use Rattle.std.proofs.Common.{◌≡◌, ℕ, Bool, true, false, cond, List, [], ◌∷◌, refl, subst}
 use Rattle.std.specs.Prelude.{⊤}
 use Rattle.std.specs.List.{AllByRecursion}
 use Rattle.afs_num.specs.declared.histories.Actor.{Actor}
 use Rattle.afs_num.specs.declared.histories.Actor.TheVariants as actors
 use Rattle.afs_num.specs.declared.messages.Message.{Message}
-use Rattle.afs_num.specs.declared.messages.Received.TheVariants.{Whole}
 use Rattle.afs_num.specs.declared.types.Head.{Head}
 use Rattle.afs_num.specs.declared.types.Node.{Node}
 use Rattle.afs_num.specs.declared.types.Node.TheVariants.{Admin, Client, Loc, Server}
 use Rattle.afs_ideal.specs.Operations.{is_number}
 use Rattle.afs_model.proofs.Basics.{same_node-true}
-use Rattle.afs_records.specs.Durable.{Durable}
-use Rattle.afs_rows.specs.LocRow.{LocState}
 use Rattle.afs_rows.specs.Runs.{Entry}
-use Rattle.afs_volrows.specs.VolStates.{Sending, VolState}
-use Rattle.afs_volrows.specs.VolSteps.{forward_reply}
+use Rattle.afs_volrows.specs.VolStates.{Sending}
 use Rattle.afs_walks.specs.Messages.{AreSent, HaveSenders, IsOf, Rules, SendersAreTold}
-use Rattle.afs_walks.specs.Sends.{AnswersAre, FileMakes, IsTo, SentBy, SentIs, ServerMakes}
+use Rattle.afs_walks.specs.Sends.{AnswersAre, FileMakes, IsTo, SentBy}
 use Rattle.afs_walks.proofs.AllMessages.{are_sent}
 use Rattle.afs_walks.proofs.LocSends.{loc_makes_any}
 use Rattle.afs_walks.proofs.VolDecides.{makes_any}

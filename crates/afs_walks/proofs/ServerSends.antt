@@ -1,5 +1,5 @@
 -- The steps of a server node: what it sends and keeps stays P, where what it makes is.
-use Rattle.std.proofs.Common.{◌≡◌, ℕ, ◌+◌, Bool, true, false, cond, List, [], Option, Some, None, refl, sym, subst}
+use Rattle.std.proofs.Common.{ℕ, ◌+◌, Bool, true, false, Option, Some, None}
 use Rattle.std.specs.Prelude.{⊤}
 use Rattle.std.specs.List.{AllByRecursion}
 use Rattle.afs_num.specs.declared.messages.Message.{Message}
@@ -15,7 +15,7 @@ use Rattle.afs_volrows.specs.VolRow.{holds_of}
 use Rattle.afs_volrows.specs.VolStates.{NodeState, PieceCall, Sending}
 use Rattle.afs_volrows.specs.VolSteps as vols
 use Rattle.afs_volrows.specs.VolSteps.{dispatches, from_of, is_of_client, node_file_decides, replies_to, vol_begun_after, vol_decides, VolDecision}
-use Rattle.afs_walks.specs.Sends.{FileIs, FileMakes, NodeIs, SeatsAre, ServerMakes, VolIs, VolMakes}
+use Rattle.afs_walks.specs.Sends.{FileIs, FileMakes, NodeIs, ServerMakes, VolIs, VolMakes}
 use Rattle.afs_walks.proofs.FileSends.{either_file, file_begins}
 use Rattle.afs_walks.proofs.Seats.{placed_is}
 use Rattle.afs_walks.proofs.VolDecides.{decides_all}

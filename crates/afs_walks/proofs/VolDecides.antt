@@ -1,5 +1,5 @@
 -- What a volume server decides: on a call to it, by what it makes for that, or with a kept reply.
-use Rattle.std.proofs.Common.{◌≡◌, ℕ, ℤ, Bool, true, false, cond, List, [], ◌∷◌, Option, Some, None, refl, nat_lt}
+use Rattle.std.proofs.Common.{◌≡◌, ℕ, ℤ, Bool, true, false, cond, Option, Some, None, refl, nat_lt}
 use Rattle.std.specs.Prelude.{⊤}
 use Rattle.afs_num.specs.Nodes.{same_node}
 use Rattle.afs_num.specs.declared.messages.Call.TheVariants as ask
@@ -17,7 +17,7 @@ use Rattle.afs_model.specs.Calls.{admitted, Admitted}
 use Rattle.afs_model.specs.Calls as pairs
 use Rattle.afs_records.specs.Durable.{has_room, stamp_of, Durable}
 use Rattle.afs_rows.specs.ServerRow.{not_served, refusal}
-use Rattle.afs_volrows.specs.VolRow.{accepted, family_of, no_more, old_stamp, refused, sends, verdict, without_family, Dispatch, Plan, Verdict}
+use Rattle.afs_volrows.specs.VolRow.{accepted, family_of, refused, sends, verdict, without_family, Dispatch, Plan, Verdict}
 use Rattle.afs_volrows.specs.VolStates.{Sending, Transaction, VolState}
 use Rattle.afs_volrows.specs.VolSteps.{deed_record, dispatches, drops, is_vol_caller, judged_by, not_written, raised_by, repeats, replies_to, same_by, same_written, saves, sending_of, tells_boot, vol_admits, vol_carried, vol_decides, vol_hears, vol_reply, written, Deed, VolDecision}
 use Rattle.afs_walks.specs.Sends.{AdmittedIs, IsTo, SeatsAre, VolIs, VolMakes}

@@ -1,6 +1,6 @@
 -- What a volume server sends, keeps and holds, and a server node of both halves.
 use Rattle.std.proofs.Common.{◌≡◌, ℕ, ℤ, ◌+◌, Bool, true, false, cond, List, [], ◌∷◌, ◌++◌, Option, Some, None, refl, sym, subst}
-use Rattle.std.specs.Prelude.{⊤, ◌&&◌, ◌||◌, not}
+use Rattle.std.specs.Prelude.{◌&&◌, ◌||◌, not}
 use Rattle.std.specs.List.{AllByRecursion}
 use Rattle.afs_num.specs.Nodes.{same_node}
 use Rattle.afs_num.specs.declared.messages.Carried.{Carried}
@@ -14,9 +14,9 @@ use Rattle.afs_history.specs.declared.lines.Line.{Line}
 use Rattle.afs_history.specs.declared.lines.Line.TheVariants as lines
 use Rattle.afs_ideal.specs.Operations.{is_number}
 use Rattle.afs_model.specs.Calls.{call_seat, finished, is_sent_again}
-use Rattle.afs_rows.specs.Callbacks.{expired, held_under, is_ready, is_seat_of, key_answered, put_at, replies_of}
+use Rattle.afs_rows.specs.Callbacks.{expired, held_under, is_ready, is_seat_of, key_answered, put_at}
 use Rattle.afs_rows.specs.ServerRow.{key_of}
-use Rattle.afs_rows.specs.States.{durable_of, BackCall, Backs, Held, Lasting, Seat, ServerState}
+use Rattle.afs_rows.specs.States.{durable_of, BackCall, Backs, Held, Lasting, ServerState}
 use Rattle.afs_rows.specs.Steps.{Begun, Step}
 use Rattle.afs_volrows.specs.FileRow.{file_row}
 use Rattle.afs_volrows.specs.VolRow.{holds_of}

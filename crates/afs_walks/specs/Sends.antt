@@ -25,7 +25,6 @@ use Rattle.afs_rows.specs.LocRow.{reply_to, LocDecision, LocState}
 use Rattle.afs_rows.specs.Runs.{Entry}
 use Rattle.afs_rows.specs.ServerRow.{boot_told, refusal, replied}
 use Rattle.afs_rows.specs.States.{BackCall, Held, Seat, ServerState}
-use Rattle.afs_rows.specs.Steps.{Step}
 use Rattle.afs_volrows.specs.VolStates.{NodeState, Sending}
 use Rattle.afs_volrows.specs.VolSteps.{dispatches, drops, forward_reply, moved_on, piece_message, repeats, replies_to, saves, sending_of, tells_boot, VolDecision}
 use Rattle.afs_runs.specs.NodeRuns.{NodeCell}

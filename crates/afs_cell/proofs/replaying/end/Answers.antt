@@ -16,12 +16,12 @@ give_back-taken-requires g c =
 
 pub returns-in-Err-clause-ends : goal.returns-in-Err-clause-ends
 returns-in-Err-clause-ends g c = λ wire start count gone told.
-    unread_of g.B.D.Disk.seen g.B.D.Disk.may_leave g.B.D.Disk.faults g.B.D.Disk.limit wire start count gone c.args.world _ _ c.args.written (disks_of c.args.world) _ (c.node_runs_are_legal.ensures, c.node_runs_end_well.ensures) (c.volumes_are_in_cell.ensures c.args.world.script c.requires.world.world.safe.cell_script) told
+    unread_of g.B.D.Disk.seen g.B.D.Disk.may_leave g.B.D.Disk.faults g.B.D.Disk.limit wire start count gone c.args.world _ _ c.args.written (disks_of c.args.world) _ told
     (rw (← c.in-Err.ensures.back) c.give_up.ensures.back) (rw (← c.in-Err.ensures.back) c.give_up.ensures.faults) c.give_up.ensures.never_falls
     (record { are = refl; standing = c.in-Err.ensures.standing }) (c.tell_none-status.ensures.written _ start count told.text) _ (c.give_up.ensures.status ∙ c.tell_none-status.ensures.status)
 
 pub returns-clause-ends : goal.returns-clause-ends
 returns-clause-ends g c = λ wire start count gone told.
-    end_of g.B.D.Disk.seen g.B.D.Disk.may_leave g.B.D.Disk.faults g.B.D.Disk.limit wire start count gone c.args.world _ _ c.args.written (disks_of c.args.world) _ (c.node_runs_are_legal.ensures, c.node_runs_end_well.ensures) (c.volumes_are_in_cell.ensures c.args.world.script c.requires.world.world.safe.cell_script) told c.in-Ok.read.0 c.in-Ok.read.1.items c.tell_left-status.result _ c.give_back-taken.result
+    end_of g.B.D.Disk.seen g.B.D.Disk.may_leave g.B.D.Disk.faults g.B.D.Disk.limit wire start count gone c.args.world _ _ c.args.written (disks_of c.args.world) _ told c.in-Ok.read.0 c.in-Ok.read.1.items c.tell_left-status.result _ c.give_back-taken.result
     c.requires.going (record { are = refl; standing = c.in-Ok.ensures.standing }) c.in-Ok.ensures.database c.in-Ok.ensures.found (rw (c.as_slice.ensures.value) at (c.tell_left-status.ensures.told _ start count told.text)) c.give_back-taken.ensures.all c.give_back-taken.ensures.quiet c.give_back-taken.ensures.cause
     c.give_back-taken.ensures.back c.give_back-taken.ensures.faults c.give_back-taken.ensures.never_falls c.returned.ensures

@@ -2,7 +2,9 @@ use Rattle.std.proofs.Common.{map, string_bytes, refl, inl}
 use Rattle.afs_command.specs.Reading.{level}
 use Rattle.afs_command.specs.Spans.{span}
 use Rattle.afs_cell.specs.Replays.{LendingLeaves, SetUpLeaves}
+use Rattle.afs_generate.specs.Generated.{generated}
 use Rattle.afs_top.proofs.Calls.{as_read, asks_replay, completes_made, completes_replayed, completes_unread, ends_made, ends_read, ends_unread, gives_script, has_form, have_form, is_few, made_isnt_early, replay_isnt_made}
+use Rattle.afs_top.proofs.Numbered.{are_numbered}
 use Rattle.afs_top.proofs.cell.cell_main.Goals as goal
 
 pub returns-in-Err-clause-ends : goal.returns-in-Err-clause-ends
@@ -19,7 +21,9 @@ replay-requires g c = record {
 pub returns-in-Ok-clause-ends : goal.returns-in-Ok-clause-ends
 returns-in-Ok-clause-ends g c =
     ends_read (map string_bytes c.args.words.now) (span (g.S.Source.left c.args.source.now) (g.S.Source.left c.script_in.new.source)) (span (g.S.Source.faults c.args.source.now) (g.S.Source.faults c.script_in.new.source)) (g.B.Bank.tells c.args.bank.now) (SetUpLeaves g.B.D.Disk.seen g.B.D.Disk.may_leave g.B.D.Disk.faults) (LendingLeaves g.B.D.Disk.seen g.B.D.Disk.faults g.B.D.Disk.limit) _ c.replay.result _ _ c.in-Ok.script
-    c.replay.ensures c.in-Ok.ensures.script (as_read (map string_bytes c.args.words.now) _ _ _ c.in-Ok-Some-Replay.ensures.form c.in-Ok-Some-Replay.field-0-is c.in-Ok-Some-Replay.field-0-0-is)
+    c.replay.ensures c.in-Ok.ensures.script
+    (c.runs_are_lawful.ensures c.in-Ok.script (c.volumes_are_in_cell.ensures c.in-Ok.script (c.scripts_are_of_cells.ensures level c.in-Ok.ensures.script.input c.in-Ok.script c.in-Ok.ensures.script.read)) (are_numbered c.in-Ok.script (c.scripts_are_of_cells.ensures level c.in-Ok.ensures.script.input c.in-Ok.script c.in-Ok.ensures.script.read)) (c.scripts_are_of_cells.ensures level c.in-Ok.ensures.script.input c.in-Ok.script c.in-Ok.ensures.script.read).servers.0)
+    (as_read (map string_bytes c.args.words.now) _ _ _ c.in-Ok-Some-Replay.ensures.form c.in-Ok-Some-Replay.field-0-is c.in-Ok-Some-Replay.field-0-0-is)
 
 pub returns-in-Ok-clause-untouched : goal.returns-in-Ok-clause-untouched
 returns-in-Ok-clause-untouched g c = λ made. absurd (replay_isnt_made (map string_bytes c.args.words.now) c.in-Ok-Some-Replay.wire c.in-Ok-Some-Replay.place (as_read (map string_bytes c.args.words.now) _ _ _ c.in-Ok-Some-Replay.ensures.form c.in-Ok-Some-Replay.field-0-is c.in-Ok-Some-Replay.field-0-0-is) made)
@@ -55,7 +59,8 @@ make_and_play-requires g c = is_few (map string_bytes c.args.words.now) c.in-Ok-
 pub returns-in-Ok-Some-Gen-clause-ends : goal.returns-in-Ok-Some-Gen-clause-ends
 returns-in-Ok-Some-Gen-clause-ends g c =
     ends_made (map string_bytes c.args.words.now) (span (g.S.Source.left c.args.source.now) (g.S.Source.left c.args.source.now)) (span (g.S.Source.faults c.args.source.now) (g.S.Source.faults c.args.source.now)) (g.B.Bank.tells c.args.bank.now) (SetUpLeaves g.B.D.Disk.seen g.B.D.Disk.may_leave g.B.D.Disk.faults)
-    (LendingLeaves g.B.D.Disk.seen g.B.D.Disk.faults g.B.D.Disk.limit) _ c.make_and_play.result c.in-Ok-Some-Gen.number (as_read (map string_bytes c.args.words.now) _ _ _ c.in-Ok-Some-Gen.ensures.form c.in-Ok-Some-Gen.field-0-is c.in-Ok-Some-Gen.field-0-0-is) refl refl c.make_and_play.ensures
+    (LendingLeaves g.B.D.Disk.seen g.B.D.Disk.faults g.B.D.Disk.limit) _ c.make_and_play.result c.in-Ok-Some-Gen.number (as_read (map string_bytes c.args.words.now) _ _ _ c.in-Ok-Some-Gen.ensures.form c.in-Ok-Some-Gen.field-0-is c.in-Ok-Some-Gen.field-0-0-is)
+    (c.runs_are_lawful.ensures (generated c.in-Ok-Some-Gen.number) (c.volumes_are_in_cell.ensures (generated c.in-Ok-Some-Gen.number) (c.generated_are_of_cells.ensures c.in-Ok-Some-Gen.number)) (are_numbered (generated c.in-Ok-Some-Gen.number) (c.generated_are_of_cells.ensures c.in-Ok-Some-Gen.number)) (c.generated_are_of_cells.ensures c.in-Ok-Some-Gen.number).servers.0) refl refl c.make_and_play.ensures
 
 pub returns-in-Ok-Some-Gen-clause-no_form : goal.returns-in-Ok-Some-Gen-clause-no_form
 returns-in-Ok-Some-Gen-clause-no_form g c =

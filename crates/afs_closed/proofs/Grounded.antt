@@ -1,0 +1,180 @@
+-- What the steps of servers ask of a cell and of the course of its acts is so behind each run.
+use Rattle.std.proofs.Common.{◌≡◌, ◌⊎◌, ◌≤◌, inl, inr, ℕ, Bool, true, false, cond, List, [], ◌∷◌, ◌++◌, Option, Some, None, refl, sym, ap, subst, ◌∙◌}
+use Rattle.std.proofs.Math.Nat.{le_trans}
+use Rattle.std.specs.Prelude.{⊤, ◌&&◌, nat_eq}
+use Rattle.afs_num.specs.declared.messages.Call.{Call}
+use Rattle.afs_num.specs.declared.messages.Call.TheVariants as ask
+use Rattle.afs_num.specs.declared.messages.Carried.{Carried}
+use Rattle.afs_num.specs.declared.messages.Carried.TheVariants as carried
+use Rattle.afs_num.specs.declared.messages.Message.{Message}
+use Rattle.afs_num.specs.declared.types.Node.{Node}
+use Rattle.afs_num.specs.declared.types.Node.TheVariants.{Admin, Server}
+use Rattle.afs_num.specs.declared.volume_calls.VolCall.{VolCall}
+use Rattle.afs_history.specs.declared.scripts.Script.{Script}
+use Rattle.afs_ideal.specs.Operations.{is_number}
+use Rattle.afs_ideal.specs.Tables.{get}
+use Rattle.afs_adminrows.specs.AdminRow.{AdminState}
+use Rattle.afs_adminrows.specs.declared.places.Cause.TheVariants as causes
+use Rattle.afs_adminrows.specs.declared.places.Place.{Place}
+use Rattle.afs_adminrows.specs.declared.places.Place.TheVariants as places
+use Rattle.afs_adminrows.specs.declared.turns.Running.{Running}
+use Rattle.afs_rows.specs.Hosts.{in_step, Fall}
+use Rattle.afs_rows.specs.Runs.{message_at}
+use Rattle.afs_volrows.specs.VolLaws.{stamp_at}
+use Rattle.afs_volrows.specs.VolStates.{Sending, Transaction}
+use Rattle.afs_runs.specs.NodeRuns.{has_host, node_moved, node_start, CellInput, NodeCell}
+use Rattle.afs_walks.specs.Messages.{AllAre, Rules}
+use Rattle.afs_walks.specs.Sends.{AnswersAre}
+use Rattle.afs_walks.proofs.AllMessages.{all_are_first, next_all}
+use Rattle.afs_walks.proofs.LocSends.{loc_makes_any}
+use Rattle.afs_walks.proofs.Seats.{found_at}
+use Rattle.afs_walks.proofs.VolDecides.{makes_any}
+use Rattle.afs_moves.specs.Accepting.{cell_behind}
+use Rattle.afs_stamps.specs.Stamps.{stored_stamp}
+use Rattle.afs_surveys.specs.Surveys.{IsStored, IsSurveyed}
+use Rattle.afs_surveys.proofs.Surveying.{surveying}
+use Rattle.afs_claims.specs.Begun.{IsAskedFor}
+use Rattle.afs_claims.proofs.Transactions.{all_get}
+use Rattle.afs_fences.specs.Claims.{Counts}
+use Rattle.afs_fences.proofs.Seated.{are_seated, IsSeated}
+use Rattle.afs_fences.proofs.Standing.{live_stamped}
+use Rattle.afs_courses.specs.Courses.{course_in, course_on, no_course, noted, question_now, Course, Question}
+use Rattle.afs_courses.proofs.Runs.{each_run}
+use Rattle.afs_numbers.specs.Numbers.{next_volume, IsNumbered, PlaceIsSound}
+use Rattle.afs_numbers.proofs.Leading.{still_place}
+use Rattle.afs_numbers.proofs.Walk.{are_apart, drawn_on}
+use Rattle.afs_closed.proofs.Aside.{has_same_hosts, stamps_rise}
+use Rattle.afs_closed.proofs.Enabled.{IsOfActs, Lives}
+
+-- ---- what acts alone ask, administrators alone send
+
+abbrev AsksOfActs : Call → Type 0
+AsksOfActs (ask.Volume call) = IsOfActs call
+AsksOfActs (ask.File call) = ⊥
+AsksOfActs (ask.Location call) = ⊥
+
+abbrev OfActs : Carried → Type 0
+OfActs (carried.Call user call) = AsksOfActs call
+OfActs (carried.Refusal code) = ⊥
+OfActs (carried.Reply reply) = ⊥
+OfActs carried.Notice = ⊥
+
+abbrev Fits : Message → Type 0
+Fits m = OfActs m.carried → (n : ℕ) × (m.head.from ≡ Admin n)
+
+one_of : (b : Bool) (x y : Message) → Fits x → Fits y → Fits (cond b x y)
+one_of true x y h k = h
+one_of false x y h k = k
+
+answers : (me : Node) (boot : ℕ) → AnswersAre Fits me boot
+answers me boot = record { notice = λ head to is. absurd is; refusal = λ head code to is. absurd is }
+
+abbrev Any : Node → Sending → Type 0
+Any n x = ⊤
+
+abbrev Made : Node → Message → Type 0
+Made n m = Fits m
+
+rules : Rules Made Any Fits
+rules = record {
+  said = λ n m h. h;
+  servers = λ i boot. record {
+    file = record { answers = answers (Server i) boot; reply = λ head reply to is. absurd is; breaks = λ n known c is. absurd is };
+    piece = λ n known number x h is. absurd is;
+    forward = λ x code h. one_of (is_number code 0) _ _ (λ is. absurd is) (λ is. absurd is);
+    moved = λ x h. tt;
+  };
+  volumes = λ i d v m q. makes_any Fits (Any (Server i)) (Server i) d v m (λ to. record { reply = λ r is. absurd is; refused = λ code is. absurd is; sends_on = λ x. tt });
+  database = λ boot. answers _ boot;
+  locations = λ s m q. loc_makes_any Fits s m (λ head reply to is. absurd is);
+  clients = λ n. record { answers = λ boot. answers _ boot; reply = λ boot head reply to is. absurd is; call = λ head user call own none is. absurd is; look = λ head user o own none is. absurd is };
+  admins = λ n boot. answers _ boot;
+  asks = λ n a r run is. (n, refl);
+}
+
+sent_led : (c : NodeCell) (xs : List CellInput) → AllAre Made Any Fits c → AllAre Made Any Fits (cell_behind c xs)
+sent_led c [] h = h
+sent_led c (x ∷ xs) h = sent_led (node_moved c x).cell xs (next_all Made Any Fits rules c h x)
+
+pub askers : (s : Script) (inputs : List CellInput) (place : ℕ) (m : Message) (user : List ℕ) (call : VolCall) → message_at (cell_behind (node_start s) inputs).sent place ≡ Some m → m.carried ≡ carried.Call user (ask.Volume call) → IsOfActs call → (n : ℕ) × (m.head.from ≡ Admin n)
+askers s inputs place m user call at is acts =
+    let c : NodeCell = cell_behind (node_start s) inputs in
+    found_at Fits place c.sent m (sent_led (node_start s) inputs (all_are_first Made Any Fits rules s)).sent at (subst OfActs (sym is) acts)
+
+-- ---- transactions
+
+counted : (o : Option Fall) → (c : NodeCell) (i : ℕ) → (c.hosts i).down ≡ o → Lives c i → Counts o
+counted None c i at live = tt
+counted (Some f) c i at (inl up) = let no : Some f ≡ None = sym at ∙ up in absurd cc
+counted (Some f) c i at (inr cut) = subst Counts (sym cut.1.down ∙ at) tt
+
+pub asked : (s : Script) (inputs : List CellInput) (i number : ℕ) (t : Transaction) → Lives (cell_behind (node_start s) inputs) i → get number ((cell_behind (node_start s) inputs).hosts i).state.vol.transactions ≡ Some t →
+    IsAskedFor (cell_behind (node_start s) inputs) i t.volume t.family t.stamp
+asked s inputs i number t live at =
+    let c : NodeCell = cell_behind (node_start s) inputs in
+    let its : IsSeated c i t.volume t.family t.stamp = all_get (λ n volume family stamp. IsSeated c i volume family stamp) 0 number (c.hosts i).state.vol.transactions t (are_seated s inputs i (counted (c.hosts i).down c i refl live)) at in its.asked
+
+pub stamped : (s : Script) (inputs : List CellInput) (i number : ℕ) (t : Transaction) → Lives (cell_behind (node_start s) inputs) i → get number ((cell_behind (node_start s) inputs).hosts i).state.vol.transactions ≡ Some t →
+    t.stamp ≡ stamp_at ((cell_behind (node_start s) inputs).hosts i).state.file t.family
+stamped s inputs i number t live at =
+    let c : NodeCell = cell_behind (node_start s) inputs in
+    all_get (λ n volume family stamp. stamp ≡ stamp_at (c.hosts i).state.file family) 0 number (c.hosts i).state.vol.transactions t (live_stamped s inputs i (counted (c.hosts i).down c i refl live)) at
+
+-- ---- what is so of the act that runs, and stays so, is so of each question
+
+behind_one : (c : NodeCell) (xs : List CellInput) (x : CellInput) → cell_behind c (xs ++ x ∷ []) ≡ (node_moved (cell_behind c xs) x).cell
+behind_one c [] x = refl
+behind_one c (y ∷ xs) x = behind_one (node_moved c y).cell xs x
+
+either : (F : Place → Type 0) (b : Bool) (q r : Question) → F q.place → F r.place → F (cond b q r).place
+either F true q r h k = h
+either F false q r h k = k
+
+noted_is : (F : Place → Type 0) (a : AdminState) (o : Option Running) (e k : ℕ) (q : Question) → F q.place → ((r : Running) → o ≡ Some r → F r.place) → F (noted a o e k q).place
+noted_is F a None e k q old new = old
+noted_is F a (Some r) e k q old new = either F (nat_eq e a.epoch && nat_eq k a.last) (question_now a r) q (new r refl) old
+
+module _ (s : Script) (F : NodeCell → Place → Type 0) where
+  abbrev ActsAre : NodeCell → Type 0
+  ActsAre c = (n : ℕ) (r : Running) → (c.admins n).running ≡ Some r → F c r.place
+
+  abbrev Inv : Course → NodeCell → Type 0
+  Inv course c = (n e k : ℕ) → F c (course n e k).place
+
+  questions_are : (inputs : List CellInput) → ((done : List CellInput) → ActsAre (cell_behind (node_start s) done)) →
+      ((done : List CellInput) (x : CellInput) (p : Place) → F (cell_behind (node_start s) done) p → F (node_moved (cell_behind (node_start s) done) x).cell p) → F (node_start s) (places.Seeks causes.Asked) → Inv (course_in s inputs) (cell_behind (node_start s) inputs)
+  questions_are inputs acts stays first =
+      each_run s Inv (λ done x stepped h n e k.
+      let c : NodeCell = cell_behind (node_start s) done in
+      let d : NodeCell = (node_moved c x).cell in
+      let new : ActsAre d = subst ActsAre (behind_one (node_start s) done x) (acts (done ++ x ∷ [])) in
+      noted_is (F d) (d.admins n) (d.admins n).running e k (course_in s done n e k) (stays done x (course_in s done n e k).place (h n e k)) (new n)) (λ n e k. first) inputs
+
+pub sound : (s : Script) (inputs : List CellInput) → IsNumbered s → (n e k : ℕ) → PlaceIsSound (next_volume (cell_behind (node_start s) inputs)) (course_in s inputs n e k).place
+sound s inputs numbered = questions_are s (λ c p. PlaceIsSound (next_volume c) p) inputs (λ done. (are_apart s done numbered).acts)
+    (λ done x p h. let c : NodeCell = cell_behind (node_start s) done in still_place (next_volume c) (next_volume (node_moved c x).cell) (drawn_on s done x numbered) p h) tt
+
+-- ---- what each server has
+
+module _ (s : Script) (inputs : List CellInput) (x : CellInput) where
+  abbrev before : NodeCell
+  before = cell_behind (node_start s) inputs
+
+  abbrev after : NodeCell
+  after = (node_moved before x).cell
+
+  still_stored : (family stamp : ℕ) (left : List ℕ) → IsStored before family stamp left → IsStored after family stamp left
+  still_stored family stamp left h i there none = le_trans (h i (sym (has_same_hosts before x i) ∙ there) none) (stamps_rise s inputs x i family)
+
+  still_surveyed : (p : Place) → IsSurveyed before p → IsSurveyed after p
+  still_surveyed (places.Surveys h why server left seen) all = still_stored _ h.stamp (server ∷ left) all
+  still_surveyed (places.Plans h target) all = still_stored _ h.stamp [] all
+  still_surveyed (places.Moves m step) all = still_stored _ m.hold.stamp [] all
+  still_surveyed (places.Removes h seen step) all = still_stored _ h.stamp [] all
+  still_surveyed (places.Sweeps h spot left step) all = still_stored _ h.stamp [] all
+  still_surveyed (places.Asks cause h seen) all = still_stored _ h.stamp [] all
+  still_surveyed (places.Mends m step) all = still_stored m.volume m.stamp [] all
+  still_surveyed p all = tt
+
+pub surveyed : (s : Script) (inputs : List CellInput) (n e k : ℕ) → IsSurveyed (cell_behind (node_start s) inputs) (course_in s inputs n e k).place
+surveyed s inputs = questions_are s IsSurveyed inputs (λ done. (surveying s done).acts) (λ done x p h. still_surveyed s done x p h) tt

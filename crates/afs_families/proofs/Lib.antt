@@ -1,0 +1,11 @@
+pub mod Making
+pub mod Volumes
+pub mod Verdicts
+pub mod Turns
+pub mod Starting
+pub mod Walk
+pub mod Sites
+pub mod Entries
+pub mod FirstEntries
+pub mod Opening
+pub mod Enabling

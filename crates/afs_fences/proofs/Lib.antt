@@ -1,0 +1,12 @@
+pub mod Live
+pub mod Seated
+pub mod Knowing
+pub mod Telling
+pub mod Rising
+pub mod Serving
+pub mod Claiming
+pub mod Makers
+pub mod Standing
+pub mod Owning
+pub mod Fencing
+pub mod Shutting

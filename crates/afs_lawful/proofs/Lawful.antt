@@ -1,0 +1,33 @@
+-- Every run is lawful, as each law says it for itself.
+use Rattle.afs_answers.proofs.Walk.{have_causes}
+use Rattle.afs_closed.proofs.Accepts.{accepts_at_one}
+use Rattle.afs_closed.proofs.Closing.{closed}
+use Rattle.afs_holds.proofs.Walk.{have_owners}
+use Rattle.afs_idle.proofs.Shut.{idle_ends, idle_legal}
+use Rattle.afs_keys.proofs.Walk.{in_order}
+use Rattle.afs_moves.proofs.Walk.{accepted_as_told, lines_stand_well}
+use Rattle.afs_runs.proofs.Plain.{node_runs_end, node_runs_legal}
+use Rattle.afs_stamps.proofs.ToldWalk.{entries_are_told}
+use Rattle.afs_surveys.proofs.OldCalls.{past_vain}
+use Rattle.afs_surveys.proofs.Surveying.{surveys_stored}
+use Rattle.afs_walks.proofs.Senders.{senders_are_told}
+use Rattle.afs_lawful.specs.Lawful.{RunsAreLawful}
+
+pub lawful : RunsAreLawful
+lawful s in_cell numbered some inputs history end leads = record {
+  accepted = accepted_as_told s inputs history end leads;
+  stand = lines_stand_well s inputs history end leads;
+  alone = accepts_at_one closed s inputs history end numbered some leads;
+  locked = entries_are_told.locks s inputs history end leads;
+  located = entries_are_told.sites s inputs history end leads;
+  senders = senders_are_told s inputs history end leads;
+  owners = have_owners s inputs history end leads;
+  once = in_order s inputs;
+  past = past_vain s inputs history end leads;
+  surveyed = surveys_stored s inputs;
+  caused = have_causes s inputs history end leads;
+  legal = λ none. node_runs_legal s history end in_cell none (record { inputs = inputs; leads = leads });
+  well = λ none. node_runs_end s history end in_cell none (record { inputs = inputs; leads = leads });
+  idle = λ idle. idle_legal s history end in_cell idle (record { inputs = inputs; leads = leads });
+  idle_well = λ idle. idle_ends s history end in_cell idle (record { inputs = inputs; leads = leads });
+}
