@@ -5,7 +5,7 @@ ghost use Rattle.afs_disk.specs.Banks.{counted};
 ghost use Rattle.afs_disk.specs.Disk.{Rose};
 ghost use Rattle.afs_lending.specs.Lending.{all_kept, lends, with_faults, AreLent, AreUnused, GivesBackBut, GoBack, LendsSome, LentTell, OneGoesBack};
 
-use afs_disk::{Bank, Disks, LendFault, Lent, Place};
+use afs_disk::{Bank, Disk, Disks, LendFault, Lent, Place};
 use afs_final::{Left, disk_in};
 use afs_num::devices::Failed;
 use afs_volstore::VolStore;
@@ -20,6 +20,23 @@ fn put_last<T>(all: &mut Vec<T>, one: T)
     match all.push(one) {
         Ok(()) => {}
         Err(_) => unreachable!(),
+    }
+}
+
+/// Up to which length a disk makes room when it is lent.
+const FIRST: u64 = 4_194_304;
+
+/// A disk that was lent, with room for its first bytes. One in memory would else move its bytes as they grow, and have them twice
+/// meanwhile; room takes no memory from others before it is written to. Where there is none it goes without, as each write asks for its own.
+fn with_room<D: Disk>(disk: D, capacity: u32) -> D
+    ensures seen { D.seen result ≡ D.seen disk }
+    ensures faults { D.faults result ≡ D.faults disk }
+    ensures limit { D.limit result ≡ D.limit disk }
+{
+    let mut disk = disk;
+    match disk.room((capacity as u64).min(FIRST), 0) {
+        Ok(()) => disk,
+        Err(_) => disk,
     }
 }
 
@@ -59,7 +76,13 @@ pub fn lend_all<B: Bank<D: Drop>>(
     for before in 0..count {
         let node = first + before;
         match bank.lend(place, node, capacity as u64) {
-            Ok(disk) => put_last(&mut disks, Lent { node, disk }),
+            Ok(disk) => put_last(
+                &mut disks,
+                Lent {
+                    node,
+                    disk: with_room(disk, capacity),
+                },
+            ),
             Err(fault) => return Err((fault, Disks::from_vec(disks))),
         }
     }
