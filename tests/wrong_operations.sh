@@ -5,8 +5,8 @@
 # crate afs_dumps in the same way, by tests/wrong_dumps; WRONG=fold and WRONG=volrows try the records and the rows of a volume server
 # (crates afs_fold and afs_volrows), by tests/wrong_fold and tests/wrong_volrows; WRONG=adminrows tries the acts of administrators (crate
 # afs_adminrows) by tests/wrong_adminrows, and WRONG=copyrows clients of read-only volumes (crate afs_copyrows) by tests/wrong_copyrows.
-# WRONG=walks, moves, stamps, keys, holds, courses, grips, surveys, claims, families, numbers, fences, brought, closed and answers try laws on runs with
-# administrators: each those of the crate of that name (walks those of afs_walks), by tests/wrong_walks and so on.
+# WRONG=walks, moves, stamps, keys, latest, owed, holds, courses, grips, surveys, claims, families, numbers, fences, brought, closed, enabling, recovered, vanishing and answers try
+# laws on runs with administrators: each those of the crate of that name (walks those of afs_walks), by tests/wrong_walks and so on.
 # Run it when the definitions or the rows have changed. It takes some 15 s an edit, so it is no part of the gate. With NAMEs it
 # tries these alone. All is done in a copy: the repository stays as it is.
 #
@@ -30,6 +30,8 @@ case ${WRONG:-operations} in
     moves) changed_crate=afs_moves edits=tests/wrong_moves law=lines_stand_well ;;
     stamps) changed_crate=afs_stamps edits=tests/wrong_stamps law=entries_are_told ;;
     keys) changed_crate=afs_keys edits=tests/wrong_keys law=calls_run_in_order ;;
+    owed) changed_crate=afs_owed edits=tests/wrong_owed law=quits_are_late ;;
+    latest) changed_crate=afs_latest edits=tests/wrong_latest law=changes_are_later ;;
     walks) changed_crate=afs_walks edits=tests/wrong_walks law=senders_are_told ;;
     holds) changed_crate=afs_holds edits=tests/wrong_holds law=stamps_have_owners ;;
     surveys) changed_crate=afs_surveys edits=tests/wrong_surveys law=surveys_are_stored ;;
@@ -42,7 +44,10 @@ case ${WRONG:-operations} in
     fences) changed_crate=afs_fences edits=tests/wrong_fences law=claims_are_true ;;
     brought) changed_crate=afs_brought edits=tests/wrong_brought law=stamps_are_brought ;;
     closed) changed_crate=afs_closed edits=tests/wrong_closed law=a_volume_accepts_at_one_server ;;
-    *) echo 'WRONG is operations, dumps, fold, volrows, adminrows, copyrows, walks, moves, stamps, keys, holds, courses, grips, surveys, claims, families, numbers, fences, brought, closed or answers'; exit 1 ;;
+    enabling) changed_crate=afs_enabling edits=tests/wrong_enabling law=volumes_are_enabled_alone ;;
+    recovered) changed_crate=afs_recovered edits=tests/wrong_recovered law=recoveries_end_alone ;;
+    vanishing) changed_crate=afs_vanishing edits=tests/wrong_vanishing law=a_volume_is_deleted_elsewhere ;;
+    *) echo 'WRONG is operations, dumps, fold, volrows, adminrows, copyrows, walks, moves, stamps, keys, latest, owed, holds, courses, grips, surveys, claims, families, numbers, fences, brought, closed, enabling, recovered, vanishing or answers'; exit 1 ;;
 esac
 
 work=$(mktemp -d)

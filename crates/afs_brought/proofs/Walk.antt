@@ -21,7 +21,7 @@ use Rattle.afs_history.specs.declared.scripts.Script.{Script}
 use Rattle.afs_adminrows.specs.AdminRow.{admin_begin_row, admin_reborn, admin_row, admin_timeout_row, ask_head, ask_of, AdminState}
 use Rattle.afs_ideal.specs.Operations.{is_number}
 use Rattle.afs_ideal.specs.Tables.{get}
-use Rattle.afs_law.proofs.Basics.{at_more, at_put}
+use Rattle.afs_law.proofs.Basics.{at_more}
 use Rattle.afs_records.specs.Durable.{or_zero}
 use Rattle.afs_rows.specs.Callbacks.{put}
 use Rattle.afs_rows.specs.Hosts.{at_rest, begun_from, comes_up, crashed, ends, fails_early, fails_midway, in_boot, in_step, is_full, restarted, served, served_by, set_to_fail, set_to_stop, settled, struck, Blow, Fall, HostStep, Luck, Outcome}
@@ -44,6 +44,7 @@ use Rattle.afs_runs.specs.NodeRuns.{admin_falls, admin_moves, admin_rises, clien
 use Rattle.afs_walks.specs.Kinds.{IsGiven}
 use Rattle.afs_walks.specs.Sends.{AnswersAre, AsksIs, CellIs, ClientMakes, HeldIs, LocIs, LocMakes, NodeIs, SeatsAre, ServerMakes, VolMakes}
 use Rattle.afs_walks.proofs.AdminSends.{admin_begun, admin_given, admin_late, AdminSends}
+use Rattle.afs_walks.proofs.AllMessages.{all_put}
 use Rattle.afs_walks.proofs.CopySends.{client_begun, client_given, client_late, client_seek_late, CopySends}
 use Rattle.afs_walks.proofs.EachKind.{each}
 use Rattle.afs_walks.proofs.LocSends.{loc_crashed, loc_fail_set, loc_makes_any, loc_restarted, loc_served, loc_stop_set, LocCutMakes, LocSends}
@@ -198,9 +199,6 @@ weaker_node P Q S T s more on h = record {
   held = weaker_all (HeldIs P) (HeldIs Q) s.vol.held (λ x k. more x.reply k) h.held;
   sendings = λ n. weaker_all S T (s.vol.sendings n) on (h.sendings n);
 }
-
-all_put : {A : Type 0} (n : ℕ) (P : ℕ → A → Type 0) (x : A) (f : ℕ → A) → P n x → ((j : ℕ) → P j (f j)) → (j : ℕ) → P j (put n x f j)
-all_put {A} n P x f h k j = at_put n j (P j) x f (λ same. subst (λ (i : ℕ). P i x) same h) (λ other. k j)
 
 module _ (c : NodeCell) (h : Brought c) where
   abbrev R : NodeMoved → Type 0

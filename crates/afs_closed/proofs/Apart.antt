@@ -31,6 +31,7 @@ use Rattle.afs_stamps.specs.Told.{entries_in}
 use Rattle.afs_families.specs.Entries.{AreApart, AreKeyed}
 use Rattle.afs_families.proofs.Entries.{call_apart, found_own, LeavesApart, WritesOwn}
 use Rattle.afs_families.proofs.FirstEntries.{first_apart}
+use Rattle.afs_surveys.proofs.Rising.{one_more}
 use Rattle.afs_courses.specs.Courses.{ask_in, course_in, Course, IsOnCourse, Question}
 use Rattle.afs_courses.proofs.Walk.{are_on_course}
 use Rattle.afs_grips.specs.Grips.{AreGripped}
@@ -41,10 +42,6 @@ use Rattle.afs_numbers.specs.Numbers.{next_volume, IsNumbered, PlaceIsSound}
 use Rattle.afs_closed.proofs.Changing.{changes, Changes, IsChanged}
 use Rattle.afs_closed.proofs.Decided.{held_of}
 use Rattle.afs_closed.proofs.Grounded.{sound}
-
-cell_more : (c : NodeCell) (xs : List CellInput) (x : CellInput) → cell_behind c (xs ++ x ∷ []) ≡ (node_moved (cell_behind c xs) x).cell
-cell_more c [] x = refl
-cell_more c (y ∷ xs) x = cell_more (node_moved c y).cell xs x
 
 module _ (s : Script) (inputs : List CellInput) where
   abbrev c : NodeCell
@@ -97,14 +94,14 @@ Apart s inputs = AreApart (entries_in (cell_behind (node_start s) inputs))
 
 led : (s : Script) (done xs : List CellInput) → Apart s done → Apart s (done ++ xs)
 led s done [] h = subst (Apart s) (sym (append-nil done)) h
-led s done (x ∷ xs) h = subst (Apart s) (append_assoc done (x ∷ []) xs) (led s (done ++ x ∷ []) xs (subst (λ (y : NodeCell). AreApart (entries_in y)) (sym (cell_more (node_start s) done x)) (next s done x h)))
+led s done (x ∷ xs) h = subst (Apart s) (append_assoc done (x ∷ []) xs) (led s (done ++ x ∷ []) xs (subst (λ (y : NodeCell). AreApart (entries_in y)) (sym (one_more (node_start s) done x)) (next s done x h)))
 
 pub all_apart : (s : Script) (inputs : List CellInput) → AreApart (entries_in (cell_behind (node_start s) inputs))
 all_apart s inputs = led s [] inputs (first_apart s.volumes)
 
 -- ---- an entry that an act looks up
 
-some_number : (n : ℕ) → 1 ≤ n → nat_eq n 0 ≡ false
+pub some_number : (n : ℕ) → 1 ≤ n → nat_eq n 0 ≡ false
 some_number n low = grind (arith, nat_tests, low)
 
 pub not_zero : (s : Script) (inputs : List CellInput) → IsNumbered s → (n e k : ℕ) (cause : Cause) (h : Hold) (seen : List Seen) → (course_in s inputs n e k).place ≡ places.Asks cause h seen → nat_eq (family h) 0 ≡ false

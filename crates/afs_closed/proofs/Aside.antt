@@ -3,34 +3,18 @@ use Rattle.std.proofs.Common.{◌≡◌, ◌⊎◌, ◌≤◌, ◌<◌, inl, inr
 use Rattle.std.specs.Prelude.{is_some}
 use Rattle.afs_history.specs.declared.scripts.Script.{Script}
 use Rattle.afs_ideal.specs.Tables.{get, Table}
-use Rattle.afs_law.proofs.Basics.{at_put}
 use Rattle.afs_records.specs.LocRecords.{Listed}
-use Rattle.afs_rows.specs.Hosts.{HostStep}
-use Rattle.afs_volrows.specs.NodeHosts.{NodeHost}
-use Rattle.afs_volrows.specs.VolStates.{NodeState}
-use Rattle.afs_runs.specs.NodeRuns.{has_host, node_moved, node_start, placed, CellInput, NodeCell, NodeMoved}
-use Rattle.afs_walks.proofs.EachKind.{any_admin, any_client, any_database, any_server, each}
-use Rattle.afs_moves.specs.Accepting.{cell_behind, serves, serves_at}
+use Rattle.afs_runs.specs.NodeRuns.{has_host, node_moved, node_start, CellInput, NodeCell}
+use Rattle.afs_moves.specs.Accepting.{cell_behind, serves_at}
 use Rattle.afs_stamps.specs.Stamps.{stored_stamp}
 use Rattle.afs_stamps.specs.Told.{entries_in, stamp_in}
-use Rattle.afs_stamps.proofs.Walk.{never_fall}
 use Rattle.afs_families.specs.Enables.{IsEnable}
 use Rattle.afs_families.proofs.Enabling.{are_asked}
+use Rattle.afs_surveys.proofs.Rising.{same_count, stamps_rise}
 use Rattle.afs_closed.specs.Knows.{lock_at, site_at, site_by, HasLost, IsOver, IsShutAt}
 use Rattle.afs_closed.proofs.Keeping.{IsMild}
 
 -- ---- what is over stays so
-
--- the cell has the servers that it had
-same_count : (c : NodeCell) (x : CellInput) → (node_moved c x).cell.host_count ≡ c.host_count
-same_count c x = each (λ (m : NodeMoved). m.cell.host_count ≡ c.host_count) c (record {
-  void = refl;
-  ticks = λ n. refl;
-  servers = any_server (λ (m : NodeMoved). m.cell.host_count ≡ c.host_count) c (λ i s. refl);
-  database = any_database (λ (m : NodeMoved). m.cell.host_count ≡ c.host_count) c (λ s. refl);
-  clients = any_client (λ (m : NodeMoved). m.cell.host_count ≡ c.host_count) c (λ n s. refl) (λ n. refl) (λ n. refl);
-  admins = any_admin (λ (m : NodeMoved). m.cell.host_count ≡ c.host_count) c (λ n s. refl) (λ n. refl) (λ n. refl);
-}) x
 
 has_same : (c d : NodeCell) (i : ℕ) → d.host_count ≡ c.host_count → has_host d i ≡ has_host c i
 has_same c d zero count = refl
@@ -39,17 +23,8 @@ has_same c d (suc i) count = rw count refl
 pub has_same_hosts : (c : NodeCell) (x : CellInput) (i : ℕ) → has_host (node_moved c x).cell i ≡ has_host c i
 has_same_hosts c x i = has_same c (node_moved c x).cell i (same_count c x)
 
-one_more : (c : NodeCell) (xs : List CellInput) (x : CellInput) → cell_behind c (xs ++ x ∷ []) ≡ (node_moved (cell_behind c xs) x).cell
-one_more c [] x = refl
-one_more c (y ∷ xs) x = one_more (node_moved c y).cell xs x
-
 below_more : (a b n : ℕ) → n < a → a ≤ b → n < b
 below_more a b n low up = omega (arith, low, up)
-
--- stamps rise in every step
-pub stamps_rise : (s : Script) (inputs : List CellInput) (x : CellInput) (i family : ℕ) → stored_stamp (cell_behind (node_start s) inputs) i family ≤ stored_stamp (node_moved (cell_behind (node_start s) inputs) x).cell i family
-stamps_rise s inputs x i family =
-    subst (λ (d : NodeCell). stored_stamp (cell_behind (node_start s) inputs) i family ≤ stored_stamp d i family) (one_more (node_start s) inputs x) (never_fall s inputs (x ∷ []) i family)
 
 pub over_stays : (s : Script) (inputs : List CellInput) (x : CellInput) (family stamp : ℕ) → IsOver (cell_behind (node_start s) inputs) family stamp → IsOver (node_moved (cell_behind (node_start s) inputs) x).cell family stamp
 over_stays s inputs x family stamp over i there =
@@ -93,10 +68,3 @@ pub rests_or_comes : (s : Script) (inputs : List CellInput) (x : CellInput) (i f
 rests_or_comes s inputs x i family none =
     let c : NodeCell = cell_behind (node_start s) inputs in
     rests_by c (node_moved c x).cell i family (serves_at (node_moved c x).cell family i) refl (λ is. are_asked s inputs x i family none is)
-
--- A server's step leaves the other servers as they were.
-pub others_same : (c : NodeCell) (i : ℕ) (s : HostStep NodeState) (j family : ℕ) → (i ≡ j → ⊥) → serves_at (placed c i s).cell family j ≡ serves_at c family j
-others_same c i s j family other = at_put i j (λ (x : NodeHost). serves_in x ≡ serves_in (c.hosts j)) s.host c.hosts (λ same. absurd (other same)) (λ apart. refl)
-  where
-    serves_in : NodeHost → Bool
-    serves_in x = serves x.state.file.lasting.volumes family

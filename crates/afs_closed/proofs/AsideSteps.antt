@@ -12,7 +12,8 @@ use Rattle.afs_closed.specs.Knows.{AreClosed, Knows}
 use Rattle.afs_closed.proofs.Aside.{is_aside, rests_or_comes}
 use Rattle.afs_closed.proofs.Enabled.{behind_on, closed_on, knows_on, Grounds}
 use Rattle.afs_closed.proofs.FencesRan.{KnowsBehind}
-use Rattle.afs_closed.proofs.Grounded.{asked, askers, sound, stamped, surveyed}
+use Rattle.afs_surveys.proofs.Asked.{places_are}
+use Rattle.afs_closed.proofs.Grounded.{asked, askers, sound, stamped}
 use Rattle.afs_closed.proofs.OneStamp.{one, some}
 
 module _ (s : Script) (inputs : List CellInput) (numbered : IsNumbered s) where
@@ -29,7 +30,7 @@ module _ (s : Script) (inputs : List CellInput) (numbered : IsNumbered s) where
       knows = knows;
       closed = closed;
       sound = sound s inputs numbered;
-      surveyed = surveyed s inputs;
+      surveyed = places_are s inputs;
       grips = grips_are_drawn s inputs;
       some = some s inputs;
       one = one s inputs;

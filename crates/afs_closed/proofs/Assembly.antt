@@ -32,7 +32,8 @@ use Rattle.afs_closed.proofs.AsideSteps.{behind_aside, closed_aside, knows_aside
 use Rattle.afs_closed.proofs.Beginning.{all_start, asked_now}
 use Rattle.afs_closed.proofs.Fencing.{FenceAt}
 use Rattle.afs_closed.proofs.FencesRan.{fenced_next, ran_more, AreFenced, KnowsBehind}
-use Rattle.afs_closed.proofs.Grounded.{surveyed}
+use Rattle.afs_surveys.proofs.Rising.{one_more}
+use Rattle.afs_surveys.proofs.Asked.{places_are}
 use Rattle.afs_closed.proofs.Keeping.{knows_stays}
 use Rattle.afs_closed.proofs.Leading.{answered_knows, first_knows, refused_knows, News}
 use Rattle.afs_closed.proofs.Mild.{leaves_all, quiet_mild}
@@ -50,10 +51,6 @@ stepped s inputs x =
     let on : On (course_in s inputs) (cell_behind (node_start s) inputs) = on_led no_course (node_start s) inputs (first_on s) in
     let g : Goes (course_in s inputs) (cell_behind (node_start s) inputs) (node_moved (cell_behind (node_start s) inputs) x) = goes (course_in s inputs) (cell_behind (node_start s) inputs) on x in
     record { before = all_on (course_in s inputs) (cell_behind (node_start s) inputs) on; asks = g.asks; stays = g.stays; up = g.up }
-
-cell_more : (c : NodeCell) (xs : List CellInput) (x : CellInput) → cell_behind c (xs ++ x ∷ []) ≡ (node_moved (cell_behind c xs) x).cell
-cell_more c [] x = refl
-cell_more c (y ∷ xs) x = cell_more (node_moved c y).cell xs x
 
 -- ---- what a step leaves alone
 
@@ -178,7 +175,7 @@ module _ (s : Script) (numbered : IsNumbered s) (Told : List CellInput → Type 
         steps = steps;
         goes = left.knows;
         stays = left.behind;
-        surveyed = surveyed s done;
+        surveyed = places_are s done;
         some = λ n e k t b at. some_fence n e k t b (course n e k).place refl at;
         none = λ n e t b at. subst (λ (q : Question). FenceAt b t q.place) ((are_numbered s done).zero_asks n e) at;
       }) h.fenced
@@ -190,7 +187,7 @@ module _ (s : Script) (numbered : IsNumbered s) (Told : List CellInput → Type 
       course_is = behind_more no_course (node_start s) done (x ∷ [])
 
       cell_is : cell more ≡ d
-      cell_is = cell_more (node_start s) done x
+      cell_is = one_more (node_start s) done x
 
       pub inv_next : Inv more
       inv_next = record {

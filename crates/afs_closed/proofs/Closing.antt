@@ -4,6 +4,7 @@ use Rattle.afs_num.specs.declared.messages.Message.{Message}
 use Rattle.afs_history.specs.declared.scripts.Script.{Script}
 use Rattle.afs_runs.specs.NodeRuns.{node_moved, node_start, CellInput, NodeCell}
 use Rattle.afs_moves.specs.Accepting.{cell_behind}
+use Rattle.afs_surveys.proofs.Rising.{one_more}
 use Rattle.afs_courses.specs.Courses.{course_in, course_on, no_course, Course}
 use Rattle.afs_courses.proofs.Walk.{behind_more}
 use Rattle.afs_numbers.specs.Numbers.{IsNumbered}
@@ -15,10 +16,6 @@ use Rattle.afs_closed.proofs.Premised.{premised, Good}
 use Rattle.afs_closed.proofs.Served.{served_left}
 use Rattle.afs_closed.proofs.Telling.{told_news}
 use Rattle.afs_closed.proofs.Told.{told_first, told_next, AreTold, Premises}
-
-cell_more : (c : NodeCell) (xs : List CellInput) (x : CellInput) → cell_behind c (xs ++ x ∷ []) ≡ (node_moved (cell_behind c xs) x).cell
-cell_more c [] x = refl
-cell_more c (y ∷ xs) x = cell_more (node_moved c y).cell xs x
 
 module _ (s : Script) (numbered : IsNumbered s) (servers : 1 ≤ s.servers) where
   abbrev pub Told : List CellInput → Type 0
@@ -45,7 +42,7 @@ module _ (s : Script) (numbered : IsNumbered s) (servers : 1 ≤ s.servers) wher
     told_on done x h left =
         let d : NodeCell = (node_moved (cell_behind (node_start s) done) x).cell in
         subst (λ (f : Course). AreTold f (cell_behind (node_start s) (done ++ x ∷ []))) (sym (behind_more no_course (node_start s) done (x ∷ [])))
-        (subst (AreTold (course_on (course_in s done) d.admins)) (sym (cell_more (node_start s) done x)) (told_next s done x (course_in s done) (Good done) (premises done x h left) h.told))
+        (subst (AreTold (course_on (course_in s done) d.admins)) (sym (one_more (node_start s) done x)) (told_next s done x (course_in s done) (Good done) (premises done x h left) h.told))
 
     pub closed_behind : (inputs : List CellInput) → AreClosed (cell_behind (node_start s) inputs)
     closed_behind inputs = (behind_all s numbered Told news served (told_first s) told_on inputs).closed

@@ -69,10 +69,6 @@ module _ (d : LocLasting) (keyed : AreKeyed d.entries) (stamp : ℕ) (R : LocCal
   Is call (row.reads reply) = ⊤
   Is call (row.changes c) = R call c
 
-  either : (call : LocCall) (b : Bool) (x y : LocResult) → Is call x → Is call y → Is call (cond b x y)
-  either call true x y h j = h
-  either call false x y h j = j
-
   unless_is : (call : LocCall) (b : Bool) (code : ℤ) (more : LocResult) → (b ≡ false → Is call more) → Is call (cond b (row.refused code) more)
   unless_is call true code more h = tt
   unless_is call false code more h = h refl
@@ -158,10 +154,3 @@ module _ (s : LocState) where
   hears_serves head (carried.Refusal code) = tt
   hears_serves head (carried.Reply reply) = tt
   hears_serves head carried.Notice = tt
-
-  -- ---- the state behind it
-
-  -- its entries are the same, or as one message's call leaves them
-  pub data Entries (b : LocState) : Type 0 where
-    same : b.lasting.entries ≡ s.lasting.entries → Entries b
-    served_so : (m : Message) (c : LocChange) → IsServed s m c → b.lasting.entries ≡ entries_after c.deed s.lasting.entries → Entries b

@@ -61,9 +61,6 @@ AreFenced course c rs = AllByRecursion (IsFenced course c) rs
 
 -- ---- a step
 
-both : (b : Bool) → b ≡ true → b ≡ false → ⊥
-both b e f = let none : true ≡ false = sym e ∙ f in absurd cc
-
 module _ (s : Script) (inputs : List CellInput) (x : CellInput) (course : Course) where
   abbrev c : NodeCell
   c = cell_behind (node_start s) inputs

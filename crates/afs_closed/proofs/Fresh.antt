@@ -40,7 +40,7 @@ use Rattle.afs_closed.proofs.Database.{each_call, Is, OfCalls}
 use Rattle.afs_closed.proofs.Decided.{set_here}
 use Rattle.afs_closed.proofs.Leading.{News}
 use Rattle.afs_closed.proofs.Stepping.{named_by, IsBeside}
-use Rattle.afs_closed.proofs.Usable.{UsableAt}
+use Rattle.afs_closed.proofs.Usable.{first_of, UsableAt}
 
 -- ---- replies that tell something, each at one kind of place
 
@@ -136,10 +136,6 @@ read_same a b e = cc
 
 listed_same : (x y : Listed) → Some x ≡ Some y → x ≡ y
 listed_same x y e = cc
-
-pub first_of : (a b : Bool) → (a && b) ≡ true → a ≡ true
-first_of true b e = refl
-first_of false b e = absurd cc
 
 usable_site : (n : LocEntry) → is_usable n ≡ true → site_of n ≡ Some (home_in n)
 usable_site n usable = named_by (site_of n) (first_of (is_some (site_of n)) _ usable)

@@ -1,7 +1,6 @@
 -- What the steps of servers ask of a cell and of the course of its acts is so behind each run.
-use Rattle.std.proofs.Common.{◌≡◌, ◌⊎◌, ◌≤◌, inl, inr, ℕ, Bool, true, false, cond, List, [], ◌∷◌, ◌++◌, Option, Some, None, refl, sym, ap, subst, ◌∙◌}
-use Rattle.std.proofs.Math.Nat.{le_trans}
-use Rattle.std.specs.Prelude.{⊤, ◌&&◌, nat_eq}
+use Rattle.std.proofs.Common.{◌≡◌, ◌⊎◌, inl, inr, ℕ, Bool, true, false, cond, List, [], ◌∷◌, Option, Some, None, refl, sym, subst, ◌∙◌}
+use Rattle.std.specs.Prelude.{⊤}
 use Rattle.afs_num.specs.declared.messages.Call.{Call}
 use Rattle.afs_num.specs.declared.messages.Call.TheVariants as ask
 use Rattle.afs_num.specs.declared.messages.Carried.{Carried}
@@ -13,16 +12,11 @@ use Rattle.afs_num.specs.declared.volume_calls.VolCall.{VolCall}
 use Rattle.afs_history.specs.declared.scripts.Script.{Script}
 use Rattle.afs_ideal.specs.Operations.{is_number}
 use Rattle.afs_ideal.specs.Tables.{get}
-use Rattle.afs_adminrows.specs.AdminRow.{AdminState}
-use Rattle.afs_adminrows.specs.declared.places.Cause.TheVariants as causes
-use Rattle.afs_adminrows.specs.declared.places.Place.{Place}
-use Rattle.afs_adminrows.specs.declared.places.Place.TheVariants as places
-use Rattle.afs_adminrows.specs.declared.turns.Running.{Running}
 use Rattle.afs_rows.specs.Hosts.{in_step, Fall}
 use Rattle.afs_rows.specs.Runs.{message_at}
 use Rattle.afs_volrows.specs.VolLaws.{stamp_at}
 use Rattle.afs_volrows.specs.VolStates.{Sending, Transaction}
-use Rattle.afs_runs.specs.NodeRuns.{has_host, node_moved, node_start, CellInput, NodeCell}
+use Rattle.afs_runs.specs.NodeRuns.{node_moved, node_start, CellInput, NodeCell}
 use Rattle.afs_walks.specs.Messages.{AllAre, Rules}
 use Rattle.afs_walks.specs.Sends.{AnswersAre}
 use Rattle.afs_walks.proofs.AllMessages.{all_are_first, next_all}
@@ -30,20 +24,16 @@ use Rattle.afs_walks.proofs.LocSends.{loc_makes_any}
 use Rattle.afs_walks.proofs.Seats.{found_at}
 use Rattle.afs_walks.proofs.VolDecides.{makes_any}
 use Rattle.afs_moves.specs.Accepting.{cell_behind}
-use Rattle.afs_stamps.specs.Stamps.{stored_stamp}
-use Rattle.afs_surveys.specs.Surveys.{IsStored, IsSurveyed}
-use Rattle.afs_surveys.proofs.Surveying.{surveying}
 use Rattle.afs_claims.specs.Begun.{IsAskedFor}
 use Rattle.afs_claims.proofs.Transactions.{all_get}
 use Rattle.afs_fences.specs.Claims.{Counts}
 use Rattle.afs_fences.proofs.Seated.{are_seated, IsSeated}
 use Rattle.afs_fences.proofs.Standing.{live_stamped}
-use Rattle.afs_courses.specs.Courses.{course_in, course_on, no_course, noted, question_now, Course, Question}
-use Rattle.afs_courses.proofs.Runs.{each_run}
+use Rattle.afs_courses.specs.Courses.{course_in}
+use Rattle.afs_courses.proofs.Runs.{questions_are}
 use Rattle.afs_numbers.specs.Numbers.{next_volume, IsNumbered, PlaceIsSound}
 use Rattle.afs_numbers.proofs.Leading.{still_place}
 use Rattle.afs_numbers.proofs.Walk.{are_apart, drawn_on}
-use Rattle.afs_closed.proofs.Aside.{has_same_hosts, stamps_rise}
 use Rattle.afs_closed.proofs.Enabled.{IsOfActs, Lives}
 
 -- ---- what acts alone ask, administrators alone send
@@ -120,61 +110,8 @@ stamped s inputs i number t live at =
     let c : NodeCell = cell_behind (node_start s) inputs in
     all_get (λ n volume family stamp. stamp ≡ stamp_at (c.hosts i).state.file family) 0 number (c.hosts i).state.vol.transactions t (live_stamped s inputs i (counted (c.hosts i).down c i refl live)) at
 
--- ---- what is so of the act that runs, and stays so, is so of each question
-
-behind_one : (c : NodeCell) (xs : List CellInput) (x : CellInput) → cell_behind c (xs ++ x ∷ []) ≡ (node_moved (cell_behind c xs) x).cell
-behind_one c [] x = refl
-behind_one c (y ∷ xs) x = behind_one (node_moved c y).cell xs x
-
-either : (F : Place → Type 0) (b : Bool) (q r : Question) → F q.place → F r.place → F (cond b q r).place
-either F true q r h k = h
-either F false q r h k = k
-
-noted_is : (F : Place → Type 0) (a : AdminState) (o : Option Running) (e k : ℕ) (q : Question) → F q.place → ((r : Running) → o ≡ Some r → F r.place) → F (noted a o e k q).place
-noted_is F a None e k q old new = old
-noted_is F a (Some r) e k q old new = either F (nat_eq e a.epoch && nat_eq k a.last) (question_now a r) q (new r refl) old
-
-module _ (s : Script) (F : NodeCell → Place → Type 0) where
-  abbrev ActsAre : NodeCell → Type 0
-  ActsAre c = (n : ℕ) (r : Running) → (c.admins n).running ≡ Some r → F c r.place
-
-  abbrev Inv : Course → NodeCell → Type 0
-  Inv course c = (n e k : ℕ) → F c (course n e k).place
-
-  questions_are : (inputs : List CellInput) → ((done : List CellInput) → ActsAre (cell_behind (node_start s) done)) →
-      ((done : List CellInput) (x : CellInput) (p : Place) → F (cell_behind (node_start s) done) p → F (node_moved (cell_behind (node_start s) done) x).cell p) → F (node_start s) (places.Seeks causes.Asked) → Inv (course_in s inputs) (cell_behind (node_start s) inputs)
-  questions_are inputs acts stays first =
-      each_run s Inv (λ done x stepped h n e k.
-      let c : NodeCell = cell_behind (node_start s) done in
-      let d : NodeCell = (node_moved c x).cell in
-      let new : ActsAre d = subst ActsAre (behind_one (node_start s) done x) (acts (done ++ x ∷ [])) in
-      noted_is (F d) (d.admins n) (d.admins n).running e k (course_in s done n e k) (stays done x (course_in s done n e k).place (h n e k)) (new n)) (λ n e k. first) inputs
+-- ---- questions
 
 pub sound : (s : Script) (inputs : List CellInput) → IsNumbered s → (n e k : ℕ) → PlaceIsSound (next_volume (cell_behind (node_start s) inputs)) (course_in s inputs n e k).place
 sound s inputs numbered = questions_are s (λ c p. PlaceIsSound (next_volume c) p) inputs (λ done. (are_apart s done numbered).acts)
     (λ done x p h. let c : NodeCell = cell_behind (node_start s) done in still_place (next_volume c) (next_volume (node_moved c x).cell) (drawn_on s done x numbered) p h) tt
-
--- ---- what each server has
-
-module _ (s : Script) (inputs : List CellInput) (x : CellInput) where
-  abbrev before : NodeCell
-  before = cell_behind (node_start s) inputs
-
-  abbrev after : NodeCell
-  after = (node_moved before x).cell
-
-  still_stored : (family stamp : ℕ) (left : List ℕ) → IsStored before family stamp left → IsStored after family stamp left
-  still_stored family stamp left h i there none = le_trans (h i (sym (has_same_hosts before x i) ∙ there) none) (stamps_rise s inputs x i family)
-
-  still_surveyed : (p : Place) → IsSurveyed before p → IsSurveyed after p
-  still_surveyed (places.Surveys h why server left seen) all = still_stored _ h.stamp (server ∷ left) all
-  still_surveyed (places.Plans h target) all = still_stored _ h.stamp [] all
-  still_surveyed (places.Moves m step) all = still_stored _ m.hold.stamp [] all
-  still_surveyed (places.Removes h seen step) all = still_stored _ h.stamp [] all
-  still_surveyed (places.Sweeps h spot left step) all = still_stored _ h.stamp [] all
-  still_surveyed (places.Asks cause h seen) all = still_stored _ h.stamp [] all
-  still_surveyed (places.Mends m step) all = still_stored m.volume m.stamp [] all
-  still_surveyed p all = tt
-
-pub surveyed : (s : Script) (inputs : List CellInput) (n e k : ℕ) → IsSurveyed (cell_behind (node_start s) inputs) (course_in s inputs n e k).place
-surveyed s inputs = questions_are s IsSurveyed inputs (λ done. (surveying s done).acts) (λ done x p h. still_surveyed s done x p h) tt

@@ -18,7 +18,7 @@ use Rattle.afs_adminrows.specs.declared.places.Purpose.{Purpose}
 use Rattle.afs_adminrows.specs.declared.places.Purpose.TheVariants as purposes
 use Rattle.afs_adminrows.specs.declared.places.Removing.{Removing}
 use Rattle.afs_adminrows.specs.declared.places.Removing.TheVariants as removing
-use Rattle.afs_closed.specs.Knows.{site_at, AreClosed, HasLost, IsAt, IsHome, IsHomeOr, IsListedOr, IsMovedOr, IsOver, IsShutAt, Knows, KnowsInCreation, KnowsInMove, KnowsInRemoval, KnowsInSurvey, OneServes}
+use Rattle.afs_closed.specs.Knows.{site_at, AreClosed, HasLost, IsAt, IsHome, IsHomeOr, IsListedOr, IsMovedOr, IsOver, IsShutAt, Knows, KnowsInCreation, KnowsInMove, KnowsInRemoval, KnowsInSurvey}
 
 -- What a step leaves of the volume for who acts on it under this stamp.
 pub record Leaves (c d : NodeCell) (volume stamp : ℕ) : Type 0 where
@@ -178,11 +178,3 @@ module _ (c d : NodeCell) (h : Hold) (target : ℕ) (m : Decides c d h target) w
   decided_move (moving.Points old) x = inl m.named
   decided_move (moving.Deletes old) x = inl m.named
   decided_move step x = inl m.named
-
--- ---- one at most
-
-some_of : (i j : ℕ) → Some i ≡ Some j → i ≡ j
-some_of i j e = cc
-
-pub one_serves : (c : NodeCell) → AreClosed c → OneServes c
-one_serves c closed volume i j at_i at_j = some_of i j (sym (closed volume i at_i) ∙ closed volume j at_j)

@@ -23,7 +23,6 @@ pub mod Stepping
 pub mod Serving
 pub mod Also
 pub mod Behind
-pub mod Beside
 pub mod Enabled
 pub mod Grounded
 pub mod OneStamp

@@ -3,7 +3,7 @@ use Rattle.std.proofs.Common.{◌≡◌, ◌⊎◌, inl, inr, ℕ, Bool, true, f
 use Rattle.std.specs.Prelude.{⊤}
 use Rattle.afs_runs.specs.NodeRuns.{NodeCell}
 use Rattle.afs_volrows.specs.NodeHosts.{NodeHost}
-use Rattle.afs_moves.specs.Accepting.{serves, serves_at}
+use Rattle.afs_moves.specs.Accepting.{serves}
 use Rattle.afs_adminrows.specs.Asks.{family}
 use Rattle.afs_adminrows.specs.declared.places.Creating.{Creating}
 use Rattle.afs_adminrows.specs.declared.places.Creating.TheVariants as creating
@@ -61,7 +61,3 @@ module _ (c d : NodeCell) (mild : (volume stamp : ℕ) → IsMild c d volume sta
 pub quiet_mild : (c d : NodeCell) → IsAside c d → d.hosts ≡ c.hosts → (volume stamp : ℕ) → IsMild c d volume stamp
 quiet_mild c d aside hosts volume stamp =
     aside_mild c d aside volume stamp (λ server rests. inl (ap (λ (f : ℕ → NodeHost). serves (f server).state.file.lasting.volumes volume) hosts ∙ rests))
-
--- a step in which nothing comes into service
-pub still_mild : (c d : NodeCell) → IsAside c d → ((volume server : ℕ) → serves_at c volume server ≡ false → serves_at d volume server ≡ false) → (volume stamp : ℕ) → IsMild c d volume stamp
-still_mild c d aside still volume stamp = aside_mild c d aside volume stamp (λ server rests. inl (still volume server rests))

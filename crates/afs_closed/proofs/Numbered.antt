@@ -9,14 +9,11 @@ use Rattle.afs_moves.specs.Accepting.{cell_behind}
 use Rattle.afs_courses.specs.Courses.{course_in, course_on, no_course, noted, question_now, Course, Question}
 use Rattle.afs_courses.proofs.Asking.{IsNew, IsOld}
 use Rattle.afs_courses.proofs.Runs.{each_run, Stepped}
+use Rattle.afs_closed.proofs.Usable.{second_of}
 
 pub record AreNumbered (course : Course) (c : NodeCell) : Type 0 where
   pub zero_asks : (n epoch : ℕ) → course n epoch 0 ≡ no_course n epoch 0
   pub runs : (n : ℕ) (r : Running) → (c.admins n).running ≡ Some r → 0 < (c.admins n).last
-
-second : (a b : Bool) → (a && b) ≡ true → b ≡ true
-second true b e = e
-second false b e = absurd cc
 
 module _ (course : Course) (c : NodeCell) (m : NodeMoved) (t : Stepped course c m) (h : AreNumbered course c) where
   above : (n : ℕ) (r : Running) → IsNew course c.sent n (c.admins n) (m.cell.admins n) r ⊎ IsOld (c.admins n) (m.cell.admins n) r → 0 < (m.cell.admins n).last
@@ -28,7 +25,7 @@ module _ (course : Course) (c : NodeCell) (m : NodeMoved) (t : Stepped course c 
   cond_zero n epoch false q never = h.zero_asks n epoch
 
   not_zero : (epoch : ℕ) (a : AdminState) → 0 < a.last → (nat_eq epoch a.epoch && nat_eq 0 a.last) ≡ true → ⊥
-  not_zero epoch a some e = let none : 0 ≡ a.last = eqb-true 0 a.last (second (nat_eq epoch a.epoch) (nat_eq 0 a.last) e) in omega (arith, some, none)
+  not_zero epoch a some e = let none : 0 ≡ a.last = eqb-true 0 a.last (second_of (nat_eq epoch a.epoch) (nat_eq 0 a.last) e) in omega (arith, some, none)
 
   zero_by : (n epoch : ℕ) (o : Option Running) → (m.cell.admins n).running ≡ o → noted (m.cell.admins n) o epoch 0 (course n epoch 0) ≡ no_course n epoch 0
   zero_by n epoch None is = h.zero_asks n epoch

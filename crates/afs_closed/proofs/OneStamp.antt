@@ -18,6 +18,7 @@ use Rattle.afs_stamps.specs.Given.{IsTheirs}
 use Rattle.afs_stamps.specs.Stamps.{next_stamp}
 use Rattle.afs_holds.proofs.PlaceStamps.{stamp_at_place}
 use Rattle.afs_holds.proofs.Walk.{all_owned, AllOwned}
+use Rattle.afs_surveys.proofs.Rising.{one_more}
 use Rattle.afs_courses.specs.Courses.{course_in, course_on, no_course, noted, question_now, AreOnCourse, Course, IsUpTo, Question, Way}
 use Rattle.afs_courses.specs.Tasks.{task_at, Task}
 use Rattle.afs_courses.proofs.Growing.{lower_up_to, still_on_way}
@@ -72,15 +73,6 @@ pub record WasAsked (course : Course) (c : NodeCell) (n e k : ℕ) : Type 0 wher
 abbrev Asked : (Place → Type 0) → Course → NodeCell → Type 0
 Asked F course c = (n e k : ℕ) → F (course n e k).place → WasAsked course c n e k
 
-behind_one : (c : NodeCell) (xs : List CellInput) (x : CellInput) → cell_behind c (xs ++ x ∷ []) ≡ (node_moved (cell_behind c xs) x).cell
-behind_one c [] x = refl
-behind_one c (y ∷ xs) x = behind_one (node_moved c y).cell xs x
-
-on_both : (a b : Bool) (q r : Question) → (a ≡ true → b ≡ true → ⊥) ⊎ ((a ≡ true) × (b ≡ true))
-on_both true true q r = inr (refl, refl)
-on_both true false q r = inl (λ x y. absurd cc)
-on_both false b q r = inl (λ x y. absurd cc)
-
 noted_by : (e k : ℕ) (a : AdminState) (r : Running) (q : Question) (x y : Bool) → nat_eq e a.epoch ≡ x → nat_eq k a.last ≡ y → (noted a (Some r) e k q ≡ q) ⊎ ((e ≡ a.epoch) × (k ≡ a.last))
 noted_by e k a r q true true here last = inr (eqb-true e a.epoch here, eqb-true k a.last last)
 noted_by e k a r q true false here last = inl (rw (here, last) refl)
@@ -104,7 +96,7 @@ module _ (s : Script) (done : List CellInput) (x : CellInput) where
   next = course_on course d.admins
 
   on_next : AreOnCourse next d
-  on_next = subst (λ (f : Course). AreOnCourse f d) (behind_more no_course (node_start s) done (x ∷ [])) (subst (AreOnCourse (course_in s (done ++ x ∷ []))) (behind_one (node_start s) done x) (are_on_course.on s (done ++ x ∷ [])))
+  on_next = subst (λ (f : Course). AreOnCourse f d) (behind_more no_course (node_start s) done (x ∷ [])) (subst (AreOnCourse (course_in s (done ++ x ∷ []))) (one_more (node_start s) done x) (are_on_course.on s (done ++ x ∷ [])))
 
   module _ (t : Stepped course c (node_moved c x)) where
     still_asked : (n e k : ℕ) → WasAsked course c n e k → WasAsked next d n e k

@@ -41,26 +41,14 @@ use Rattle.afs_closed.proofs.Ready.{ready}
 use Rattle.afs_closed.proofs.Served.{admin_of, also_stands}
 use Rattle.afs_closed.proofs.Staying.{news_stay, IsGood}
 use Rattle.afs_closed.proofs.Stepping.{Grounds}
-use Rattle.afs_closed.proofs.Told.{Premises, Waits}
+use Rattle.afs_closed.proofs.Told.{both_all, both_seats, Premises, Waits}
 use Rattle.afs_closed.proofs.Unused.{unused}
 use Rattle.afs_closed.proofs.WrittenNow.{written}
 
 -- ---- two things that are known of messages
 
-kept_both : (P Q : Message → Type 0) (o : Option Message) → KeptIs P o → KeptIs Q o → KeptIs (λ (m : Message). P m × Q m) o
-kept_both P Q None h k = tt
-kept_both P Q (Some m) h k = (h, k)
-
-seats_both : (P Q : Message → Type 0) (seats : List Seat) → SeatsAre P seats → SeatsAre Q seats → SeatsAre (λ (m : Message). P m × Q m) seats
-seats_both P Q [] h k = tt
-seats_both P Q (x ∷ xs) h k = (kept_both P Q x.reply h.0 k.0, seats_both P Q xs h.1 k.1)
-
-sent_both : (P Q : Message → Type 0) (ms : List Message) → AllByRecursion P ms → AllByRecursion Q ms → AllByRecursion (λ (m : Message). P m × Q m) ms
-sent_both P Q [] h k = tt
-sent_both P Q (x ∷ xs) h k = ((h.0, k.0), sent_both P Q xs h.1 k.1)
-
 loc_both : (P Q : Message → Type 0) (s : LocState) → LocIs P s → LocIs Q s → LocIs (λ (m : Message). P m × Q m) s
-loc_both P Q s h k = record { seats = seats_both P Q s.seats h.seats k.seats; kept = seats_both P Q s.lasting.kept h.kept k.kept }
+loc_both P Q s h k = record { seats = both_seats P Q s.seats h.seats k.seats; kept = both_seats P Q s.lasting.kept h.kept k.kept }
 
 module _ (s : Script) (done : List CellInput) where
   abbrev c : NodeCell
@@ -144,7 +132,7 @@ module _ (s : Script) (done : List CellInput) where
     premised = record {
       steps = stepped s done x;
       good_loc = loc_both Theirs Gift c.loc.state owned.kept all.kept;
-      good_sent = sent_both Theirs Gift c.sent owned.theirs all.sent;
+      good_sent = both_all Theirs Gift c.sent owned.theirs all.sent;
       stays = λ n e k r waits later m good from to epoch number reply says news. stays n e k r waits m good to epoch number reply says news;
       written = λ n e k r waits later m sent from epoch number reply now. written s done x numbered servers knows closed left n e k m sent from epoch number reply now;
     }

@@ -63,7 +63,8 @@ use Rattle.afs_grips.specs.Lines.{AreInLine, IsDrawnFor, LockIsLast}
 use Rattle.afs_grips.proofs.Walk.{all_gripped}
 use Rattle.afs_closed.specs.Knows.{lock_at, AreClosed, IsOver, Knows}
 use Rattle.afs_closed.proofs.Aside.{has_same_hosts}
-use Rattle.afs_closed.proofs.Grounded.{surveyed}
+use Rattle.afs_surveys.proofs.Rising.{one_more}
+use Rattle.afs_surveys.proofs.Asked.{places_are}
 use Rattle.afs_closed.proofs.OneStamp.{one}
 use Rattle.afs_closed.proofs.Stepping.{Agree, Grounds}
 use Rattle.afs_closed.proofs.Usable.{all_usable}
@@ -144,10 +145,6 @@ module _ (G : ℕ → ℕ → Type 0) where
 host_first : (n : ℕ) → 1 ≤ n → nat_lt 0 n ≡ true
 host_first n some = grind (arith, nat_tests, some)
 
-cell_more : (c : NodeCell) (xs : List CellInput) (x : CellInput) → cell_behind c (xs ++ x ∷ []) ≡ (node_moved (cell_behind c xs) x).cell
-cell_more c [] x = refl
-cell_more c (y ∷ xs) x = cell_more (node_moved c y).cell xs x
-
 host_led : (c : NodeCell) (xs : List CellInput) → has_host c 1 ≡ true → has_host (cell_behind c xs) 1 ≡ true
 host_led c [] h = h
 host_led c (x ∷ xs) h = host_led (node_moved c x).cell xs (has_same_hosts c x 1 ∙ h)
@@ -207,7 +204,7 @@ module _ (s : Script) (inputs : List CellInput) where
     knows = knows;
     closed = closed;
     usable = all_usable s inputs;
-    surveyed = surveyed s inputs;
+    surveyed = places_are s inputs;
     one = λ n e k i j l same some. agree (task_at (course n e k).place) (task_at (course i j l).place) (λ t u at_k at_l. one s inputs n e k i j l t u same some at_k at_l);
     not_over = not_over servers;
   }

@@ -49,6 +49,8 @@ use Rattle.afs_keys.proofs.EachRan.{each_ran, EachRan}
 use Rattle.afs_fences.specs.Claims.{Counts, IsLive}
 use Rattle.afs_fences.specs.Fences.{disk_at}
 use Rattle.afs_fences.proofs.Claiming.{claims, FellIs, IsSent}
+use Rattle.afs_families.proofs.Turns.{deed_volumes}
+use Rattle.afs_fences.proofs.Live.{counted}
 use Rattle.afs_closed.proofs.Present.{is_there}
 
 -- ---- of which header a file server's decision is
@@ -157,13 +159,6 @@ kept_done c d (r ∷ rs) h = by r.changed (kept_done c d rs h.1)
 not_both : (b : Bool) → b ≡ true → b ≡ false → ⊥
 not_both b e f = let none : true ≡ false = sym e ∙ f in absurd cc
 
-stamp_volumes : (b : Bool) (d : Durable) (ss : Table ℕ) → (cond b d (record d { stamps = ss })).volumes ≡ d.volumes
-stamp_volumes true d ss = refl
-stamp_volumes false d ss = refl
-
-deed_volumes : (head : Head) (x : Deed) (l : Lasting) → (deed_done head x l).volumes ≡ (done_by x.body (durable_of l)).volumes
-deed_volumes head x l = stamp_volumes (nat_eq x.stamp 0) (done_by x.body (durable_of l)) (set x.family x.stamp (done_by x.body (durable_of l)).stamps)
-
 module _ (c d : NodeCell) (i place : ℕ) (m : Message) (sent : message_at c.sent place ≡ Some m) (to : m.head.to ≡ Server i) (there : has_host c i ≡ true) (live : IsLive c i) where
   abbrev host : NodeHost
   host = c.hosts i
@@ -202,9 +197,6 @@ module _ (c d : NodeCell) (i place : ℕ) (m : Message) (sent : message_at c.sen
 
     server_done : (clock : ℕ) → AreDone c d (server_ran (Server i) host.state clock m)
     server_done clock = server_by (is_of_client (Some m.head.from)) clock refl
-
-counted : (o : Option Fall) → o ≡ None → Counts o
-counted o up = subst Counts (sym up) tt
 
 module _ (s : Script) (inputs : List CellInput) where
   abbrev c : NodeCell

@@ -56,10 +56,6 @@ module _ (owner : ℕ → Key) (next : ℕ) (sent : List Message) (theirs : AllB
   node_same : (n i : ℕ) → Admin n ≡ Admin i → n ≡ i
   node_same n i e = cc
 
-  pub record AreOfOne (n e i j stamp : ℕ) : Type 0 where
-    pub admin : n ≡ i
-    pub epoch : e ≡ j
-
   pub one_owner : (n e k i j l stamp : ℕ) → WasGiven sent n e k stamp → WasGiven sent i j l stamp → (n ≡ i) × ((e ≡ j) × (k ≡ l))
   one_owner n e k i j l stamp a b =
       let same = sym (owner_is n e k stamp a) ∙ owner_is i j l stamp b in

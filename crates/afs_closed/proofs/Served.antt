@@ -27,6 +27,7 @@ use Rattle.afs_numbers.proofs.Walk.{are_apart}
 use Rattle.afs_closed.specs.Knows.{AreClosed, Knows}
 use Rattle.afs_closed.proofs.Also.{also, with_own, with_place, IsAlso}
 use Rattle.afs_closed.proofs.Aside.{over_stays}
+use Rattle.afs_closed.proofs.Apart.{some_number}
 use Rattle.afs_closed.proofs.Assembly.{IsLeft}
 use Rattle.afs_closed.proofs.Behind.{behind_stands}
 use Rattle.afs_closed.proofs.Changing.{IsChanged}
@@ -37,11 +38,8 @@ use Rattle.afs_closed.proofs.Stepping.{Grounds, IsBeside, Stands}
 
 -- ---- what is known of a call that was sent
 
-not_none : (n : ℕ) → 1 ≤ n → nat_eq n 0 ≡ false
-not_none n some = grind (arith, nat_tests, some)
-
 numbered_call : (next : ℕ) (call : LocCall) → WritesSound next call → IsNumberedCall call
-numbered_call next (calls.CreateEntry e) h = not_none e.read_write h.0.0
+numbered_call next (calls.CreateEntry e) h = some_number e.read_write h.0.0
 numbered_call next call h = tt
 
 module _ (s : Script) (inputs : List CellInput) where

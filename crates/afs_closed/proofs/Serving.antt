@@ -50,9 +50,6 @@ pub record IsAskedOn (course : Course) (n : ℕ) (head : Head) (call : LocCall) 
   pub asks : (ask_in (course n head.epoch head.number)).call ≡ ask.Location call
   pub stamp : head.stamp ≡ (ask_in (course n head.epoch head.number)).stamp
 
-pub known_on : (course : Course) (c : NodeCell) (n : ℕ) (head : Head) (call : LocCall) → IsOnCourse course c.sent n (c.admins n) head (ask.Location call) → IsAskedOn course n head call
-known_on course c n head call on = record { asks = on.asks; stamp = on.stamp }
-
 -- of a call it is known who asks it: an administrator, by its course, or one who writes and deletes nothing
 abbrev pub KnownBy : Course → NodeCell → Head → LocCall → Node → Type 0
 KnownBy course c head call (Admin n) = IsAskedOn course n head call
@@ -66,10 +63,6 @@ module _ (course : Course) (c d : NodeCell) (g : Grounds course c) (b : IsBeside
 
   abbrev lasting : LocLasting
   lasting = c.loc.state.lasting
-
-  -- an entry that is made has a number
-  numbered : (e : LocEntry) (call : LocCall) → call ≡ calls.CreateEntry e → IsNumberedCall call → nat_eq e.read_write 0 ≡ false
-  numbered e call is h = subst IsNumberedCall is h
 
   module _ (n : ℕ) (head : Head) (call : LocCall) (on : IsAskedOn course n head call) where
     abbrev q : Question

@@ -41,10 +41,9 @@ use Rattle.afs_grips.specs.Lines.{IsDrawnFor}
 use Rattle.afs_closed.specs.Knows.{IsAt, IsListedOr, Knows}
 use Rattle.afs_closed.proofs.Also.{also_knows, with_place, IsAlso}
 use Rattle.afs_closed.proofs.FencesRan.{KnowsBehind}
-use Rattle.afs_closed.proofs.Fresh.{first_of}
 use Rattle.afs_closed.proofs.Leading.{FenceNews, LockNews, MadeNews, News, ReadNews, WrittenNews}
 use Rattle.afs_closed.proofs.Stepping.{Agree, Grounds, Stands}
-use Rattle.afs_closed.proofs.Usable.{IsUsable, UsableAt}
+use Rattle.afs_closed.proofs.Usable.{first_of, IsUsable, UsableAt}
 
 -- ---- a survey that hasn't asked any server
 

@@ -72,15 +72,15 @@ told_first s = record { loc = record { seats = tt; kept = tt }; sent = tt }
 abbrev IsGoodReply : (Message → Type 0) → Message → Type 0
 IsGoodReply Good m = (reply : Reply) → m.carried ≡ carried.Reply reply → m.head.from ≡ Loc → Good m
 
-both_kept : (P Q : Message → Type 0) (o : Option Message) → KeptIs P o → KeptIs Q o → KeptIs (λ (m : Message). P m × Q m) o
+pub both_kept : (P Q : Message → Type 0) (o : Option Message) → KeptIs P o → KeptIs Q o → KeptIs (λ (m : Message). P m × Q m) o
 both_kept P Q None h k = tt
 both_kept P Q (Some m) h k = (h, k)
 
-both_seats : (P Q : Message → Type 0) (seats : List Seat) → SeatsAre P seats → SeatsAre Q seats → SeatsAre (λ (m : Message). P m × Q m) seats
+pub both_seats : (P Q : Message → Type 0) (seats : List Seat) → SeatsAre P seats → SeatsAre Q seats → SeatsAre (λ (m : Message). P m × Q m) seats
 both_seats P Q [] h k = tt
 both_seats P Q (x ∷ xs) h k = (both_kept P Q x.reply h.0 k.0, both_seats P Q xs h.1 k.1)
 
-both_all : (P Q : Message → Type 0) (ms : List Message) → AllByRecursion P ms → AllByRecursion Q ms → AllByRecursion (λ (m : Message). P m × Q m) ms
+pub both_all : (P Q : Message → Type 0) (ms : List Message) → AllByRecursion P ms → AllByRecursion Q ms → AllByRecursion (λ (m : Message). P m × Q m) ms
 both_all P Q [] h k = tt
 both_all P Q (x ∷ xs) h k = ((h.0, k.0), both_all P Q xs h.1 k.1)
 

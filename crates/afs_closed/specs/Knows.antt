@@ -37,13 +37,14 @@ site_at c volume = site_by (get volume (entries_in c))
 abbrev pub lock_at : NodeCell → ℕ → Option ℕ
 lock_at c volume = stamp_in (get volume (entries_in c))
 
--- Every server has stored a higher stamp of the family than this. So no call under it changes the family any more, ever.
+-- Every server of the cell has stored a higher stamp than this of the family that has the volume's number. So no volume call in that family, under
+-- this stamp or a lower one, changes anything at a server any more. Of calls to the location database nothing is said.
 abbrev pub IsOver : NodeCell → ℕ → ℕ → Type 0
 IsOver c volume stamp = (i : ℕ) → has_host c i ≡ true → stamp < stored_stamp c i volume
 
 -- ---- what is known of the site
 
--- the database names this server, or the stamp is over
+-- the database names this server as the volume's, or the stamp is over
 abbrev pub IsAt : NodeCell → ℕ → ℕ → ℕ → Type 0
 IsAt c volume stamp server = (site_at c volume ≡ Some server) ⊎ IsOver c volume stamp
 
@@ -129,7 +130,3 @@ Knows c (places.Mends m step) = IsAt c m.volume m.stamp m.named
 -- Wherever a read-write volume is in service, the database names that server.
 abbrev pub AreClosed : NodeCell → Type 0
 AreClosed c = (volume server : ℕ) → serves_at c volume server ≡ true → site_at c volume ≡ Some server
-
--- So at every moment at most one server accepts stores of a volume.
-abbrev pub OneServes : NodeCell → Type 0
-OneServes c = (volume i j : ℕ) → serves_at c volume i ≡ true → serves_at c volume j ≡ true → i ≡ j

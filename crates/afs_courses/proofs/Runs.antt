@@ -3,7 +3,10 @@ use Rattle.std.proofs.Common.{◌≡◌, ◌⊎◌, inl, inr, ℕ, Bool, true, f
 use Rattle.std.specs.Prelude.{◌&&◌}
 use Rattle.afs_history.specs.declared.scripts.Script.{Script}
 use Rattle.afs_adminrows.specs.Acts.{refused}
+use Rattle.afs_adminrows.specs.AdminRow.{AdminState}
+use Rattle.afs_adminrows.specs.declared.places.Cause.TheVariants as causes
 use Rattle.afs_adminrows.specs.declared.places.Place.{Place}
+use Rattle.afs_adminrows.specs.declared.places.Place.TheVariants as places
 use Rattle.afs_adminrows.specs.declared.turns.Running.{Running}
 use Rattle.afs_num.specs.declared.types.Code.{Code}
 use Rattle.afs_runs.specs.NodeRuns.{node_moved, node_start, CellInput, NodeCell, NodeMoved}
@@ -54,6 +57,35 @@ module _ (s : Script) where
     pub each_run : Inv no_course (node_start s) → (inputs : List CellInput) → Inv (course_in s inputs) (behind inputs)
     each_run first inputs = each_on [] inputs (first_on s) first
 
+-- ---- what is so of the act that runs is so of each question
+
+-- of what is asked now, and of what was asked before
+noted_is : (F : Place → Type 0) (a : AdminState) (o : Option Running) (e k : ℕ) (q : Question) → F q.place → ((r : Running) → o ≡ Some r → F r.place) → F (noted a o e k q).place
+noted_is F a None e k q old new = old
+noted_is F a (Some r) e k q old new = either (nat_eq e a.epoch && nat_eq k a.last) (new r refl)
+  where
+    either : (b : Bool) → F r.place → F (cond b (question_now a r) q).place
+    either true h = h
+    either false h = old
+
+module _ (s : Script) (F : NodeCell → Place → Type 0) where
+  abbrev ActsAre : NodeCell → Type 0
+  ActsAre c = (n : ℕ) (r : Running) → (c.admins n).running ≡ Some r → F c r.place
+
+  abbrev QuestionsAre : Course → NodeCell → Type 0
+  QuestionsAre course c = (n e k : ℕ) → F c (course n e k).place
+
+  -- where it stays so, whatever comes
+  pub questions_are : (inputs : List CellInput) → ((done : List CellInput) → ActsAre (cell_behind (node_start s) done)) →
+      ((done : List CellInput) (x : CellInput) (p : Place) → F (cell_behind (node_start s) done) p → F (node_moved (cell_behind (node_start s) done) x).cell p) → F (node_start s) (places.Seeks causes.Asked) →
+      QuestionsAre (course_in s inputs) (cell_behind (node_start s) inputs)
+  questions_are inputs acts stays first =
+      each_run s QuestionsAre (λ done x stepped h n e k.
+      let c : NodeCell = cell_behind (node_start s) done in
+      let d : NodeCell = (node_moved c x).cell in
+      let new : ActsAre d = subst ActsAre (cell_more (node_start s) done x) (acts (done ++ x ∷ [])) in
+      noted_is (F d) (d.admins n) (d.admins n).running e k (course_in s done n e k) (stays done x (course_in s done n e k).place (h n e k)) (new n)) (λ n e k. first) inputs
+
 -- ---- what is known at each question
 
 -- F is asked of the place of each question: of those that were asked, of first ones, and of those that follow an answer or a refusal.
@@ -68,13 +100,5 @@ module _ (course : Course) (c : NodeCell) (m : NodeMoved) (t : Stepped course c 
   runs_is n r (inl new) = follows_is n (c.admins n).epoch (c.admins n).last (question_now (m.cell.admins n) r) new.follows
   runs_is n r (inr old) = subst (λ (q : Question). F q.place) (t.before.acts n r old.running).now (kept n (c.admins n).epoch (c.admins n).last)
 
-  cond_is : (b : Bool) (q r : Question) → F q.place → F r.place → F (cond b q r).place
-  cond_is true q r h k = h
-  cond_is false q r h k = k
-
-  noted_is : (n e k : ℕ) (o : Option Running) → (m.cell.admins n).running ≡ o → F (noted (m.cell.admins n) o e k (course n e k)).place
-  noted_is n e k None is = kept n e k
-  noted_is n e k (Some r) is = cond_is (nat_eq e (m.cell.admins n).epoch && nat_eq k (m.cell.admins n).last) (question_now (m.cell.admins n) r) (course n e k) (runs_is n r ((t.asks n).acts r is)) (kept n e k)
-
   pub asked_is : (n e k : ℕ) → F (course_on course m.cell.admins n e k).place
-  asked_is n e k = noted_is n e k (m.cell.admins n).running refl
+  asked_is n e k = noted_is F (m.cell.admins n) (m.cell.admins n).running e k (course n e k) (kept n e k) (λ r is. runs_is n r ((t.asks n).acts r is))

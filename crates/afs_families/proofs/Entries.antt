@@ -49,10 +49,6 @@ pub found_own : (test : Listed → Bool) (t : Table Listed) (l : Listed) → Are
 found_own test t l h e = let x = found_there 0 test t l h.ascends e in subst (λ (k : ℕ). get k t ≡ Some l) (sym (h.keyed x.key l x.there)) x.there
 
 -- something is found, where an entry passes
-some_by : (b : Bool) (p l : Listed) (o : Option Listed) → (o ≡ None → ⊥) → cond b (Some p) o ≡ None → ⊥
-some_by true p l o h e = absurd cc
-some_by false p l o h e = h e
-
 here_by : (c b : Bool) (p l : Listed) (q o : Option Listed) (test : Listed → Bool) → test p ≡ b → test l ≡ true → (q ≡ Some l → o ≡ None → ⊥) → cond c (Some p) q ≡ Some l → cond b (Some p) o ≡ None → ⊥
 here_by c true p l q o test is its later at e = absurd cc
 here_by true false p l q o test is its later at e = let same : p ≡ l = cc in let no : true ≡ false = sym its ∙ (ap test (sym same) ∙ is) in absurd cc

@@ -93,6 +93,3 @@ target_by false target s is = absurd cc
 pub moved_site : (target home : ℕ) (e : LocEntry) → site_of e ≡ Some home → site_of (entry_moved target e) ≡ Some target
 moved_site target home e named =
     sites_by (site_moved target) (λ (n : ℕ). target) (λ s. moved_by (is_read_write s) target s) (λ s is. target_by (is_read_write s) target s is) e.sites ∙ ap (λ (o : Option ℕ). option_map (λ (n : ℕ). target) o) named
-
-pub made_site : (name : List ℕ) (volume n : ℕ) → site_of (new_entry name volume n) ≡ Some n
-made_site name volume n = refl

@@ -40,7 +40,7 @@ use Rattle.afs_runs.specs.NodeRuns.{admin_falls, admin_moves, admin_rises, clien
 use Rattle.afs_walks.specs.Kinds.{IsGiven, IsUp}
 use Rattle.afs_walks.specs.Sends.{AnswersAre, AsksIs, CellIs, ClientMakes, FileMakes, LocIs, LocMakes, NodeIs, SeatsAre, ServerMakes, VolMakes}
 use Rattle.afs_walks.proofs.AdminSends.{admin_begun, admin_given, admin_late, AdminSends}
-use Rattle.afs_walks.proofs.AllMessages.{grows}
+use Rattle.afs_walks.proofs.AllMessages.{all_put, grows}
 use Rattle.afs_walks.proofs.CopySends.{client_begun, client_given, client_late, client_seek_late, CopySends}
 use Rattle.afs_walks.proofs.EachKind.{each}
 use Rattle.afs_walks.proofs.LocSends.{loc_crashed, loc_fail_set, loc_makes_any, loc_restarted, loc_served, loc_stop_set, LocCutMakes, LocSends}
@@ -60,9 +60,6 @@ use Rattle.afs_fences.proofs.Live.{boots_rise, numbered_on, IsNumbered}
 use Rattle.afs_fences.proofs.Rising.{begun_goes, given_goes, late_goes, AdminGoes, BootsAre}
 use Rattle.afs_fences.proofs.Serving.{decision_known, left_never, makes, row_left, LeftAs}
 use Rattle.afs_fences.proofs.Telling.{decides_fresh}
-
-all_put : {A : Type 0} (n : ℕ) (P : ℕ → A → Type 0) (x : A) (f : ℕ → A) → P n x → ((j : ℕ) → P j (f j)) → (j : ℕ) → P j (put n x f j)
-all_put {A} n P x f h k j = at_put n j (P j) x f (λ same. subst (λ (i : ℕ). P i x) same h) (λ other. k j)
 
 -- ---- a cell
 

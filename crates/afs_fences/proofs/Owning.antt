@@ -1,5 +1,5 @@
 -- Who sends calls under a stamp, of each message that a cell ever sent.
-use Rattle.std.proofs.Common.{◌≡◌, ◌⊎◌, inl, inr, ℕ, List, [], ◌∷◌, ◌++◌, Some, refl, sym, ap, subst, ◌∙◌}
+use Rattle.std.proofs.Common.{◌≡◌, inl, inr, ℕ, List, Some, refl, sym, ap, subst, ◌∙◌}
 use Rattle.std.specs.List.{AllByRecursion}
 use Rattle.afs_num.specs.declared.messages.Carried.{Carried}
 use Rattle.afs_num.specs.declared.messages.Carried.TheVariants as carried
@@ -10,34 +10,12 @@ use Rattle.afs_num.specs.declared.types.Key.{Key}
 use Rattle.afs_num.specs.declared.types.Node.{Node}
 use Rattle.afs_num.specs.declared.types.Node.TheVariants.{Admin, Client, Loc, Server}
 use Rattle.afs_history.specs.declared.scripts.Script.{Script}
-use Rattle.afs_rows.specs.Runs.{message_at, Entry}
-use Rattle.afs_runs.specs.NodeRuns.{node_moved, node_start, CellInput, NodeCell, NodeLeads}
-use Rattle.afs_walks.proofs.AllMessages.{grows}
-use Rattle.afs_walks.proofs.Seats.{all_more, found_at}
+use Rattle.afs_rows.specs.Runs.{message_at}
+use Rattle.afs_runs.specs.NodeRuns.{node_start, CellInput, NodeCell}
+use Rattle.afs_walks.proofs.Seats.{found_at}
 use Rattle.afs_moves.specs.Accepting.{cell_behind}
-use Rattle.afs_holds.specs.Owners.{AreUsed, HaveOwners, IsGivenTo, IsUsed, UsedBy, UsedIn}
-use Rattle.afs_holds.proofs.Walk.{have_owners}
-
--- the entries of these inputs
-abbrev entries_in : NodeCell → List CellInput → List Entry
-entries_in c [] = []
-entries_in c (x ∷ xs) = (node_moved c x).entry ∷ entries_in (node_moved c x).cell xs
-
-they_lead : (c : NodeCell) (xs : List CellInput) → NodeLeads c xs (entries_in c xs) (cell_behind c xs)
-they_lead c [] = refl
-they_lead c (x ∷ xs) = (refl, they_lead (node_moved c x).cell xs)
-
-abbrev AllIn : (Message → Type 0) → List Entry → Type 0
-AllIn P [] = Unit {0}
-AllIn P (e ∷ es) = AllByRecursion P e.sent × AllIn P es
-
-sent_in : (P : Message → Type 0) (c : NodeCell) (xs : List CellInput) → AllByRecursion P c.sent → AllIn P (entries_in c xs) → AllByRecursion P (cell_behind c xs).sent
-sent_in P c [] h k = h
-sent_in P c (x ∷ xs) h k = sent_in P (node_moved c x).cell xs (subst (AllByRecursion P) (sym (grows c x)) (all_more P c.sent (node_moved c x).entry.sent h k.0)) k.1
-
-used_in : (owner : ℕ → Key) (next : ℕ) (es : List Entry) → AreUsed owner next es → AllIn (IsUsed owner next) es
-used_in owner next [] h = tt
-used_in owner next (e ∷ es) h = (h.0, used_in owner next es h.1)
+use Rattle.afs_holds.specs.Owners.{IsGivenTo, IsUsed, UsedBy, UsedIn}
+use Rattle.afs_holds.proofs.Walk.{all_owned, AllOwned}
 
 -- each stamp has an owner, for each message that was sent
 pub record Owned (c : NodeCell) : Type 0 where
@@ -46,10 +24,7 @@ pub record Owned (c : NodeCell) : Type 0 where
   pub used : AllByRecursion (IsUsed owner next) c.sent
 
 pub are_owned : (s : Script) (inputs : List CellInput) → Owned (cell_behind (node_start s) inputs)
-are_owned s inputs =
-    let es : List Entry = entries_in (node_start s) inputs in
-    let k : HaveOwners es (cell_behind (node_start s) inputs) = have_owners s inputs es (cell_behind (node_start s) inputs) (they_lead (node_start s) inputs) in
-    record { owner = k.owner; next = _; used = sent_in (IsUsed k.owner _) (node_start s) inputs tt (used_in k.owner _ es k.used) }
+are_owned s inputs = let k : AllOwned (cell_behind (node_start s) inputs) = all_owned s inputs in record { owner = k.owner; next = _; used = k.used }
 
 -- ---- two calls under one stamp, of which one is an administrator's
 

@@ -51,9 +51,6 @@ pub record AdminGoes (c : NodeCell) (a : AdminState) (s : Step AdminState) : Typ
   pub rises : (a.epoch < s.state.epoch) ⊎ ((a.epoch ≡ s.state.epoch) × (a.last ≤ s.state.last))
   pub boots : BootsAre c s.state.boots
 
-one_more : (n : ℕ) → n ≤ n + 1
-one_more n = omega (arith)
-
 module _ (c : NodeCell) (me : Node) (a : AdminState) (all : BootsAre c a.boots) where
   -- it asks nothing new
   rests : (s : Step AdminState) → s.state.epoch ≡ a.epoch → s.state.last ≡ a.last → BootsAre c s.state.boots → AdminGoes c a s

@@ -12,7 +12,7 @@ use Rattle.afs_num.specs.declared.types.Node.{Node}
 use Rattle.afs_num.specs.declared.types.Node.TheVariants.{Admin, Client, Loc, Server}
 use Rattle.afs_rows.specs.Runs.{Entry}
 use Rattle.afs_runs.specs.NodeRuns.{NodeCell}
-use Rattle.afs_holds.specs.Owners.{AreUsed, HaveOwners, IsGivenTo}
+use Rattle.afs_holds.specs.Owners.{AreAfterGiven, AreUsed, HaveOwners, IsGivenIn, IsGivenTo}
 
 -- the database tells administrator 1's call of number 3 that its entry is made, under stamp 1
 abbrev gives : Entry
@@ -48,6 +48,13 @@ own = ((tt, tt), ((inr (record { drawn = omega (arith); node = refl; in_epoch = 
 -- a server's, which sends a dump on
 lent : AreUsed owner 2 (gives ∷ uses (Server 5) 2 1 ∷ [])
 lent = ((tt, tt), ((inr (record { drawn = omega (arith); admin = 1; node = refl }), tt), tt))
+
+-- both behind the reply that gives it
+own_after : AreAfterGiven [] (gives ∷ uses (Admin 1) 1 4 ∷ [])
+own_after = ((tt, tt), ((inr (inl (refl, inl refl)), tt), tt))
+
+lent_after : AreAfterGiven [] (gives ∷ uses (Server 5) 2 1 ∷ [])
+lent_after = ((tt, tt), ((inr (inl (refl, inl refl)), tt), tt))
 
 -- whoever has the stamp, it was given to that call
 given_to : (end : NodeCell) (es : Entry) (h : HaveOwners (gives ∷ es ∷ []) end) → owner 1 ≡ h.owner 1
@@ -87,3 +94,28 @@ before_it_has_it end h = by h.used.1.0.0
 -- a client uses one
 a_clients : (end : NodeCell) → HaveOwners (gives ∷ uses (Client 1) 1 4 ∷ []) end → ⊥
 a_clients end h = no_stamp h.used.1.0.0
+
+-- one is used that no reply gives
+nobodys : (end : NodeCell) → HaveOwners (uses (Admin 1) 1 4 ∷ []) end → ⊥
+nobodys end h = by h.given.0.0
+  where
+    by : IsNone ⊎ IsGivenIn [] 1 → ⊥
+    by (inl e) = no_stamp e
+    by (inr g) = g
+
+-- it is used further up in the history than the reply that gives it, also by a server
+before_it_is_given : (n : Node) (end : NodeCell) → HaveOwners (uses n 1 4 ∷ gives ∷ []) end → ⊥
+before_it_is_given n end h = by h.given.0.0
+  where
+    by : IsNone ⊎ IsGivenIn [] 1 → ⊥
+    by (inl e) = no_stamp e
+    by (inr g) = g
+
+-- a server tells it in a reply, which gives nothing
+a_server_gives_it : (end : NodeCell) → HaveOwners (record gives { actor = actors.Node (Server 5) } ∷ uses (Admin 1) 1 4 ∷ []) end → ⊥
+a_server_gives_it end h = by h.given.1.0.0
+  where
+    by : IsNone ⊎ IsGivenIn (record gives { actor = actors.Node (Server 5) } ∷ []) 1 → ⊥
+    by (inl e) = no_stamp e
+    by (inr (inl g)) = absurd cc
+    by (inr (inr g)) = g

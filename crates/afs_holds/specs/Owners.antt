@@ -1,5 +1,5 @@
 -- Whose a stamp is: that of one act of one administrator, which the location database gave it to; and who sends calls under it.
-use Rattle.std.specs.Prelude.{◌≡◌, ◌<◌, ◌⊎◌, ⊤, ℕ, List, [], ◌∷◌}
+use Rattle.std.specs.Prelude.{◌≡◌, ◌<◌, ◌⊎◌, ⊤, ℕ, List, [], ◌∷◌, true, Some}
 use Rattle.std.specs.List.{AllByRecursion}
 use Rattle.afs_num.specs.declared.messages.Carried.{Carried}
 use Rattle.afs_num.specs.declared.messages.Carried.TheVariants as carried
@@ -11,8 +11,9 @@ use Rattle.afs_num.specs.declared.types.Node.TheVariants.{Admin, Client, Loc, Se
 use Rattle.afs_history.specs.declared.scripts.Script.{Script}
 use Rattle.afs_rows.specs.Runs.{Entry}
 use Rattle.afs_runs.specs.NodeRuns.{node_start, CellInput, NodeCell, NodeLeads}
-use Rattle.afs_stamps.specs.Given.{AreTheirs}
+use Rattle.afs_stamps.specs.Given.{given_in, AreTheirs}
 use Rattle.afs_stamps.specs.Stamps.{next_stamp}
+use Rattle.afs_stamps.specs.Told.{is_database}
 
 -- ---- whose it is
 
@@ -52,13 +53,40 @@ abbrev pub AreUsed : (ℕ → Key) → ℕ → List Entry → Type 0
 AreUsed owner next [] = ⊤
 AreUsed owner next (e ∷ es) = AllByRecursion (IsUsed owner next) e.sent × AreUsed owner next es
 
+-- ---- that it was given before
+
+-- one of these messages gives the stamp
+abbrev pub OneGives : ℕ → List Message → Type 0
+OneGives stamp [] = ⊥
+OneGives stamp (m ∷ ms) = (given_in m.carried ≡ Some stamp) ⊎ OneGives stamp ms
+
+-- The location database gives the stamp in one of these entries.
+abbrev pub IsGivenIn : List Entry → ℕ → Type 0
+IsGivenIn [] stamp = ⊥
+IsGivenIn (e ∷ es) stamp = ((is_database e.actor ≡ true) × OneGives stamp e.sent) ⊎ IsGivenIn es stamp
+
+-- a call, whoever's, has no stamp, or one that is given in these entries
+abbrev pub HasGiven : List Entry → Head → Carried → Type 0
+HasGiven past head (carried.Call user call) = (head.stamp ≡ 0) ⊎ IsGivenIn past head.stamp
+HasGiven past head c = ⊤
+
+abbrev pub IsAfterGiven : List Entry → Message → Type 0
+IsAfterGiven past m = HasGiven past m.head m.carried
+
+-- So it is of each call in these entries; before the first of them come those others, the last of them first.
+abbrev pub AreAfterGiven : List Entry → List Entry → Type 0
+AreAfterGiven past [] = ⊤
+AreAfterGiven past (e ∷ es) = AllByRecursion (IsAfterGiven past) e.sent × AreAfterGiven (e ∷ past) es
+
 -- ---- the law
 
--- Each stamp has one owner: the call that the database gave it to. All that is sent under it is sent by the administrator of that call, in
--- the same epoch and behind that call, or by a server that sends a dump on.
+-- Each stamp has one owner: the call that the database gave it to. None but 0 is used before a reply of the database, further up in the history,
+-- gives it; and whichever reply gives it answers its owner. All that is sent under it is sent by the administrator of that call, in the same
+-- epoch and behind that call, or by a server that sends a dump on.
 pub record HaveOwners (history : List Entry) (end : NodeCell) : Type 0 where
   pub owner : ℕ → Key
   pub theirs : AreTheirs owner (next_stamp end) history
+  pub given : AreAfterGiven [] history
   pub used : AreUsed owner (next_stamp end) history
 
 -- So it is in every run of every script.

@@ -25,7 +25,7 @@ pub record MayFollow (before : RanCall) (r : RanCall) : Type 0 where
   pub boot : before.callee ≡ r.callee → before.boot ≤ r.boot
   pub pair : before.callee ≡ r.callee → before.head.from ≡ r.head.from → (before.boot ≡ r.boot) ⊎ (before.changed ≡ true) → IsEarlier before.head r.head
 
--- it runs where its header names its callee, and this boot of it
+-- its header names the node that ran it, and the boot in which that ran it
 pub record IsNamed (r : RanCall) : Type 0 where
   pub callee : r.head.to ≡ r.callee
   pub boot : r.head.boot ≡ r.boot

@@ -2,14 +2,21 @@
 use Rattle.afs_answers.proofs.Walk.{have_causes}
 use Rattle.afs_closed.proofs.Accepts.{accepts_at_one}
 use Rattle.afs_closed.proofs.Closing.{closed}
+use Rattle.afs_enabling.proofs.Alone.{enabled_alone}
 use Rattle.afs_holds.proofs.Walk.{have_owners}
 use Rattle.afs_idle.proofs.Shut.{idle_ends, idle_legal}
 use Rattle.afs_keys.proofs.Walk.{in_order}
+use Rattle.afs_latest.proofs.Order.{changes_later}
+use Rattle.afs_owed.proofs.Walk.{quits_late}
 use Rattle.afs_moves.proofs.Walk.{accepted_as_told, lines_stand_well}
+use Rattle.afs_recovered.proofs.Ending.{end_alone}
+use Rattle.afs_recovered.proofs.Recovered.{recovered_alone}
 use Rattle.afs_runs.proofs.Plain.{node_runs_end, node_runs_legal}
 use Rattle.afs_stamps.proofs.ToldWalk.{entries_are_told}
 use Rattle.afs_surveys.proofs.OldCalls.{past_vain}
-use Rattle.afs_surveys.proofs.Surveying.{surveys_stored}
+use Rattle.afs_surveys.proofs.Asked.{surveys_stored}
+use Rattle.afs_vanishing.proofs.Deleting.{deleted_elsewhere}
+use Rattle.afs_vanishing.proofs.Vanished.{vanish_elsewhere}
 use Rattle.afs_walks.proofs.Senders.{senders_are_told}
 use Rattle.afs_lawful.specs.Lawful.{RunsAreLawful}
 
@@ -18,11 +25,17 @@ lawful s in_cell numbered some inputs history end leads = record {
   accepted = accepted_as_told s inputs history end leads;
   stand = lines_stand_well s inputs history end leads;
   alone = accepts_at_one closed s inputs history end numbered some leads;
+  enabled = enabled_alone closed s inputs history end numbered some leads;
+  ended = end_alone s inputs numbered some;
+  recovered = recovered_alone s inputs history end numbered some leads;
+  vanishes = vanish_elsewhere deleted_elsewhere s inputs history end numbered some leads;
   locked = entries_are_told.locks s inputs history end leads;
   located = entries_are_told.sites s inputs history end leads;
   senders = senders_are_told s inputs history end leads;
   owners = have_owners s inputs history end leads;
   once = in_order s inputs;
+  order = changes_later s inputs history end leads;
+  quits = quits_late s inputs history end leads;
   past = past_vain s inputs history end leads;
   surveyed = surveys_stored s inputs;
   caused = have_causes s inputs history end leads;

@@ -3,41 +3,56 @@ use Rattle.std.specs.Prelude.{◌≡◌, ◌≤◌, List, map}
 use Rattle.afs_history.specs.declared.scripts.Script.{Script}
 use Rattle.afs_answers.specs.Answers.{HaveCauses}
 use Rattle.afs_closed.specs.Accepts.{AcceptsAtOne}
+use Rattle.afs_enabling.specs.Enabling.{EnablesStandAlone}
 use Rattle.afs_holds.specs.Owners.{HaveOwners}
 use Rattle.afs_idle.specs.Idle.{but_for_admins, AreIdle}
 use Rattle.afs_keys.specs.Once.{RunInOrder}
+use Rattle.afs_latest.specs.Latest.{ChangeInOrder}
 use Rattle.afs_law.specs.Cells.{IsOfCell}
 use Rattle.afs_law.specs.Laws.{EndsWell}
 use Rattle.afs_law.specs.Legal.{Legal}
 use Rattle.afs_moves.specs.Accepting.{AreAcceptedAsTold}
 use Rattle.afs_moves.specs.Standing.{StandWell}
 use Rattle.afs_numbers.specs.Numbers.{IsNumbered}
+use Rattle.afs_owed.specs.Quits.{QuitLate}
+use Rattle.afs_recovered.specs.Ends.{AreRecoveredAlone, EndAlone}
 use Rattle.afs_rows.specs.Runs.{Entry}
 use Rattle.afs_runs.specs.NodeRuns.{node_start, CellInput, NodeCell, NodeLeads}
 use Rattle.afs_runs.specs.PlainRuns.{file_cell}
 use Rattle.afs_stamps.specs.Told.{AreLocatedAsTold, AreLockedAsTold}
 use Rattle.afs_surveys.specs.Past.{AreVainOncePast}
 use Rattle.afs_surveys.specs.Surveys.{AreSurveyed}
+use Rattle.afs_vanishing.specs.Vanishing.{VanishElsewhere}
 use Rattle.afs_walks.specs.Messages.{HaveSenders}
 
 -- A run of the script, by its inputs, its history and the cell at its end, keeps these laws. Behind each entry a server has a volume in service
--- exactly where the history tells that it accepts stores, and each change is told by a server that accepts stores of its volume. A volume
--- accepts them at one server at most, where the location database puts it. The location database's entries are locked as was told, and name the servers that were told. Each message says of itself that it is of the node that sent
--- it. Each stamp is used by the administrator that the location database gave it to, and by servers that send dumps on for one. A call runs at
--- most once in a boot of its callee, and one that changed something at most once at all; none runs behind a later one of its caller. Volume
--- calls under stamps that are past are in vain, and moves, removals and recoveries bring theirs to all servers first. Each act of an
--- administrator ends with the code of its cause, and each failure that is a cause ends it. Where the script names no administrators, the history
--- is legal, and at its end the servers hold the ideal volumes, with all that was acknowledged. So it is with a void entry in place of each of
--- theirs, where they do nothing but stop and begin again.
+-- exactly where the history tells that it accepts stores, and each change is told by a server that accepts stores of its volume. A volume accepts
+-- them at one server at most, where the location database puts it. It comes into service there alone, while no server accepts them. Where a
+-- recovery ends, and where that is told, no other server has a copy of it. Where one vanishes a call asked for it, or its server begins again;
+-- and moves, recoveries and releases delete none where the database puts it. The location database's entries are locked as was told, and name the
+-- servers that were told. Each message says of itself that it is of the node that sent it. Each stamp is used by the administrator that the
+-- location database gave it to, and by servers that send dumps on for one, and by nobody before the reply that gives it. A call runs at most once
+-- in a boot of its callee, and one that changed something at most once at all; none runs behind a later one of its caller. So a server tells its
+-- changes for a node in the order of their keys, and one in an entry at most. A break is given up only behind three timeouts of a call that
+-- carries it. Volume calls under stamps that are past are in vain, and moves, removals and recoveries bring theirs to all servers first, before
+-- each call that they ask behind that. Each act of an administrator ends with the code of its cause, and each failure that is a cause ends it.
+-- Where the script names no administrators, the history is legal, and at its end the servers hold the ideal volumes, with all that was
+-- acknowledged. So it is with a void entry in place of each of theirs, where they do nothing but stop and begin again.
 pub record IsLawful (s : Script) (inputs : List CellInput) (history : List Entry) (end : NodeCell) : Type 0 where
   pub accepted : AreAcceptedAsTold s inputs history
   pub stand : StandWell s history
   pub alone : AcceptsAtOne s history
+  pub enabled : EnablesStandAlone s inputs history
+  pub ended : EndAlone s inputs
+  pub recovered : AreRecoveredAlone s inputs history
+  pub vanishes : VanishElsewhere s inputs history
   pub locked : AreLockedAsTold s inputs history
   pub located : AreLocatedAsTold s inputs history
   pub senders : HaveSenders history
   pub owners : HaveOwners history end
   pub once : RunInOrder s inputs
+  pub order : ChangeInOrder s history
+  pub quits : QuitLate s history
   pub past : AreVainOncePast s inputs history
   pub surveyed : AreSurveyed s inputs
   pub caused : HaveCauses history

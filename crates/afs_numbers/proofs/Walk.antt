@@ -38,7 +38,7 @@ use Rattle.afs_walks.specs.Kinds.{IsGiven}
 use Rattle.afs_walks.specs.Messages.{AllAre, FallIs}
 use Rattle.afs_walks.specs.Sends.{AnswersAre, AsksIs, LocIs, SeatsAre, SentIs}
 use Rattle.afs_walks.proofs.AdminSends.{admin_begun, admin_given, admin_late, AdminSends}
-use Rattle.afs_walks.proofs.AllMessages.{all_are_first, next_all, next_sent}
+use Rattle.afs_walks.proofs.AllMessages.{all_are_first, all_put, next_all, next_sent}
 use Rattle.afs_walks.proofs.EachKind.{any_admin, any_client, any_server, each}
 use Rattle.afs_walks.proofs.LocSends.{loc_crashed, loc_fail_set, loc_stop_set, LocSends}
 use Rattle.afs_walks.proofs.Seats.{all_more, found_at, weaker_all, weaker_seats}
@@ -49,11 +49,6 @@ use Rattle.afs_numbers.proofs.Drawing.{get_sound, same_on, set_sound, Drawn, Dra
 use Rattle.afs_numbers.proofs.Knowing.{same_admin, still_known, CallFrom, GoesOn, Grows, IsUpTo, Known, KnownBy}
 use Rattle.afs_numbers.proofs.Leading.{asked, still_place, AsksSound}
 use Rattle.afs_numbers.proofs.Making.{client_known, rules, server_known, AnyDump, AnyMessage, MadeBy}
-
--- ---- maps changed at one place
-
-all_put : {A : Type 0} (n : ℕ) (P : ℕ → A → Type 0) (x : A) (f : ℕ → A) → P n x → ((j : ℕ) → P j (f j)) → (j : ℕ) → P j (put n x f j)
-all_put {A} n P x f h k j = at_put n j (P j) x f (λ same. subst (λ (i : ℕ). P i x) same h) (λ other. k j)
 
 -- ---- a cell
 

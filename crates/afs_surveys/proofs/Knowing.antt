@@ -16,28 +16,29 @@ use Rattle.afs_adminrows.specs.AdminRow.{ask_of, errand_of, AdminState}
 use Rattle.afs_adminrows.specs.declared.places.Place.{Place}
 use Rattle.afs_adminrows.specs.declared.places.Place.TheVariants as places
 use Rattle.afs_adminrows.specs.declared.turns.Ask.{Ask}
-use Rattle.afs_adminrows.specs.declared.turns.Errand.{Errand}
 use Rattle.afs_adminrows.specs.declared.turns.Running.{Running}
 use Rattle.afs_runs.specs.NodeRuns.{has_host, NodeCell}
 use Rattle.afs_stamps.specs.Stamps.{stored_stamp}
-use Rattle.afs_surveys.specs.Surveys.{IsAsked, IsStored, IsSurveyed}
+use Rattle.afs_courses.specs.Courses.{IsUpTo}
+use Rattle.afs_surveys.specs.Surveys.{IsStored, IsSurveyed}
 use Rattle.afs_surveys.proofs.Surveyed.{IsBrought}
 
 -- ---- the calls of an administrator, by their pairs of epoch and number
-
--- no later than its last one
-abbrev pub IsUpTo : ℕ → ℕ → AdminState → Type 0
-IsUpTo epoch number a = (epoch < a.epoch) ⊎ ((epoch ≡ a.epoch) × (number ≤ a.last))
 
 -- its last one
 abbrev pub IsLast : ℕ → ℕ → AdminState → Type 0
 IsLast epoch number a = (epoch ≡ a.epoch) × (number ≡ a.last)
 
+-- the call is what this asks
+pub record IsOfAsk (q : Ask) (head : Head) (call : Call) : Type 0 where
+  pub asks : q.call ≡ call
+  pub stamp : head.stamp ≡ q.stamp
+  pub callee : head.to ≡ q.callee
+
 -- An administrator's call: where it is the last one and the act still runs, it is that of the act's place.
 pub record CallOf (c : NodeCell) (head : Head) (call : Call) (n : ℕ) : Type 0 where
-  pub is : IsAsked c head call
   pub up_to : IsUpTo head.epoch head.number (c.admins n)
-  pub now : IsLast head.epoch head.number (c.admins n) → (r : Running) → (c.admins n).running ≡ Some r → (is.errand ≡ errand_of (c.admins n) r.act) × (is.place ≡ r.place)
+  pub now : IsLast head.epoch head.number (c.admins n) → (r : Running) → (c.admins n).running ≡ Some r → IsOfAsk (ask_of (c.admins n) r) head call
 
 -- a list for an administrator: where it is for the last call, the server has the stamp
 pub record ListFor (c : NodeCell) (head : Head) (n : ℕ) : Type 0 where
@@ -110,34 +111,38 @@ was epoch number a b r (inr now) (inl (inl later)) is run = let e : epoch ≡ b.
 was epoch number a b r (inr now) (inl (inr later)) is run = let e : number ≡ b.last = is.1 in let k : number ≤ a.last = now.1 in let l : a.last < b.last = later.1 in absurd (omega (arith, l, k, e))
 was epoch number a b r (inr now) (inr same) is run = record { last = (now.0, is.1 ∙ same.last); running = ran a b r same.running run; servers = same.servers }
 
-module _ (c d : NodeCell) (up : Grows c d) where
+-- a place stays as it is while no server forgets a stamp for a lower one
+module _ (c d : NodeCell) (hosts : (i family : ℕ) → stored_stamp c i family ≤ stored_stamp d i family) (count : d.host_count ≡ c.host_count) where
   same_host : (i : ℕ) → has_host d i ≡ has_host c i
   same_host zero = refl
-  same_host (suc i) = rw up.count refl
+  same_host (suc i) = rw count refl
 
   still_stored : (family stamp : ℕ) (left : List ℕ) → IsStored c family stamp left → IsStored d family stamp left
-  still_stored family stamp left h i there none = le_trans (h i (sym (same_host i) ∙ there) none) (up.hosts i family)
+  still_stored family stamp left h i there none = le_trans (h i (sym (same_host i) ∙ there) none) (hosts i family)
 
+  pub stays_surveyed : (p : Place) → IsSurveyed c p → IsSurveyed d p
+  stays_surveyed (places.Surveys h why s left seen) all = still_stored _ h.stamp (s ∷ left) all
+  stays_surveyed (places.Plans h target) all = still_stored _ h.stamp [] all
+  stays_surveyed (places.Moves m step) all = still_stored _ m.hold.stamp [] all
+  stays_surveyed (places.Removes h seen step) all = still_stored _ h.stamp [] all
+  stays_surveyed (places.Sweeps h spot left step) all = still_stored _ h.stamp [] all
+  stays_surveyed (places.Asks cause h seen) all = still_stored _ h.stamp [] all
+  stays_surveyed (places.Mends m step) all = still_stored m.volume m.stamp [] all
+  stays_surveyed p all = tt
+
+module _ (c d : NodeCell) (up : Grows c d) where
   pub still_surveyed : (p : Place) → IsSurveyed c p → IsSurveyed d p
-  still_surveyed (places.Surveys h why s left seen) all = still_stored _ h.stamp (s ∷ left) all
-  still_surveyed (places.Plans h target) all = still_stored _ h.stamp [] all
-  still_surveyed (places.Moves m step) all = still_stored _ m.hold.stamp [] all
-  still_surveyed (places.Removes h seen step) all = still_stored _ h.stamp [] all
-  still_surveyed (places.Sweeps h spot left step) all = still_stored _ h.stamp [] all
-  still_surveyed (places.Asks cause h seen) all = still_stored _ h.stamp [] all
-  still_surveyed (places.Mends m step) all = still_stored m.volume m.stamp [] all
-  still_surveyed p all = tt
+  still_surveyed = stays_surveyed c d up.hosts up.count
 
   still_brought : (q : Ask) → IsBrought c q → IsBrought d q
   still_brought q h i call callee is = le_trans (h i call callee is) (up.hosts i _)
 
   still_call : (head : Head) (call : Call) (n : ℕ) → CallOf c head call n → CallOf d head call n
   still_call head call n h = record {
-    is = record { errand = h.is.errand; place = h.is.place; asks = h.is.asks; stamp = h.is.stamp; callee = h.is.callee; surveyed = still_surveyed h.is.place h.is.surveyed };
     up_to = still_up_to head.epoch head.number (c.admins n) (d.admins n) h.up_to (up.admins n);
     now = λ last r run.
         let w = was head.epoch head.number (c.admins n) (d.admins n) r h.up_to (up.admins n) last run in
-        let z = h.now w.last r w.running in (z.0 ∙ ap (λ (k : ℕ). record { act = r.act; servers = k }) (sym w.servers), z.1);
+        subst (λ (k : ℕ). IsOfAsk (asks_at (record { act = r.act; servers = k }) r.place) head call) (sym w.servers) (h.now w.last r w.running);
   }
 
   still_list : (head : Head) (n : ℕ) → ListFor c head n → ListFor d head n

@@ -4,5 +4,7 @@ pub mod Bringing
 pub mod Knowing
 pub mod Acting
 pub mod Serving
+pub mod Rising
 pub mod Surveying
+pub mod Asked
 mod Worked

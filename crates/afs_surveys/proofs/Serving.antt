@@ -27,12 +27,8 @@ use Rattle.afs_rows.specs.ServerHosts.{can_start}
 use Rattle.afs_rows.specs.ServerRow.{not_served, refusal, replied, reply_head}
 use Rattle.afs_rows.specs.States.{durable_of, Lasting}
 use Rattle.afs_rows.specs.Steps.{begun_before, Begun}
-use Rattle.afs_adminrows.specs.Acts.{asks_at}
-use Rattle.afs_adminrows.specs.AdminRow.{ask_of, errand_of, AdminState}
-use Rattle.afs_adminrows.specs.declared.places.Place.{Place}
+use Rattle.afs_adminrows.specs.AdminRow.{ask_of}
 use Rattle.afs_adminrows.specs.declared.turns.Ask.{Ask}
-use Rattle.afs_adminrows.specs.declared.turns.Errand.{Errand}
-use Rattle.afs_adminrows.specs.declared.turns.Running.{Running}
 use Rattle.afs_ideal.specs.Operations.{is_number}
 use Rattle.afs_law.proofs.Basics.{at_put, same_node-true}
 use Rattle.afs_volrows.proofs.VolNodes.{nodes_stay_stamped}
@@ -49,7 +45,7 @@ use Rattle.afs_walks.proofs.ServerSends.{begun_is, ended_is, server_restarted, H
 use Rattle.afs_walks.proofs.VolSends.{row_sends}
 use Rattle.afs_stamps.specs.Stamps.{stored_stamp}
 use Rattle.afs_surveys.proofs.Bringing.{judged_brings, Answers, Brings, IfAnswered}
-use Rattle.afs_surveys.proofs.Knowing.{CallBy, CallOf, Known, KnownBy, ListTo}
+use Rattle.afs_surveys.proofs.Knowing.{CallBy, CallOf, IsOfAsk, Known, KnownBy, ListTo}
 use Rattle.afs_surveys.proofs.Surveyed.{IsBrought}
 
 -- of the dumps that it sends on nothing is said
@@ -85,24 +81,18 @@ makes d i boot = record {
 -- ---- its answer to a volume call, in a cell where it has the stamp
 
 module _ (d : NodeCell) (i : ℕ) (head : Head) (call : VolCall) (here : head.to ≡ Server i) where
-  brought : (a : AdminState) (r : Running) (errand : Errand) (place : Place) → errand ≡ errand_of a r.act → place ≡ r.place → (asks_at errand place).call ≡ ask.Volume call → head.stamp ≡ (asks_at errand place).stamp → head.to ≡ (asks_at errand place).callee →
-      head.stamp ≤ stored_stamp d i (family_of call) → IsBrought d (ask_of a r)
-  brought a r errand place its at asks stamp callee high j other to is =
-      let same : asks_at errand place ≡ ask_of a r = ap (λ (e : Errand). asks_at e place) its ∙ ap (λ (p : Place). asks_at (errand_of a r.act) p) at in
-      let server : Server i ≡ Server j = sym here ∙ (callee ∙ (ap (λ (q : Ask). q.callee) same ∙ to)) in
+  brought : (q : Ask) → IsOfAsk q head (ask.Volume call) → head.stamp ≤ stored_stamp d i (family_of call) → IsBrought d q
+  brought q its high j other to is =
+      let server : Server i ≡ Server j = sym here ∙ (its.callee ∙ to) in
       let number : i ≡ j = cc in
-      let calls : ask.Volume call ≡ ask.Volume other = sym asks ∙ (ap (λ (q : Ask). q.call) same ∙ is) in
+      let calls : ask.Volume call ≡ ask.Volume other = sym its.asks ∙ is in
       let one : call ≡ other = cc in
       let now : stored_stamp d i (family_of call) ≡ stored_stamp d j (family_of other) = ap (λ (k : ℕ). stored_stamp d k (family_of call)) number ∙ ap (λ (x : VolCall). stored_stamp d j (family_of x)) one in
-      let asked : head.stamp ≡ (ask_of a r).stamp = stamp ∙ ap (λ (q : Ask). q.stamp) same in
+      let asked : head.stamp ≡ q.stamp = its.stamp in
       grind (arith, high, now, asked)
 
   list_by : (boot : ℕ) (n : Node) → CallBy d head (ask.Volume call) n → head.stamp ≤ stored_stamp d i (family_of call) → ListTo d (reply_head boot head) n
-  list_by boot (Admin n) asked high = record {
-    up_to = asked.up_to;
-    now = λ last r run.
-        let z = asked.now last r run in brought (d.admins n) r asked.is.errand asked.is.place z.0 z.1 asked.is.asks asked.is.stamp asked.is.callee high;
-  }
+  list_by boot (Admin n) asked high = record { up_to = asked.up_to; now = λ last r run. brought (ask_of (d.admins n) r) (asked.now last r run) high }
   list_by boot (Client n) asked high = tt
   list_by boot (Server n) asked high = tt
   list_by boot Loc asked high = tt

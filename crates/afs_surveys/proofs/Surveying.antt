@@ -19,6 +19,7 @@ use Rattle.afs_history.specs.declared.lines.Line.TheVariants as lines
 use Rattle.afs_history.specs.declared.scripts.Script.{Script}
 use Rattle.afs_adminrows.specs.Acts.{asks_at}
 use Rattle.afs_adminrows.specs.AdminRow.{admin_reborn, ask_head, ask_message, ask_of, errand_of, AdminState}
+use Rattle.afs_adminrows.specs.declared.turns.Ask.{Ask}
 use Rattle.afs_adminrows.specs.declared.turns.Running.{Running}
 use Rattle.afs_rows.specs.Callbacks.{put}
 use Rattle.afs_rows.specs.ClientRow.{question}
@@ -45,10 +46,11 @@ use Rattle.afs_walks.proofs.EachKind.{each}
 use Rattle.afs_walks.proofs.LocSends.{loc_crashed, loc_fail_set, loc_makes_any, loc_restarted, loc_served, loc_stop_set, LocCutMakes, LocSends}
 use Rattle.afs_walks.proofs.Seats.{all_more, found_at, weaker_all, weaker_seats}
 use Rattle.afs_walks.proofs.ServerSends.{server_break_late, server_crashed, server_fail_set, server_piece_late, server_stop_set, server_woken}
-use Rattle.afs_surveys.specs.Past.{cell_after}
-use Rattle.afs_surveys.specs.Surveys.{IsAsked, IsSurveyed, SurveysAreStored}
+use Rattle.afs_courses.specs.Courses.{IsUpTo}
+use Rattle.afs_surveys.specs.Surveys.{IsSurveyed}
 use Rattle.afs_surveys.proofs.Acting.{begun_goes, given_goes, late_goes, listed, ActGoes}
-use Rattle.afs_surveys.proofs.Knowing.{same_on, still_known, still_surveyed, CallBy, CallOf, GoesOn, Grows, IsLast, IsUpTo, Known, KnownBy}
+use Rattle.afs_surveys.proofs.Knowing.{same_on, still_known, still_surveyed, CallBy, GoesOn, Grows, IsLast, IsOfAsk, Known}
+use Rattle.afs_surveys.proofs.Rising.{one_more, stamps_rise}
 use Rattle.afs_surveys.proofs.Surveyed.{IsBrought}
 use Rattle.afs_surveys.proofs.Serving.{makes, restarts_known, serves_known, weaker_node, Any, FallKnown, HostKnown, RisesBy}
 
@@ -197,22 +199,21 @@ module _ (c : NodeCell) (h : Surveying c) where
     up = record { hosts = rises; count = refl; admins = all_put n (λ (j : ℕ) (x : AdminState). GoesOn (c.admins j) x) s.state c.admins goes.on (λ j. same_on (c.admins j)) }
 
     -- what it asks then
-    its_call : (r : Running) (x : AdminState) → s.state ≡ x → s.state.running ≡ Some r → IsUpTo s.state.epoch s.state.last x × (IsLast s.state.epoch s.state.last x → (r' : Running) → x.running ≡ Some r' → (errand_of s.state r.act ≡ errand_of x r'.act) × (r.place ≡ r'.place))
+    its_call : (r : Running) (x : AdminState) → s.state ≡ x → s.state.running ≡ Some r → IsUpTo s.state.epoch s.state.last x × ((r' : Running) → x.running ≡ Some r' → ask_of s.state r ≡ ask_of x r')
     its_call r x same is =
-        subst (λ (y : AdminState). IsUpTo s.state.epoch s.state.last y × (IsLast s.state.epoch s.state.last y → (r' : Running) → y.running ≡ Some r' → (errand_of s.state r.act ≡ errand_of y r'.act) × (r.place ≡ r'.place))) same (
+        subst (λ (y : AdminState). IsUpTo s.state.epoch s.state.last y × ((r' : Running) → y.running ≡ Some r' → ask_of s.state r ≡ ask_of y r')) same (
           inr (refl, le_refl s.state.last),
-          λ last r' run. let one : Some r ≡ Some r' = sym is ∙ run in let e : r ≡ r' = cc in (ap (λ (y : Running). errand_of s.state y.act) e, ap (λ (y : Running). y.place) e),
+          λ r' run. let one : Some r ≡ Some r' = sym is ∙ run in let e : r ≡ r' = cc in ap (ask_of s.state) e,
         )
+
+    of_ask : (p q : Ask) (head : Head) (call : Call) → p ≡ q → IsOfAsk p head call → IsOfAsk q head call
+    of_ask p q head call same its = subst (λ (x : Ask). IsOfAsk x head call) same its
 
     asks : AsksIs (Known d) (Admin n) s.state
     asks r is =
         let at : s.state ≡ d.admins n = at_put n n (λ (x : AdminState). s.state ≡ x) s.state c.admins (λ one. refl) (λ other. absurd (other refl)) in
         let z = its_call r (d.admins n) at is in
-        record {
-          is = record { errand = errand_of s.state r.act; place = r.place; asks = refl; stamp = refl; callee = refl; surveyed = still_surveyed c d up r.place (goes.surveyed r is) };
-          up_to = z.0;
-          now = z.1;
-        }
+        record { up_to = z.0; now = λ last r' run. of_ask (ask_of s.state r) _ _ _ (z.1 r' run) (record { asks = refl; stamp = refl; callee = refl }) }
 
     admin_on : (AsksIs (Known d) (Admin n) s.state → SeatsAre (Known d) (c.admins n).seats → AdminSends (Known d) s) → Surveying d
     admin_on k =
@@ -309,29 +310,12 @@ first_surveying s = record {
   servers = λ n. refl;
 }
 
-behind_both : (c : NodeCell) (xs ys : List CellInput) → cell_behind c (xs ++ ys) ≡ cell_behind (cell_behind c xs) ys
-behind_both c [] ys = refl
-behind_both c (x ∷ xs) ys = behind_both (node_moved c x).cell xs ys
-
 led : (s : Script) (done rest : List CellInput) → Surveying (cell_behind (node_start s) done) → Surveying (cell_behind (node_start s) (done ++ rest))
 led s done [] h = subst (λ (xs : List CellInput). Surveying (cell_behind (node_start s) xs)) (sym (append-nil done)) h
 led s done (x ∷ rest) h =
     let c : NodeCell = cell_behind (node_start s) done in
-    let one : cell_behind (node_start s) (done ++ x ∷ []) ≡ (node_moved c x).cell = behind_both (node_start s) done (x ∷ []) in
-    let rises : (i family : ℕ) → stored_stamp c i family ≤ stored_stamp (node_moved c x).cell i family = λ i family. subst (λ (d : NodeCell). stored_stamp c i family ≤ stored_stamp d i family) one (never_fall s done (x ∷ []) i family) in
     subst (λ (xs : List CellInput). Surveying (cell_behind (node_start s) xs)) (append_assoc done (x ∷ []) rest)
-    (led s (done ++ x ∷ []) rest (subst Surveying (sym one) (next c h x rises)))
+    (led s (done ++ x ∷ []) rest (subst Surveying (sym (one_more (node_start s) done x)) (next c h x (stamps_rise s done x))))
 
 pub surveying : (s : Script) (inputs : List CellInput) → Surveying (cell_behind (node_start s) inputs)
 surveying s inputs = led s [] inputs (first_surveying s)
-
-asked_by : (c : NodeCell) (m : Message) (n : ℕ) (user : List ℕ) (call : Call) → Known c m → m.head.from ≡ Admin n → m.carried ≡ carried.Call user call → CallOf c m.head call n
-asked_by c m n user call known from is = let k : CallBy c m.head call m.head.from = subst (KnownBy c m.head) is known in subst (CallBy c m.head call) from k
-
-pub surveys_stored : SurveysAreStored
-surveys_stored s inputs = record {
-  acts = λ n a r is. (surveying s (take n inputs)).acts a r is;
-  calls = λ n a place m user call at from is.
-      let c : NodeCell = cell_after s inputs n in
-      (asked_by c m a user call (found_at (Known c) place c.sent m (surveying s (take n inputs)).sent at) from is).is;
-}

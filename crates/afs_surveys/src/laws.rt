@@ -8,8 +8,8 @@ pub fn past_calls_are_vain()
     ensures { PastCallsAreVain }
 {}
 
-/// An administrator that moves a volume, removes it or puts it in order has brought its stamp to all servers before it changes anything. So
-/// had the act of each such call that is still on its way.
+/// An administrator that moves a volume, removes it or puts it in order has brought its stamp to all servers before it changes anything. So it
+/// had for each call that it ever asked in that, also for one that is still on its way.
 pub fn surveys_are_stored()
     ensures { SurveysAreStored }
 {}

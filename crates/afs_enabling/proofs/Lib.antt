@@ -1,0 +1,5 @@
+pub mod Still
+pub mod Opening
+pub mod Telling
+pub mod Alone
+mod Worked

@@ -1,0 +1,13 @@
+pub mod Fits
+pub mod Numbering
+pub mod Begun
+pub mod Known
+pub mod Moved
+pub mod Fitting
+pub mod Askers
+pub mod Deleting
+pub mod Asked
+pub mod Telling
+pub mod Restarting
+pub mod Vanished
+pub mod Worked
