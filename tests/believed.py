@@ -104,7 +104,7 @@ def declared(crate, path):
 def trait(name, file):
     """Returns the trait of this name, where the file of code imports it."""
     items = rf"(?:{name}|\{{[^}}]*\b{name}\b[^}}]*\}})"
-    met = re.search(rf"^use (afs_\w+)::(?:[\w:]+::)?{items};", file.read_text(encoding="utf-8"), re.M)
+    met = re.search(rf"^use ((?:afs|spec)_\w+)::(?:[\w:]+::)?{items};", file.read_text(encoding="utf-8"), re.M)
     return declared(met[1], f"declared.{name}") if met else None
 
 
@@ -182,7 +182,7 @@ def main(words):
     words = [it for it in words if it != "--list"]
     if not words:
         tell("the clauses of cell_main", believed(clauses(CRATES / "afs_top/src/cell.rt", "cell_main")), listing)
-        tell("Legal", believed(definitions(CRATES / "afs_law/specs/Legal.antt")["Legal"]), listing)
+        tell("Legal", believed(definitions(CRATES / "law_legal/specs/Legal.antt")["Legal"]), listing)
         return
     while words:
         file = (TOP / words.pop(0)).resolve()

@@ -24,7 +24,7 @@ trap 'rm -rf "$work"' EXIT
 trap 'exit 130' INT
 trap 'exit 143' TERM
 
-below='afs_num afs_history afs_disk afs_locdb'
+below='afs_num spec_history afs_disk afs_locdb'
 mkdir "$work/crates" "$work/cases"
 cp HANDLES "$work"
 for crate in $(tests/needed.sh $below); do

@@ -11,7 +11,7 @@ trap 'rm -rf "$work"' EXIT
 trap 'exit 130' INT
 trap 'exit 143' TERM
 
-below='afs_num afs_history afs_disk afs_setup afs_volstore afs_server afs_volserv'
+below='afs_num spec_history afs_disk afs_setup afs_volstore afs_server afs_volserv'
 mkdir "$work/crates"
 cp HANDLES "$work"
 for crate in $(tests/needed.sh $below); do

@@ -12,7 +12,7 @@ trap 'rm -rf "$work"' EXIT
 trap 'exit 130' INT
 trap 'exit 143' TERM
 
-below='afs_num afs_history afs_disk afs_cell'
+below='afs_num spec_history afs_disk afs_cell'
 mkdir "$work/crates"
 if [ -f HANDLES ]; then cp HANDLES "$work"; fi
 for crate in $(tests/needed.sh $below); do

@@ -15,7 +15,7 @@ lines() {
 test_lines() {
     find "$1" -name '*.rt' -type f | while read -r file; do
         case $file in
-        */tests.rt | */tests/* | *_tests/*) grep -c . "$file" || : ;;
+        */tests.rt | */tests/* | crates/test_*) grep -c . "$file" || : ;;
         *) awk '/^#\[cfg\(test\)\]/ { held = 1; next } held && /^mod .*\{/ { is_test = 1 } { held = 0 } is_test && /./ { n++ } END { print n + 0 }' "$file" ;;
         esac
     done | awk '{ n += $1 } END { print n + 0 }'

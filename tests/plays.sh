@@ -17,10 +17,10 @@ trap 'exit 130' INT
 trap 'exit 143' TERM
 
 # Records of another program stand in a crate of tests, and the player takes them from there.
-shared=crates/afs_volstore_tests/src/vectors.rt
+shared=crates/test_volstore/src/vectors.rt
 
 # The crates that the player names.
-below=$(cat tests/plays/player/*.play | sed -n 's/.*\(afs_[a-z_]*\)::.*/\1/p' | sort -u | tr '\n' ' ')
+below=$(cat tests/plays/player/*.play | sed -nE 's/.*((afs|spec|law|test)_[a-z_]*)::.*/\1/p' | sort -u | tr '\n' ' ')
 mkdir "$work/crates" "$work/told"
 cp HANDLES "$work"
 for crate in $(tests/needed.sh $below); do

@@ -119,16 +119,16 @@ def place_of(named):
 
 
 FOLDERS = {
-    "definition": r"afs_\w+/specs/[\w/]+",
-    "code": r"afs_\w+/src/[\w/]+\.rt",
-    "proof": r"afs_\w+/(src/[\w/]+\.rt|proofs/[\w/]+)",
-    "test": r"tests/[\w./]+|afs_\w+/(src/[\w/]+\.rt|must-fail)",
+    "definition": r"(afs|spec|law)_\w+/specs/[\w/]+",
+    "code": r"(afs|spec)_\w+/src/[\w/]+\.rt",
+    "proof": r"(afs|spec|law)_\w+/(src/[\w/]+\.rt|proofs/[\w/]+)",
+    "test": r"tests/[\w./]+|(afs|spec|test)_\w+/(src/[\w/]+\.rt|must-fail)",
 }
 
 
 def folders_of(named):
     """A wrong program of a crate stands in its must-fail or in tests/wrong_programs, and may go from one to the other."""
-    crate = re.fullmatch(r"(?:tests/wrong_programs/)?(afs_\w+)(?:/must-fail)?", named)
+    crate = re.fullmatch(r"(?:tests/wrong_programs/)?((?:afs|spec|law|test)_\w+)(?:/must-fail)?", named)
     return [f"crates/{crate.group(1)}/must-fail", f"tests/wrong_programs/{crate.group(1)}"] if crate else [place_of(named)]
 
 
@@ -316,8 +316,8 @@ TRIALS = (
     ("a misspelt function", replaced("`names_call`", "`names_cal`"), "is not declared"),
     ("a misspelt method", replaced("`FileServer::handle`", "`FileServer::handel`"), "there is no FileServer::handel"),
     ("a method of another type", replaced("`FileServer::handle`", "`CacheManager::handle`"), "there is no CacheManager::handle"),
-    ("a definition in another file", replaced("`afs_rows/specs/ServerRow` `admits`", "`afs_rows/specs/ClientRow` `admits`"), "admits is not declared"),
-    ("a file that is not there", replaced("`afs_rows/specs/ServerRow`", "`afs_rows/specs/ServersRow`"), "there is no afs_rows/specs/ServersRow"),
+    ("a definition in another file", replaced("`spec_rows/specs/ServerRow` `admits`", "`spec_rows/specs/ClientRow` `admits`"), "admits is not declared"),
+    ("a file that is not there", replaced("`spec_rows/specs/ServerRow`", "`spec_rows/specs/ServersRow`"), "there is no spec_rows/specs/ServersRow"),
     ("a clause that is none", replaced("`FileServer::handle`, clause `step`", "`FileServer::handle`, clause `steep`"), "has no clause steep"),
     ("a private function for a proof", replaced("`FileServer::handle`, clause `step`", "`FileServer::take`"), "is not public"),
     ("a law that is none", replaced("`calls_run_once`", "`calls_run_twice`"), "there is no calls_run_twice"),

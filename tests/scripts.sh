@@ -22,7 +22,7 @@ trap 'rm -rf "$work"' EXIT
 trap 'exit 130' INT
 trap 'exit 143' TERM
 
-below='afs_num afs_history afs_words afs_grammar afs_ground'
+below='afs_num spec_history afs_words afs_grammar afs_ground'
 mkdir "$work/crates"
 if [ -f HANDLES ]; then cp HANDLES "$work"; fi
 for crate in $(tests/needed.sh $below); do

@@ -1,6 +1,6 @@
 #!/bin/sh
 # Tries wrong disks, banks and journals: each tests/wrong_disks/NAME.edit changes the code of afs_disk or afs_journal, and
-# then a function has to be refused by the prover, or a test of afs_disk_tests has to fail.
+# then a function has to be refused by the prover, or a test of test_disk has to fail.
 # Run it when a contract of the disks or the journal, or one of those tests, has changed. It takes 10 to 60 s an edit, so it is
 # no part of the gate, which tries those in the crates' must-fail. With NAMEs it tries these alone. All is done in a copy: the
 # repository stays as it is.
@@ -46,7 +46,7 @@ finish() {
 
 mkdir "$work/crates"
 if [ -f HANDLES ]; then cp HANDLES "$work"; fi
-for crate in $(tests/needed.sh afs_disk_tests); do
+for crate in $(tests/needed.sh test_disk); do
     cp -R "crates/$crate" "$work/crates"
     grep "^$crate:" crates.txt >> "$work/crates.txt"
 done
@@ -97,7 +97,7 @@ check() {
 }
 
 run_tests() {
-    (cd "$work/crates/afs_disk_tests" && rt try --test) > "$work/log" 2>&1 || true
+    (cd "$work/crates/test_disk" && rt try --test) > "$work/log" 2>&1 || true
 }
 
 # Where the edit is no program the log says nothing. Nor does it where a proof by hand names what is no longer there, unless

@@ -1,6 +1,6 @@
 #!/bin/sh
 # Tries wrong rows against the law over volumes: each tests/wrong_law/NAME.edit changes one
-# definition of the rows (crates afs_rows and afs_breaks) or one lemma, and the proof of crate afs_law has to break at the lemmas
+# definition of the rows (crates spec_rows and spec_breaks) or one lemma, and the proof of crate law_legal has to break at the lemmas
 # of that case. Run it when the rows, what is legal or the proof has changed. It takes half a minute a row, so it is no part of
 # the gate. With NAMEs it tries these alone. All is done in a copy: the repository stays as it is.
 #
@@ -9,8 +9,8 @@
 #                                 another form
 #   old: TEXT                     stands there once
 #   new: TEXT                     comes instead; a second one is a further line. More pairs of old and new may follow
-#   breaks: FILE LEMMA            a lemma of crates/afs_law/proofs/FILE.antt that is refused, the first that of the case
-# Of what the law (proofs/Assembled) stands on, just these lemmas have to be refused, not counting what stands on
+#   breaks: FILE LEMMA            a lemma of crates/law_legal/proofs/FILE.antt that is refused, the first that of the case
+# Of what the law (proofs/RunsAreLegal) stands on, just these lemmas have to be refused, not counting what stands on
 # them, and the law must not be proved. 'breaks: nothing' says that the law holds all the same, for the reason that the edit
 # tells. Worked runs may break as well, and the walks for other laws; they are told behind the lemmas.
 set -eu
@@ -50,22 +50,22 @@ stands_on() {
         shift
         if grep -qx "$file" "$work/walk"; then continue; fi
         echo "$file" >> "$work/walk"
-        set -- "$@" $(sed -n 's/^use Rattle\.afs_law\.proofs\.\([^.]*\)\..*/\1/p' "crates/afs_law/proofs/$file.antt" | sort -u)
+        set -- "$@" $(sed -n 's/^use Rattle\.law_legal\.proofs\.\([^.]*\)\..*/\1/p' "crates/law_legal/proofs/$file.antt" | sort -u)
     done
 }
 
 mkdir "$work/crates"
 if [ -f HANDLES ]; then cp HANDLES "$work"; fi
-for crate in $(tests/needed.sh afs_law); do
+for crate in $(tests/needed.sh law_legal); do
     cp -R "crates/$crate" "$work/crates"
     grep "^$crate:" crates.txt >> "$work/crates.txt"
 done
 # Runs that are worked out in the rows' own crate would be refused first, and the law then isn't tried.
-rm -rf "$work"/crates/afs_rows/proofs/*
-: > "$work/crates/afs_rows/proofs/Lib.antt"
-model=$work/crates/afs_law
+rm -rf "$work"/crates/spec_rows/proofs/*
+: > "$work/crates/spec_rows/proofs/Lib.antt"
+model=$work/crates/law_legal
 : > "$work/walk"
-stands_on Assembled
+stands_on RunsAreLegal
 
 # Proves the crate in the copy. What was refused is told in two files, sorted and without what only stands on it: in
 # refused the lemmas of the walk, one 'FILE LEMMA' a line, and whole lines on other files than proofs; in others the rest.
@@ -82,7 +82,7 @@ check() {
 }
 
 is_proved() {
-    grep -q '^fn afs_law::laws::runs_are_legal: proved' "$work/log"
+    grep -q '^fn law_legal::laws::runs_are_legal: proved' "$work/log"
 }
 
 # The lines of the edit that begin with this word, without it.

@@ -1,12 +1,12 @@
 #!/bin/sh
 # Tries wrong operations: the ideal operation can't be judged by a law of the cell, since it is what the cell does, so rows by
-# computation judge it. Each tests/wrong_operations/NAME.edit changes one definition of crate afs_ideal, and the row that it
+# computation judge it. Each tests/wrong_operations/NAME.edit changes one definition of crate spec_ideal, and the row that it
 # names has to be refused; laws on all operations may be refused as well, and are counted. WRONG=dumps tries the clones and dumps of
-# crate afs_dumps in the same way, by tests/wrong_dumps; WRONG=fold and WRONG=volrows try the records and the rows of a volume server
-# (crates afs_fold and afs_volrows), by tests/wrong_fold and tests/wrong_volrows; WRONG=adminrows tries the acts of administrators (crate
-# afs_adminrows) by tests/wrong_adminrows, and WRONG=copyrows clients of read-only volumes (crate afs_copyrows) by tests/wrong_copyrows.
-# WRONG=walks, moves, stamps, keys, latest, owed, holds, courses, grips, surveys, claims, families, numbers, fences, brought, closed, enabling, recovered, vanishing and answers try
-# laws on runs with administrators: each those of the crate of that name (walks those of afs_walks), by tests/wrong_walks and so on.
+# crate spec_dumps in the same way, by tests/wrong_dumps; WRONG=fold and WRONG=volrows try the records and the rows of a volume server
+# (crates spec_fold and spec_volrows), by tests/wrong_fold and tests/wrong_volrows; WRONG=adminrows tries the acts of administrators (crate
+# spec_adminrows) by tests/wrong_adminrows, and WRONG=copyrows clients of read-only volumes (crate spec_copyrows) by tests/wrong_copyrows.
+# WRONG=walks, places, stamps, keys, latest, owed, stamp_owners, courses, locks, stored_stamps, transactions, families, numbers, fences, stamp_origins, one_server, enabling, recovered, vanishing and answers try
+# laws on runs with administrators: each those of the crate of that name (walks those of law_walks), by tests/wrong_walks and so on.
 # Run it when the definitions or the rows have changed. It takes some 15 s an edit, so it is no part of the gate. With NAMEs it
 # tries these alone. All is done in a copy: the repository stays as it is.
 #
@@ -21,33 +21,33 @@ cd "$(dirname "$0")/.."
 
 # The crate whose definitions are changed, the folder of the edits, and a law that is proved where nothing is changed.
 case ${WRONG:-operations} in
-    operations) changed_crate=afs_ideal edits=tests/wrong_operations law=operations_leave_sound ;;
-    dumps) changed_crate=afs_dumps edits=tests/wrong_dumps law=dumps_finish ;;
-    fold) changed_crate=afs_fold edits=tests/wrong_fold law=records_leave_storable ;;
-    volrows) changed_crate=afs_volrows edits=tests/wrong_volrows law=deeds_are_told ;;
-    adminrows) changed_crate=afs_adminrows edits=tests/wrong_adminrows law=copy ;;
-    copyrows) changed_crate=afs_copyrows edits=tests/wrong_copyrows law=copies_are_plain ;;
-    moves) changed_crate=afs_moves edits=tests/wrong_moves law=lines_stand_well ;;
-    stamps) changed_crate=afs_stamps edits=tests/wrong_stamps law=entries_are_told ;;
-    keys) changed_crate=afs_keys edits=tests/wrong_keys law=calls_run_in_order ;;
-    owed) changed_crate=afs_owed edits=tests/wrong_owed law=quits_are_late ;;
-    latest) changed_crate=afs_latest edits=tests/wrong_latest law=changes_are_later ;;
-    walks) changed_crate=afs_walks edits=tests/wrong_walks law=senders_are_told ;;
-    holds) changed_crate=afs_holds edits=tests/wrong_holds law=stamps_have_owners ;;
-    surveys) changed_crate=afs_surveys edits=tests/wrong_surveys law=surveys_are_stored ;;
-    answers) changed_crate=afs_answers edits=tests/wrong_answers law=answers_have_causes ;;
-    claims) changed_crate=afs_claims edits=tests/wrong_claims law=transactions_are_asked_for ;;
-    courses) changed_crate=afs_courses edits=tests/wrong_courses law=calls_are_on_course ;;
-    grips) changed_crate=afs_grips edits=tests/wrong_grips law=grips_are_drawn ;;
-    families) changed_crate=afs_families edits=tests/wrong_families law=transactions_are_of_families ;;
-    numbers) changed_crate=afs_numbers edits=tests/wrong_numbers law=numbers_are_apart ;;
-    fences) changed_crate=afs_fences edits=tests/wrong_fences law=claims_are_true ;;
-    brought) changed_crate=afs_brought edits=tests/wrong_brought law=stamps_are_brought ;;
-    closed) changed_crate=afs_closed edits=tests/wrong_closed law=a_volume_accepts_at_one_server ;;
-    enabling) changed_crate=afs_enabling edits=tests/wrong_enabling law=volumes_are_enabled_alone ;;
-    recovered) changed_crate=afs_recovered edits=tests/wrong_recovered law=recoveries_end_alone ;;
-    vanishing) changed_crate=afs_vanishing edits=tests/wrong_vanishing law=a_volume_is_deleted_elsewhere ;;
-    *) echo 'WRONG is operations, dumps, fold, volrows, adminrows, copyrows, walks, moves, stamps, keys, latest, owed, holds, courses, grips, surveys, claims, families, numbers, fences, brought, closed, enabling, recovered, vanishing or answers'; exit 1 ;;
+    operations) changed_crate=spec_ideal edits=tests/wrong_operations law=operations_leave_sound ;;
+    dumps) changed_crate=spec_dumps edits=tests/wrong_dumps law=dumps_finish ;;
+    fold) changed_crate=spec_fold edits=tests/wrong_fold law=records_leave_storable ;;
+    volrows) changed_crate=spec_volrows edits=tests/wrong_volrows law=deeds_are_told ;;
+    adminrows) changed_crate=spec_adminrows edits=tests/wrong_adminrows law=copy ;;
+    copyrows) changed_crate=spec_copyrows edits=tests/wrong_copyrows law=copies_are_plain ;;
+    places) changed_crate=law_places edits=tests/wrong_places law=lines_stand_well ;;
+    stamps) changed_crate=law_stamps edits=tests/wrong_stamps law=entries_are_told ;;
+    keys) changed_crate=law_keys edits=tests/wrong_keys law=calls_run_in_order ;;
+    owed) changed_crate=law_owed edits=tests/wrong_owed law=quits_are_late ;;
+    latest) changed_crate=law_latest edits=tests/wrong_latest law=changes_are_later ;;
+    walks) changed_crate=law_walks edits=tests/wrong_walks law=senders_are_told ;;
+    stamp_owners) changed_crate=law_stamp_owners edits=tests/wrong_stamp_owners law=stamps_have_owners ;;
+    stored_stamps) changed_crate=law_stored_stamps edits=tests/wrong_stored_stamps law=surveys_are_stored ;;
+    answers) changed_crate=law_answers edits=tests/wrong_answers law=answers_have_causes ;;
+    transactions) changed_crate=law_transactions edits=tests/wrong_transactions law=transactions_are_asked_for ;;
+    courses) changed_crate=law_courses edits=tests/wrong_courses law=calls_are_on_course ;;
+    locks) changed_crate=law_locks edits=tests/wrong_locks law=grips_are_drawn ;;
+    families) changed_crate=law_families edits=tests/wrong_families law=transactions_are_of_families ;;
+    numbers) changed_crate=law_numbers edits=tests/wrong_numbers law=numbers_are_apart ;;
+    fences) changed_crate=law_fences edits=tests/wrong_fences law=claims_are_true ;;
+    stamp_origins) changed_crate=law_stamp_origins edits=tests/wrong_stamp_origins law=stamps_are_brought ;;
+    one_server) changed_crate=law_one_server edits=tests/wrong_one_server law=a_volume_accepts_at_one_server ;;
+    enabling) changed_crate=law_enabling edits=tests/wrong_enabling law=volumes_are_enabled_alone ;;
+    recovered) changed_crate=law_recovered edits=tests/wrong_recovered law=recoveries_end_alone ;;
+    vanishing) changed_crate=law_vanishing edits=tests/wrong_vanishing law=a_volume_is_deleted_elsewhere ;;
+    *) echo 'WRONG is operations, dumps, fold, volrows, adminrows, copyrows, walks, places, stamps, keys, latest, owed, stamp_owners, courses, locks, stored_stamps, transactions, families, numbers, fences, stamp_origins, one_server, enabling, recovered, vanishing or answers'; exit 1 ;;
 esac
 
 work=$(mktemp -d)

@@ -2,7 +2,7 @@
 use Rattle.std.proofs.Common.{◌≡◌, ℕ, ◌||◌, Bool, true, false, List, refl, ap, ◌∙◌}
 use Rattle.std.specs.Str.{bytes_eq}
 use Rattle.afs_num.specs.declared.acls.AclEntry.{AclEntry}
-use Rattle.afs_ideal.specs.AccessLists.{anyuser, matches}
+use Rattle.spec_ideal.specs.AccessLists.{anyuser, matches}
 
 same_twice : (b : Bool) → (b || b) ≡ b
 same_twice true = refl

@@ -7,9 +7,9 @@ use Rattle.std.proofs.lemmas.Bool.Decides.{nat_tests}
 use Rattle.std.proofs.lemmas.List.Folds.{list_any-append}
 use Rattle.afs_num.specs.Names.{is_in}
 use Rattle.afs_num.specs.declared.acls.AclEntry.{AclEntry}
-use Rattle.afs_shape.specs.Reading.{◌>>=◌}
-use Rattle.afs_ideal.specs.AccessLists.{Refusal, bad_from, anyuser, at_most, digits_at, entries_at, entry_at, goes_on, is_acl_byte, is_named, line_number_at, matches, matching_rights, most_rights, name_at, name_length, named_at, newline, tab}
-use Rattle.afs_ideal.proofs.Basics.{both, some_of}
+use Rattle.spec_shape.specs.Reading.{◌>>=◌}
+use Rattle.spec_ideal.specs.AccessLists.{Refusal, bad_from, anyuser, at_most, digits_at, entries_at, acl_entry_at, digit_fits, is_acl_byte, has_entry_named, line_number_at, matches, matching_rights, most_rights, name_at, name_length, named_at, newline, tab}
+use Rattle.spec_ideal.proofs.Basics.{both, some_of}
 use Rattle.afs_acl.specs.declared.walking.Both.{Both}
 use Rattle.afs_acl.specs.Walks.{behind_line, both_of, both_read, both_with, is_among, name_of_line}
 use Rattle.afs_acl.proofs.Loops.{one_left}
@@ -29,7 +29,7 @@ digits_end_by most n b bs false false later = tt
 
 digits_end : (most n : ℕ) (bytes : List ℕ) → EndsAt (behind_line bytes) (digits_at most n bytes)
 digits_end most n [] = tt
-digits_end most n (b ∷ bs) = digits_end_by most n b bs (nat_eq b newline) (goes_on most n b) (digits_end most (n * 10 + (b - 48)) bs)
+digits_end most n (b ∷ bs) = digits_end_by most n b bs (nat_eq b newline) (digit_fits most n b) (digits_end most (n * 10 + (b - 48)) bs)
 
 -- a line goes on behind a byte that is no newline
 passed : (b : ℕ) (bs : List ℕ) → nat_eq b newline ≡ false → behind_line (b ∷ bs) ≡ behind_line bs
@@ -73,17 +73,17 @@ abbrev IsNameOf : List ℕ → List ℕ → Result (List ℕ × List ℕ) Refusa
 IsNameOf name bytes (Ok x) = (name ≡ x.0) × (behind_line bytes ≡ behind_line x.1)
 IsNameOf name bytes (Err why) = Unit {0}
 
-named_end_by : (others : List AclEntry) (name : List ℕ) (b : ℕ) (bs : List ℕ) (test : Bool) → (nat_eq b tab && (nat_lt 0 (length name) && not (is_named name others))) ≡ test →
+named_end_by : (others : List AclEntry) (name : List ℕ) (b : ℕ) (bs : List ℕ) (test : Bool) → (nat_eq b tab && (nat_lt 0 (length name) && not (has_entry_named name others))) ≡ test →
     IsNameOf name (b ∷ bs) (if test then Ok (name, bs) else Err (bad_from (b ∷ bs)))
 named_end_by others name b bs true is =
-    let first = both (nat_eq b tab) (nat_lt 0 (length name) && not (is_named name others)) is in
+    let first = both (nat_eq b tab) (nat_lt 0 (length name) && not (has_entry_named name others)) is in
     (refl, passed b bs (let z : nat_eq b newline ≡ false = grind (arith, nat_tests, first.0) in z))
 named_end_by others name b bs false is = tt
 
 named_end : (others : List AclEntry) (name bytes : List ℕ) → IsNameOf name bytes (named_at others name bytes)
 unfolding named_at
 named_end others name [] = tt
-named_end others name (b ∷ bs) = named_end_by others name b bs (nat_eq b tab && (nat_lt 0 (length name) && not (is_named name others))) refl
+named_end others name (b ∷ bs) = named_end_by others name b bs (nat_eq b tab && (nat_lt 0 (length name) && not (has_entry_named name others))) refl
 
 -- an entry that was read has the name on its line, and ends with it
 abbrev IsLineOf : List ℕ → Result (AclEntry × List ℕ) Refusal → Type 0
@@ -101,8 +101,8 @@ line_by_name bytes rest (Ok x) same is =
     line_by_number bytes x.0 (line_number_at most_rights x.1) is.0 (ends_at (behind_line x.1) (behind_line bytes) (line_number_at most_rights x.1) (sym same ∙ is.1) (line_end most_rights x.1))
 line_by_name bytes rest (Err why) same is = tt
 
-line_of : (others : List AclEntry) (bytes : List ℕ) → IsLineOf bytes (entry_at others bytes)
-unfolding entry_at name_at
+line_of : (others : List AclEntry) (bytes : List ℕ) → IsLineOf bytes (acl_entry_at others bytes)
+unfolding acl_entry_at name_at
 line_of others bytes =
     let rest = drop (name_length bytes) bytes in
     line_by_name bytes rest (named_at others (name_of_line bytes) rest) (name_passed (name_length bytes) bytes (within (prefix_len is_acl_byte bytes))) (named_end others (name_of_line bytes) rest)
@@ -122,10 +122,10 @@ nothing : {A : Type 0} (named : Bool) → None ≡ (if named then None else (let
 nothing true = refl
 nothing false = refl
 
-alone_named : (others : List AclEntry) (name bytes : List ℕ) → result_ok (named_at others name bytes) ≡ (if is_named name others then None else result_ok (named_at [] name bytes))
+alone_named : (others : List AclEntry) (name bytes : List ℕ) → result_ok (named_at others name bytes) ≡ (if has_entry_named name others then None else result_ok (named_at [] name bytes))
 unfolding named_at
-alone_named others name [] = nothing (is_named name others)
-alone_named others name (b ∷ bs) = alone_by (nat_eq b tab) (nat_lt 0 (length name)) (is_named name others) (name, bs) (bad_from (b ∷ bs))
+alone_named others name [] = nothing (has_entry_named name others)
+alone_named others name (b ∷ bs) = alone_by (nat_eq b tab) (nat_lt 0 (length name)) (has_entry_named name others) (name, bs) (bad_from (b ∷ bs))
 
 -- what follows where something was read
 abbrev then_ok : {A B : Type 0} → (A → Result B Refusal) → Option A → Option B
@@ -140,16 +140,16 @@ then_unless : {A B : Type 0} (next : A → Result B Refusal) (named : Bool) (o :
 then_unless next true o = refl
 then_unless next false o = refl
 
-alone : (others : List AclEntry) (bytes : List ℕ) → result_ok (entry_at others bytes) ≡ (if is_named (name_of_line bytes) others then None else result_ok (entry_at [] bytes))
-unfolding entry_at name_at
+alone : (others : List AclEntry) (bytes : List ℕ) → result_ok (acl_entry_at others bytes) ≡ (if has_entry_named (name_of_line bytes) others then None else result_ok (acl_entry_at [] bytes))
+unfolding acl_entry_at name_at
 alone others bytes =
     let rest = drop (name_length bytes) bytes in
     let name = name_of_line bytes in
     let next : List ℕ × List ℕ → Result (AclEntry × List ℕ) Refusal = λ name. line_number_at most_rights name.1 >>= (λ rights. Ok (record { name = name.0; rights = rights.0 }, rights.1)) in
     ok_then (named_at others name rest) next
     ∙ (ap (then_ok next) (alone_named others name rest)
-    ∙ (then_unless next (is_named name others) (result_ok (named_at [] name rest))
-    ∙ ap (λ o. if is_named name others then None else o) (sym (ok_then (named_at [] name rest) next))))
+    ∙ (then_unless next (has_entry_named name others) (result_ok (named_at [] name rest))
+    ∙ ap (λ o. if has_entry_named name others then None else o) (sym (ok_then (named_at [] name rest) next))))
 
 -- ---- one line more
 
@@ -183,8 +183,8 @@ among_later name count n lines among lt unlike told =
     sym (ap (λ (t : Bool). t || is_among name (count - (n + 1)) (behind_line lines)) unlike)
     ∙ (sym (ap (λ (k : ℕ). is_among name k lines) (let z : count - n ≡ suc (count - (n + 1)) = omega (arith, lt) in z)) ∙ told)
 
-named_more : (name : List ℕ) (others : List AclEntry) (e : AclEntry) → is_named name (others ++ e ∷ []) ≡ (is_named name others || bytes_eq e.name name)
-named_more name others e = list_any-append (λ (x : AclEntry). bytes_eq x.name name) others (e ∷ []) ∙ ap (λ (t : Bool). is_named name others || t) (or_false (bytes_eq e.name name))
+named_more : (name : List ℕ) (others : List AclEntry) (e : AclEntry) → has_entry_named name (others ++ e ∷ []) ≡ (has_entry_named name others || bytes_eq e.name name)
+named_more name others e = list_any-append (λ (x : AclEntry). bytes_eq x.name name) others (e ∷ []) ∙ ap (λ (t : Bool). has_entry_named name others || t) (or_false (bytes_eq e.name name))
 
 rights_more : (user : List ℕ) (rights : ℕ) (others : List AclEntry) (e : AclEntry) →
     matching_rights user rights (others ++ e ∷ []) ≡ (if matches user e then bit_or (matching_rights user rights others) e.rights else matching_rights user rights others)
@@ -216,7 +216,7 @@ pub record IsWalked (user first rest : List ℕ) (count n : ℕ) (both : Both) :
   pub others : List AclEntry
   pub few : n ≤ count
   pub onward : result_ok (entries_at (count - n) others rest) ≡ result_ok (entries_at count [] first)
-  pub among : (name : List ℕ) → is_among name n first ≡ is_named name others
+  pub among : (name : List ℕ) → is_among name n first ≡ has_entry_named name others
   pub behind : behind_lines n first ≡ rest
   pub said : both ≡ both_of user others
 
@@ -233,10 +233,10 @@ walk_begins user first count both e = record {
 -- the next entry decides how it goes on
 one_more : (count n : ℕ) (others : List AclEntry) (rest : List ℕ) → n < count →
     result_ok (entries_at (count - n) others rest)
-    ≡ then_ok (λ e. entries_at (count - (n + 1)) (others ++ e.0 ∷ []) e.1) (if is_named (name_of_line rest) others then None else result_ok (entry_at [] rest))
+    ≡ then_ok (λ e. entries_at (count - (n + 1)) (others ++ e.0 ∷ []) e.1) (if has_entry_named (name_of_line rest) others then None else result_ok (acl_entry_at [] rest))
 one_more count n others rest lt =
     let next : AclEntry × List ℕ → Result (List AclEntry × List ℕ) Refusal = λ e. entries_at (count - (n + 1)) (others ++ e.0 ∷ []) e.1 in
-    ap (λ r. result_ok r) (one_left count n others rest lt) ∙ (ok_then (entry_at others rest) next ∙ ap (then_ok next) (alone others rest))
+    ap (λ r. result_ok r) (one_left count n others rest lt) ∙ (ok_then (acl_entry_at others rest) next ∙ ap (then_ok next) (alone others rest))
 
 -- the name of a line that was read
 read_name : (bytes : List ℕ) (x : AclEntry × List ℕ) (r : Result (AclEntry × List ℕ) Refusal) → Some x ≡ result_ok r → IsLineOf bytes r → (name_of_line bytes ≡ x.0.name) × (behind_line bytes ≡ x.1)
@@ -244,24 +244,24 @@ read_name bytes x (Ok y) e is = let same : y ≡ x = some_of y x (sym e) in (is.
 read_name bytes x (Err why) e is = absurd cc
 
 pub walk_goes_on : (user first rest : List ℕ) (count n : ℕ) (both : Both) (e : AclEntry) (after : List ℕ) → IsWalked user first rest count n both → n < count →
-    Some (e, after) ≡ result_ok (entry_at [] rest) → is_among e.name n first ≡ false → IsWalked user first after count (n + 1) (both_with user both e)
+    Some (e, after) ≡ result_ok (acl_entry_at [] rest) → is_among e.name n first ≡ false → IsWalked user first after count (n + 1) (both_with user both e)
 walk_goes_on user first rest count n both e after w lt read new =
-    let line = read_name rest (e, after) (entry_at [] rest) read (line_of [] rest) in
+    let line = read_name rest (e, after) (acl_entry_at [] rest) read (line_of [] rest) in
     let next : AclEntry × List ℕ → Result (List AclEntry × List ℕ) Refusal = λ x. entries_at (count - (n + 1)) (w.others ++ x.0 ∷ []) x.1 in
     let more : n + 1 ≡ suc n = omega arith in
-    let unnamed : is_named (name_of_line rest) w.others ≡ false = ap (λ (name : List ℕ). is_named name w.others) line.0 ∙ (sym (w.among e.name) ∙ new) in
+    let unnamed : has_entry_named (name_of_line rest) w.others ≡ false = ap (λ (name : List ℕ). has_entry_named name w.others) line.0 ∙ (sym (w.among e.name) ∙ new) in
     record {
       others = w.others ++ e ∷ [];
       few = omega (arith, lt);
       onward =
-          ap (then_ok next) (read ∙ sym (ap (λ (t : Bool). if t then None else result_ok (entry_at [] rest)) unnamed))
+          ap (then_ok next) (read ∙ sym (ap (λ (t : Bool). if t then None else result_ok (acl_entry_at [] rest)) unnamed))
           ∙ (sym (one_more count n w.others rest lt) ∙ w.onward);
       among = λ name.
           ap (λ (k : ℕ). is_among name k first) more
           ∙ (among_more name n first
           ∙ (ap (λ (t : Bool). t || bytes_eq (name_of_line (behind_lines n first)) name) (w.among name)
-          ∙ (ap (λ (xs : List ℕ). is_named name w.others || bytes_eq (name_of_line xs) name) w.behind
-          ∙ (ap (λ (xs : List ℕ). is_named name w.others || bytes_eq xs name) line.0
+          ∙ (ap (λ (xs : List ℕ). has_entry_named name w.others || bytes_eq (name_of_line xs) name) w.behind
+          ∙ (ap (λ (xs : List ℕ). has_entry_named name w.others || bytes_eq xs name) line.0
           ∙ sym (named_more name w.others e)))));
       behind = ap (λ (k : ℕ). behind_lines k first) more ∙ (line_more n first ∙ (ap behind_line w.behind ∙ line.1));
       said = ap (λ (b : Both). both_with user b e) w.said ∙ sym (both_more user w.others e);
@@ -269,22 +269,22 @@ walk_goes_on user first rest count n both e after w lt read new =
 
 -- the walk stops where the next line is none that can stand there
 pub walk_stops : (user first rest : List ℕ) (count n : ℕ) (both : Both) → IsWalked user first rest count n both → n < count →
-    None ≡ result_ok (entry_at [] rest) → None ≡ both_read user (entries_at count [] first)
+    None ≡ result_ok (acl_entry_at [] rest) → None ≡ both_read user (entries_at count [] first)
 walk_stops user first rest count n both w lt read =
     let next : AclEntry × List ℕ → Result (List AclEntry × List ℕ) Refusal = λ x. entries_at (count - (n + 1)) (w.others ++ x.0 ∷ []) x.1 in
     none_read user (entries_at count [] first)
-    (ap (then_ok next) (nothing (is_named (name_of_line rest) w.others) ∙ ap (λ o. if is_named (name_of_line rest) w.others then None else o) read)
+    (ap (then_ok next) (nothing (has_entry_named (name_of_line rest) w.others) ∙ ap (λ o. if has_entry_named (name_of_line rest) w.others then None else o) read)
     ∙ (sym (one_more count n w.others rest lt) ∙ w.onward))
 
 -- or where its name stood before
 pub walk_meets_again : (user first rest : List ℕ) (count n : ℕ) (both : Both) (e : AclEntry) (after : List ℕ) → IsWalked user first rest count n both → n < count →
-    Some (e, after) ≡ result_ok (entry_at [] rest) → is_among e.name n first ≡ true → None ≡ both_read user (entries_at count [] first)
+    Some (e, after) ≡ result_ok (acl_entry_at [] rest) → is_among e.name n first ≡ true → None ≡ both_read user (entries_at count [] first)
 walk_meets_again user first rest count n both e after w lt read again =
-    let line = read_name rest (e, after) (entry_at [] rest) read (line_of [] rest) in
+    let line = read_name rest (e, after) (acl_entry_at [] rest) read (line_of [] rest) in
     let next : AclEntry × List ℕ → Result (List AclEntry × List ℕ) Refusal = λ x. entries_at (count - (n + 1)) (w.others ++ x.0 ∷ []) x.1 in
-    let named : is_named (name_of_line rest) w.others ≡ true = ap (λ (name : List ℕ). is_named name w.others) line.0 ∙ (sym (w.among e.name) ∙ again) in
+    let named : has_entry_named (name_of_line rest) w.others ≡ true = ap (λ (name : List ℕ). has_entry_named name w.others) line.0 ∙ (sym (w.among e.name) ∙ again) in
     none_read user (entries_at count [] first)
-    (ap (then_ok next) (sym (ap (λ (t : Bool). if t then None else result_ok (entry_at [] rest)) named))
+    (ap (then_ok next) (sym (ap (λ (t : Bool). if t then None else result_ok (acl_entry_at [] rest)) named))
     ∙ (sym (one_more count n w.others rest lt) ∙ w.onward))
 
 -- at the end all were read

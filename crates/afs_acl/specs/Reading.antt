@@ -1,7 +1,7 @@
 -- What a call that reads an access list gives, in terms of its text.
 use Rattle.std.specs.Prelude.{◌≡◌, ℕ, List, ◌++◌, length, Result, Ok, Err}
 use Rattle.afs_num.specs.declared.acls.AccessList.{AccessList}
-use Rattle.afs_ideal.specs.AccessLists.{Refusal, bad_from, too_many}
+use Rattle.spec_ideal.specs.AccessLists.{Refusal, bad_from, too_many}
 use Rattle.afs_acl.specs.declared.stops.Stop.{Stop}
 use Rattle.afs_acl.specs.declared.stops.Stop.TheVariants as stops
 use Rattle.afs_acl.specs.declared.faults.AclFault.{AclFault}

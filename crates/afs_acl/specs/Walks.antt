@@ -3,7 +3,7 @@ use Rattle.std.specs.Prelude.{ℕ, zero, suc, List, [], ◌∷◌, take, Bool, f
 use Rattle.std.specs.Str.{bytes_eq}
 use Rattle.afs_num.specs.declared.acls.AccessList.{AccessList}
 use Rattle.afs_num.specs.declared.acls.AclEntry.{AclEntry}
-use Rattle.afs_ideal.specs.AccessLists.{Refusal, anyuser, matches, matching_rights, name_length, newline, rights_of}
+use Rattle.spec_ideal.specs.AccessLists.{Refusal, anyuser, matches, matching_rights, name_length, newline, rights_of}
 use Rattle.afs_acl.specs.declared.walking.Both.{Both}
 use Rattle.afs_acl.specs.declared.walking.Line.{Line}
 

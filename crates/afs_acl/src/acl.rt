@@ -1,6 +1,6 @@
 ghost use Rattle.std.specs.Prelude.{◌≡◌, ◌++◌, IfOk, OnOk, Ok};
 ghost use Rattle.std.specs.List.{flat_map};
-ghost use Rattle.afs_ideal.specs.AccessLists.{acl_at, acl_text, entry_text, lists_at, number_line, matches, matching_rights, rights_of, without_rights};
+ghost use Rattle.spec_ideal.specs.AccessLists.{acl_at, acl_text, acl_entry_text, lists_at, number_line, matches, matching_rights, rights_of, without_rights};
 ghost use Rattle.afs_acl.specs.Reading.{Gives, GivesAcl};
 
 use crate::faults::AclFault;
@@ -22,7 +22,7 @@ pub struct Acl {
 
 impl Model for Acl {
     ghost use Rattle.afs_num.specs.declared.acls.AccessList.{AccessList};
-    ghost use Rattle.afs_ideal.specs.AccessLists.{IsAccessList};
+    ghost use Rattle.spec_ideal.specs.AccessLists.{IsAccessList};
 
     ghost Value = { AccessList };
 
@@ -55,7 +55,7 @@ impl Acl {
     }
 
     /// The rights that a user has by the list, as their sum. It takes no memory.
-    #[tactic(auto, unfolding(afs_ideal::specs::AccessLists::rights_of))]
+    #[tactic(auto, unfolding(spec_ideal::specs::AccessLists::rights_of))]
     pub fn rights(&self, user: &[u8]) -> u32
         ensures { result ≡ rights_of user.now self.now }
     {
@@ -76,7 +76,7 @@ fn lists(alloc: Global, positive: u32, negative: u32, text: &[u8]) -> Result<Acc
 }
 
 /// The access list that stands in a text.
-#[tactic(auto, unfolding(afs_ideal::specs::AccessLists::acl_at))]
+#[tactic(auto, unfolding(spec_ideal::specs::AccessLists::acl_at))]
 fn read(alloc: Global, text: &[u8]) -> Result<AccessList, Stop<'_>>
     ensures { Gives (λ a. a) (acl_at text.now) result }
 {
@@ -124,9 +124,9 @@ fn put_number(alloc: Global, out: &mut Vec<u8>, n: usize) -> Mem<()>
 }
 
 /// Appends an entry.
-#[tactic(auto, unfolding(afs_ideal::specs::AccessLists::entry_text))]
+#[tactic(auto, unfolding(spec_ideal::specs::AccessLists::acl_entry_text))]
 fn put_entry(alloc: Global, out: &mut Vec<u8>, entry: &AclEntry) -> Mem<()>
-    ensures { OnOk result (out.new.items ≡ out.old.items ++ entry_text entry.now) }
+    ensures { OnOk result (out.new.items ≡ out.old.items ++ acl_entry_text entry.now) }
 {
     out.extend_from_slice(entry.name.as_slice())?;
     out.push(b'\t')?;
@@ -135,7 +135,7 @@ fn put_entry(alloc: Global, out: &mut Vec<u8>, entry: &AclEntry) -> Mem<()>
 }
 
 fn put_entries(alloc: Global, out: &mut Vec<u8>, entries: &[AclEntry]) -> Mem<()>
-    ensures { OnOk result (out.new.items ≡ out.old.items ++ flat_map entry_text entries.now) }
+    ensures { OnOk result (out.new.items ≡ out.old.items ++ flat_map acl_entry_text entries.now) }
 {
     for entry in entries {
         put_entry(alloc, out, entry)?;
@@ -144,7 +144,7 @@ fn put_entries(alloc: Global, out: &mut Vec<u8>, entries: &[AclEntry]) -> Mem<()
 }
 
 /// The text of an access list.
-#[tactic(auto, unfolding(afs_ideal::specs::AccessLists::acl_text))]
+#[tactic(auto, unfolding(spec_ideal::specs::AccessLists::acl_text))]
 fn spelled(alloc: Global, list: &AccessList) -> Mem<Octets>
     ensures { IfOk result (λ t. t ≡ acl_text list.now) }
 {

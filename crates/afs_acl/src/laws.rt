@@ -2,7 +2,7 @@
 
 ghost use Rattle.std.specs.Prelude.{◌≡◌, List, ℕ, Ok};
 ghost use Rattle.afs_num.specs.declared.acls.AccessList.{AccessList};
-ghost use Rattle.afs_ideal.specs.AccessLists.{IsAccessList, acl_at, acl_text};
+ghost use Rattle.spec_ideal.specs.AccessLists.{IsAccessList, acl_at, acl_text};
 
 /// A list that has a text is read from it again.
 pub fn texts_are_read_again()

@@ -2,7 +2,7 @@
 
 ghost use Rattle.std.specs.Prelude.{◌≡◌, ◌≤◌, ◌+◌, ◌-◌, ◌*◌, [], length, Some, None, if◌then◌else◌};
 ghost use Rattle.std.specs.List.{prefix_len};
-ghost use Rattle.afs_ideal.specs.AccessLists.{goes_on, digits_at, line_number_at, count_at, is_acl_byte, is_named, name_length, named_at, name_at, entry_at, entries_at, must_be_few, must_end};
+ghost use Rattle.spec_ideal.specs.AccessLists.{digit_fits, digits_at, line_number_at, count_at, is_acl_byte, has_entry_named, name_length, named_at, name_at, acl_entry_at, entries_at, must_be_few, must_end};
 ghost use Rattle.afs_acl.specs.Reading.{Gives, Reads};
 
 use crate::stops::Stop;
@@ -12,7 +12,7 @@ use std::alloc::Global;
 
 /// The number with one more digit, where it goes on so.
 fn appended(most: u32, n: u32, digit: u8) -> Option<u32>
-    ensures { result ≡ (if goes_on most n digit then Some (n * 10 + (digit - 48)) else None) }
+    ensures { result ≡ (if digit_fits most n digit then Some (n * 10 + (digit - 48)) else None) }
 {
     if n == 0 || !digit.is_ascii_digit() {
         return None;
@@ -45,7 +45,7 @@ fn digits(bytes: &[u8], most: u32, first: u32) -> Result<(u32, &[u8]), Stop<'_>>
 }
 
 /// The number on the line that stands first, and what follows it.
-#[tactic(auto, unfolding(afs_ideal::specs::AccessLists::line_number_at))]
+#[tactic(auto, unfolding(spec_ideal::specs::AccessLists::line_number_at))]
 pub fn line_number(bytes: &[u8], most: u32) -> Result<(u32, &[u8]), Stop<'_>>
     ensures { Reads (λ r. (r.0, r.1.now)) (line_number_at most bytes.now) result }
 {
@@ -58,7 +58,7 @@ pub fn line_number(bytes: &[u8], most: u32) -> Result<(u32, &[u8]), Stop<'_>>
 }
 
 /// A count of entries.
-#[tactic(auto, unfolding(afs_ideal::specs::AccessLists::count_at))]
+#[tactic(auto, unfolding(spec_ideal::specs::AccessLists::count_at))]
 pub fn count(bytes: &[u8]) -> Result<(u32, &[u8]), Stop<'_>>
     ensures { Reads (λ r. (r.0, r.1.now)) (count_at bytes.now) result }
 {
@@ -90,13 +90,13 @@ pub fn name_length(bytes: &[u8]) -> usize
 
 /// Whether one of the entries has the name.
 fn is_named(entries: &[AclEntry], name: &[u8]) -> bool
-    ensures { result ≡ is_named name.now entries.now }
+    ensures { result ≡ has_entry_named name.now entries.now }
 {
     entries.iter().any(|entry| entry.name.as_slice() == name)
 }
 
 /// What follows the tab behind a name, where the name is new.
-#[tactic(auto, unfolding(afs_ideal::specs::AccessLists::named_at))]
+#[tactic(auto, unfolding(spec_ideal::specs::AccessLists::named_at))]
 fn named<'a>(
     others: &[AclEntry],
     name: &'a [u8],
@@ -111,7 +111,7 @@ fn named<'a>(
 }
 
 /// A name that none of the others has, and what follows its tab.
-#[tactic(auto, unfolding(afs_ideal::specs::AccessLists::name_at))]
+#[tactic(auto, unfolding(spec_ideal::specs::AccessLists::name_at))]
 pub fn name<'a>(others: &[AclEntry], bytes: &'a [u8]) -> Result<(&'a [u8], &'a [u8]), Stop<'a>>
     ensures { Reads (λ r. (r.0.now, r.1.now)) (name_at others.now bytes.entry.now) result }
 {
@@ -120,13 +120,13 @@ pub fn name<'a>(others: &[AclEntry], bytes: &'a [u8]) -> Result<(&'a [u8], &'a [
 }
 
 /// An entry behind the others, and what follows it.
-#[tactic(auto, unfolding(afs_ideal::specs::AccessLists::entry_at))]
+#[tactic(auto, unfolding(spec_ideal::specs::AccessLists::acl_entry_at))]
 fn entry<'a>(
     alloc: Global,
     others: &[AclEntry],
     bytes: &'a [u8],
 ) -> Result<(AclEntry, &'a [u8]), Stop<'a>>
-    ensures { Gives (λ r. (r.0, r.1.now)) (entry_at others.now bytes.entry.now) result }
+    ensures { Gives (λ r. (r.0, r.1.now)) (acl_entry_at others.now bytes.entry.now) result }
 {
     let (name, rest) = name(others, bytes)?;
     let (rights, rest) = line_number(rest, 127)?;

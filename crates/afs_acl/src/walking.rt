@@ -3,7 +3,7 @@
 ghost use Rattle.std.specs.Prelude.{◌≡◌, [], bit_or, if◌then◌else◌};
 ghost use Rattle.std.specs.Option.{option_map};
 ghost use Rattle.std.specs.Result.{result_ok};
-ghost use Rattle.afs_ideal.specs.AccessLists.{acl_at, anyuser, entries_at, entry_at, lists_at, matches};
+ghost use Rattle.spec_ideal.specs.AccessLists.{acl_at, anyuser, entries_at, acl_entry_at, lists_at, matches};
 ghost use Rattle.afs_acl.specs.Reading.{Reads};
 ghost use Rattle.afs_acl.specs.Walks.{behind_line, both_read, both_with, entry_seen, is_among, kinds_read, name_of_line, rights_read};
 
@@ -62,9 +62,9 @@ fn with_one(both: Both, line: &Line<'_>, user: &[u8]) -> Both
 }
 
 /// The entry on the line that stands first, and what follows it.
-#[tactic(auto, unfolding(afs_ideal::specs::AccessLists::entry_at))]
+#[tactic(auto, unfolding(spec_ideal::specs::AccessLists::acl_entry_at))]
 fn read_line(bytes: &[u8]) -> Result<(Line<'_>, &[u8]), Stop<'_>>
-    ensures { Reads (λ r. (entry_seen r.0, r.1.now)) (entry_at [] bytes.now) result }
+    ensures { Reads (λ r. (entry_seen r.0, r.1.now)) (acl_entry_at [] bytes.now) result }
 {
     let (name, rest) = name(&[], bytes)?;
     let (rights, rest) = line_number(rest, 127)?;
@@ -73,7 +73,7 @@ fn read_line(bytes: &[u8]) -> Result<(Line<'_>, &[u8]), Stop<'_>>
 
 /// The entry on the line that stands first, and what follows it, where it can stand there.
 fn first_line(bytes: &[u8]) -> Option<(Line<'_>, &[u8])>
-    ensures { option_map (λ r. (entry_seen r.0, r.1.now)) result ≡ result_ok (entry_at [] bytes.now) }
+    ensures { option_map (λ r. (entry_seen r.0, r.1.now)) result ≡ result_ok (acl_entry_at [] bytes.now) }
 {
     read_line(bytes).ok()
 }
@@ -144,7 +144,7 @@ fn both_kinds(positive: u32, negative: u32, bytes: &[u8], user: &[u8]) -> Option
 }
 
 /// The rights of the entries of each kind in an access list.
-#[tactic(auto, unfolding(afs_ideal::specs::AccessLists::acl_at))]
+#[tactic(auto, unfolding(spec_ideal::specs::AccessLists::acl_at))]
 fn kinds(text: &[u8], user: &[u8]) -> Option<(Both, Both)>
     ensures { result ≡ kinds_read user.now (acl_at text.now) }
 {
@@ -156,7 +156,7 @@ fn kinds(text: &[u8], user: &[u8]) -> Option<(Both, Both)>
 
 /// The rights that a user has by the access list of a text, and those that everyone has; none where the text is no access
 /// list. They are found in the text itself. It takes no memory.
-#[tactic(auto, unfolding(afs_ideal::specs::AccessLists::rights_of))]
+#[tactic(auto, unfolding(spec_ideal::specs::AccessLists::rights_of))]
 pub fn rights_spelled(text: &[u8], user: &[u8]) -> Option<(u32, u32)>
     ensures { result ≡ rights_read user.now (acl_at text.now) }
 {

@@ -1,19 +1,19 @@
 -- What an act within its limits needs can be sent.
 use Rattle.std.proofs.Common.{◌≤◌, ◌<◌, ℕ, zero, suc, Bool, true, false, cond, ◌||◌, List, [], ◌∷◌, map, take, length, Option, Some, None, subst, arith}
 use Rattle.std.specs.Prelude.{nat_eq}
-use Rattle.afs_history.specs.Written.{bytes_in}
-use Rattle.afs_history.specs.declared.acts.Act.{Act}
-use Rattle.afs_history.specs.declared.acts.Act.TheVariants as acts
+use Rattle.spec_history.specs.Written.{bytes_in}
+use Rattle.spec_history.specs.declared.acts.Act.{Act}
+use Rattle.spec_history.specs.declared.acts.Act.TheVariants as acts
 use Rattle.afs_num.specs.declared.directories.Name.{Name}
 use Rattle.afs_num.specs.declared.types.Fid.{Fid}
 use Rattle.afs_num.specs.declared.histories.Body.{Body}
 use Rattle.afs_num.specs.declared.histories.ReadStatus.{ReadStatus}
 use Rattle.afs_num.specs.declared.histories.Body.TheVariants as bodies
-use Rattle.afs_model.specs.FsRows.{name_limit}
-use Rattle.afs_shape.specs.Tables.{IsCount}
-use Rattle.afs_rows.specs.Going as going
-use Rattle.afs_rows.specs.Going.{Need, Shown, Taken, Homes, Going, Parted, put_front, parted, parted_on, first_body, looked_up, is_even, is_last_name, fid_of, by_kind, first_status, has_rights, reading_status, by_status, named_first, is_root, next}
-use Rattle.afs_acts.specs.Acts.{IsShortAct, FitsNeed}
+use Rattle.spec_model.specs.FsRows.{name_limit}
+use Rattle.spec_shape.specs.Tables.{IsCount}
+use Rattle.spec_rows.specs.Going as going
+use Rattle.spec_rows.specs.Going.{Need, ReadShown, TakenRead, Homes, Going, Parted, put_front, parted, parted_on, first_body, looked_up, is_even, is_last_name, fid_of, by_kind, first_status, has_rights, reading_status, by_status, named_first, is_root_path, next}
+use Rattle.afs_acts.specs.Acts.{FitsCalls, FitsNeed}
 use Rattle.afs_acts.specs.Walks.{body_at, path_at, object_at, parent_at}
 use Rattle.afs_acts.specs.Needs.{are_read, statuses_seen, moved, linked, needed_by, needed}
 use Rattle.afs_acts.proofs.Walking.{needed_is}
@@ -34,7 +34,7 @@ counted most n small h = (h, omega (arith, small, h))
 name_counted : (n : List ℕ) → IsShortName n → IsCount name_limit (length n)
 name_counted n h = counted name_limit (length n) (omega arith) h
 
-status_by_fits : (f : Fid) (o : Option (Taken ReadStatus)) → FitsNeed (by_status f o)
+status_by_fits : (f : Fid) (o : Option (TakenRead ReadStatus)) → FitsNeed (by_status f o)
 status_by_fits f None = tt
 status_by_fits f (Some t) = omega arith
 
@@ -54,13 +54,13 @@ seen_fits : (b : Bool) (fs : List Fid) → length fs ≤ 50 → FitsNeed (cond b
 seen_fits true fs h = omega arith
 seen_fits false fs h = h
 
-statuses_fit : (volume : ℕ) (rs : List Shown) (b : Body) → FitsNeed (statuses_seen volume rs b)
+statuses_fit : (volume : ℕ) (rs : List ReadShown) (b : Body) → FitsNeed (statuses_seen volume rs b)
 statuses_fit volume rs (bodies.Dir names) = seen_fits (are_read (named_first volume names) rs) (named_first volume names) (named_few volume names)
 statuses_fit volume rs (bodies.File c) = omega arith
 statuses_fit volume rs (bodies.Link c) = omega arith
 statuses_fit volume rs bodies.Gone = omega arith
 
-pub needs_fit : (h : Homes) (a : Act) (rs : List Shown) → IsShortAct a → FitsNeed (needed_by h a rs)
+pub needs_fit : (h : Homes) (a : Act) (rs : List ReadShown) → FitsCalls a → FitsNeed (needed_by h a rs)
 needs_fit h (acts.Open o) rs s = shown_fits FitsNeed asks told 0 21 22 h.first o rs s.first (omega arith) (omega arith) (omega arith)
 needs_fit h (acts.ListNames o) rs s = shown_fits FitsNeed asks told 20 0 20 h.first o rs s.first (omega arith) (omega arith) (omega arith)
 needs_fit h (acts.ReadLink o) rs s = shown_fits FitsNeed asks told 22 21 0 h.first o rs s.first (omega arith) (omega arith) (omega arith)
@@ -73,22 +73,22 @@ needs_fit h (acts.Symlink p target) rs s = goes_fits FitsNeed asks told (IsWithi
 needs_fit h (acts.Remove p) rs s = goes_fits FitsNeed asks told (IsWithinSo IsShortName) _ (parent_at h.first p rs) (parent_reached FitsNeed asks told IsShortName h.first p rs s.call s.first) (λ w k. (tt, (name_counted w.name k, tt)))
 needs_fit h (acts.RemoveDirectory p) rs s = goes_fits FitsNeed asks told (IsWithinSo IsShortName) _ (parent_at h.first p rs) (parent_reached FitsNeed asks told IsShortName h.first p rs s.call s.first) (λ w k. (tt, (name_counted w.name k, tt)))
 needs_fit h (acts.Move p q) rs s =
-    root_or FitsNeed asks told (is_root p || is_root q) _
+    root_or FitsNeed asks told (is_root_path p || is_root_path q) _
     (goes_fits FitsNeed asks told (IsWithinSo IsShortName) _ (parent_at h.first p rs) (parent_reached FitsNeed asks told IsShortName h.first p rs s.call.0 s.first)
     (λ d k. goes_fits FitsNeed asks told (IsWithinSo IsShortName) (moved d) (parent_at h.second q d.rest) (parent_reached FitsNeed asks told IsShortName h.second q d.rest s.call.1 s.second)
     (λ e l. one_volume FitsNeed asks told (nat_eq d.directory.volume e.directory.volume) _ (tt, (name_counted d.name k, (tt, (name_counted e.name l, tt)))))))
 needs_fit h (acts.Link p q) rs s =
-    root_or FitsNeed asks told (is_root q) _
+    root_or FitsNeed asks told (is_root_path q) _
     (goes_fits FitsNeed asks told Any _ (path_at h.first p rs) (path_reached FitsNeed asks told h.first p rs s.first)
     (λ a k. goes_fits FitsNeed asks told (IsWithinSo IsShortName) (linked a) (parent_at h.second q a.rest) (parent_reached FitsNeed asks told IsShortName h.second q a.rest s.call s.second)
     (λ d l. one_volume FitsNeed asks told (nat_eq a.fid.volume d.directory.volume) _ (tt, (name_counted d.name l, (tt, tt))))))
 needs_fit h (acts.Stat o) rs s = goes_fits FitsNeed asks told Any _ (object_at h.first o rs) (object_reached FitsNeed asks told h.first o rs s.first) (λ a k. status_by_fits a.fid (first_status a.fid a.rest))
 needs_fit h (acts.StatAll o) rs s =
     goes_fits FitsNeed asks told Any _ (object_at h.first o rs) (object_reached FitsNeed asks told h.first o rs s.first)
-    (λ a k. goes_fits FitsNeed asks told Any (λ (t : Taken Body). statuses_seen a.fid.volume t.rest t.found) (body_at a) (body_reached FitsNeed asks told a.fid (first_body a.fid a.rest)) (λ t l. statuses_fit a.fid.volume t.rest t.found))
+    (λ a k. goes_fits FitsNeed asks told Any (λ (t : TakenRead Body). statuses_seen a.fid.volume t.rest t.found) (body_at a) (body_reached FitsNeed asks told a.fid (first_body a.fid a.rest)) (λ t l. statuses_fit a.fid.volume t.rest t.found))
 needs_fit h (acts.GetAccessList o) rs s = goes_fits FitsNeed asks told Any _ (object_at h.first o rs) (object_reached FitsNeed asks told h.first o rs s.first) (λ a k. rights_by_fits (has_rights a.fid a.rest) a.fid)
 needs_fit h acts.GiveUp rs s = tt
 
-pub next_fits : (g : Going) → IsShortAct g.act → FitsNeed (next g)
+pub next_fits : (g : Going) → FitsCalls g.act → FitsNeed (next g)
 unfolding needed
 next_fits g s = subst FitsNeed (needed_is g) (needs_fit g.homes g.act g.reads s)

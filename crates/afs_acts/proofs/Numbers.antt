@@ -1,6 +1,6 @@
 -- Even numbers, and the last of a list of names.
 use Rattle.std.proofs.Common.{◌≡◌, ◌==◌, ◌%◌, ◌++◌, ◌+◌, ℕ, zero, suc, Bool, true, false, cond, not, List, [], ◌∷◌, Some, None, length, refl, ap, ◌∙◌, arith}
-use Rattle.afs_rows.specs.Going.{is_even, put_front, parted, parted_on}
+use Rattle.spec_rows.specs.Going.{is_even, put_front, parted, parted_on}
 
 odd_by : (b : Bool) (n : ℕ) → n % 2 ≡ cond b 0 1 → suc n % 2 ≡ cond (not b) 0 1
 odd_by true n h = omega (arith, h)

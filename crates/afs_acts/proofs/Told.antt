@@ -3,13 +3,13 @@ use Rattle.std.proofs.Common.{◌≡◌, ℕ, Bool, true, false, cond, ◌||◌,
 use Rattle.std.specs.Prelude.{is_some}
 use Rattle.std.specs.List.{list_any}
 use Rattle.std.proofs.lemmas.Bool.{eqb-true}
-use Rattle.afs_ideal.specs.Tables.{Table, get}
-use Rattle.afs_ideal.specs.Volumes.{Volume}
-use Rattle.afs_ideal.proofs.Tables.{get_set}
-use Rattle.afs_history.specs.declared.scripts.VolumeLine.{VolumeLine}
-use Rattle.afs_rows.specs.States.{Location}
-use Rattle.afs_ideal.specs.SetUp.{first_volume}
-use Rattle.afs_rows.specs.Runs.{counts_later, first_volumes, location_by, locations_in, unless_there}
+use Rattle.spec_ideal.specs.Tables.{Table, get}
+use Rattle.spec_ideal.specs.Volumes.{Volume}
+use Rattle.spec_ideal.proofs.Tables.{get_set}
+use Rattle.spec_history.specs.declared.scripts.VolumeLine.{VolumeLine}
+use Rattle.spec_rows.specs.States.{Location}
+use Rattle.spec_ideal.specs.SetUp.{first_volume}
+use Rattle.spec_rows.specs.Runs.{counts_later, first_volumes, location_by, locations_in, unless_there}
 use Rattle.afs_acts.specs.Acts.{first_volume_line}
 
 either : (b c : Bool) (x : Volume) (o : Option Volume) → is_some o ≡ c → is_some (cond b (Some x) o) ≡ b || c

@@ -3,20 +3,20 @@ use Rattle.std.specs.Prelude.{◌≤◌, ◌<◌, ℕ, List, [], ◌∷◌, Opti
 use Rattle.std.specs.List.{All}
 use Rattle.afs_num.specs.Nodes.{IsNode}
 use Rattle.afs_num.specs.declared.types.Node.TheVariants.{Server}
-use Rattle.afs_history.specs.declared.scripts.VolumeLine.{VolumeLine}
-use Rattle.afs_history.specs.Written.{bytes_in}
-use Rattle.afs_history.specs.declared.acts.Act.{Act}
-use Rattle.afs_history.specs.declared.acts.Act.TheVariants as acts
-use Rattle.afs_history.specs.declared.acts.Operand.{Operand}
-use Rattle.afs_history.specs.declared.acts.Operand.TheVariants as operands
-use Rattle.afs_model.specs.Heads.{contents_limit}
-use Rattle.afs_model.specs.FsRows.{name_limit, acl_limit, target_limit, list_limit}
-use Rattle.afs_model.specs.CellRows.{cell_calls}
+use Rattle.spec_history.specs.declared.scripts.VolumeLine.{VolumeLine}
+use Rattle.spec_history.specs.Written.{bytes_in}
+use Rattle.spec_history.specs.declared.acts.Act.{Act}
+use Rattle.spec_history.specs.declared.acts.Act.TheVariants as acts
+use Rattle.spec_history.specs.declared.acts.Operand.{Operand}
+use Rattle.spec_history.specs.declared.acts.Operand.TheVariants as operands
+use Rattle.spec_model.specs.Heads.{contents_limit}
+use Rattle.spec_model.specs.FsRows.{name_limit, acl_limit, target_limit, list_limit}
+use Rattle.spec_model.specs.CellRows.{cell_calls}
 use Rattle.afs_num.specs.declared.messages.Call.TheVariants as ask
-use Rattle.afs_shape.specs.Items.{volume_name_limit}
-use Rattle.afs_shape.specs.Rows.{IsWithin}
-use Rattle.afs_rows.specs.Going as going
-use Rattle.afs_rows.specs.Going.{Need, operands_of}
+use Rattle.spec_shape.specs.Items.{volume_name_limit}
+use Rattle.spec_shape.specs.Rows.{IsWithin}
+use Rattle.spec_rows.specs.Going as going
+use Rattle.spec_rows.specs.Going.{Need, operands_of}
 
 -- a volume's server is a node
 abbrev pub HasServer : VolumeLine → Type 0
@@ -52,7 +52,7 @@ IsShortCall (acts.Link p q) = AreShort q.names
 IsShortCall act = Unit {0}
 
 -- the names and the bytes of an act are within their limits
-pub record IsShortAct (a : Act) : Type 0 where
+pub record FitsCalls (a : Act) : Type 0 where
   pub first : IsShortIfAny (operands_of a).0
   pub second : IsShortIfAny (operands_of a).1
   pub call : IsShortCall a

@@ -1,8 +1,8 @@
 -- The table of locations, when an entry comes.
 use Rattle.std.specs.Prelude.{◌≡◌, List, [], ◌∷◌, ◌++◌, true, false, Option, Some, None}
 use Rattle.afs_num.specs.declared.location_calls.LocSite.{LocSite}
-use Rattle.afs_rows.specs.States.{Location}
-use Rattle.afs_rows.specs.ClientRow.{has_location, put_location}
+use Rattle.spec_rows.specs.States.{Location}
+use Rattle.spec_rows.specs.ClientRow.{has_location, put_location}
 
 abbrev pub sites_from : List LocSite → Option (LocSite × List LocSite)
 sites_from [] = None

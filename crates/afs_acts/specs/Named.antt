@@ -1,8 +1,8 @@
 -- What an act names, as the program sorts it, in the words of the rows.
 use Rattle.std.specs.Prelude.{ℕ, ◌+◌, Option, Some, None, length}
-use Rattle.afs_history.specs.declared.acts.Operand.{Operand}
-use Rattle.afs_history.specs.declared.acts.Operand.TheVariants as operands
-use Rattle.afs_rows.specs.Going.{Operands, reads_to}
+use Rattle.spec_history.specs.declared.acts.Operand.{Operand}
+use Rattle.spec_history.specs.declared.acts.Operand.TheVariants as operands
+use Rattle.spec_rows.specs.Going.{Operands, reads_to}
 use Rattle.afs_acts.specs.declared.named.Naming.{Naming}
 use Rattle.afs_acts.specs.declared.named.Naming.TheVariants as named
 use Rattle.afs_acts.specs.declared.named.Place.{Place}

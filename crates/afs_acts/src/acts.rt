@@ -1,11 +1,12 @@
 //! What an act needs next: by what it has read.
 
+ghost use Rattle.spec_ideal.specs.SetUp.{nothing_set};
 ghost use Rattle.std.specs.Prelude.{◌≡◌, ◌≤◌, ◌++◌, IfOk, Some, length, take};
 ghost use Rattle.afs_num.specs.declared.calls.FsCall.{FsCall};
-ghost use Rattle.afs_rows.specs.Going.{asks_for, by_kind, is_root, mode_set, named_first, next, nothing_set, stored_whole};
-ghost use Rattle.afs_history.specs.Written.{bytes_in};
-ghost use Rattle.afs_acts.specs.Acts.{FitsNeed, IsShortAct};
-ghost use Rattle.afs_history.specs.declared.acts.Operand.TheVariants as operands;
+ghost use Rattle.spec_rows.specs.Going.{asks_for, by_kind, is_root_path, mode_set, named_first, next, stored_whole};
+ghost use Rattle.spec_history.specs.Written.{bytes_in};
+ghost use Rattle.afs_acts.specs.Acts.{FitsNeed, FitsCalls};
+ghost use Rattle.spec_history.specs.declared.acts.Operand.TheVariants as operands;
 ghost use Rattle.afs_acts.specs.Needs.{are_read, asks_in, asks_on, at_of, came, came_within, linked, moved, needed_by, rights_by, shows_by, status_by, statuses_in, statuses_seen, within_of};
 ghost use Rattle.afs_acts.specs.Walks.{need_of};
 ghost use Rattle.afs_acts.specs.Ways.{first_operand, IsUnderway};
@@ -14,13 +15,13 @@ use crate::types::{Going, Homes, Need, Shown, Way};
 use crate::walks::{
     At, Within, behind_status, body_at, first_parent, has_rights, object, parent, path_object,
 };
-use afs_history::acts::{Act, Path, Written};
-use afs_history::written::bytes_in;
 use afs_num::calls::{AfsStoreStatus, Fids, FsCall};
 use afs_num::directories::{Name, Names};
 use afs_num::histories::Body;
 use afs_num::sequences::Sequence;
 use afs_num::types::{Fid, Mem};
+use spec_history::acts::{Act, Path, Written};
+use spec_history::written::bytes_in;
 use std::alloc::Global;
 
 /// The status of so many names is shown at most.
@@ -281,7 +282,7 @@ fn remove_directory(alloc: Global, reached: Result<Within<'_, '_>, Need>) -> Mem
 }
 
 fn is_root(path: &Path) -> bool
-    ensures { result ≡ is_root path.now }
+    ensures { result ≡ is_root_path path.now }
 {
     path.names.is_empty()
 }
@@ -353,7 +354,7 @@ fn link(
 
 /// What an act needs, by how far it has come and what it has read ahead.
 fn needed(alloc: Global, homes: &Homes, act: &Act, way: &Way, rest: &[Shown]) -> Mem<Need>
-    requires short { IsShortAct act.now }
+    requires short { FitsCalls act.now }
     requires way { IsUnderway homes.now.first (first_operand act.now) way.now.names way.now.fid way.now.behind }
     ensures value { IfOk result (λ n. need_of n ≡ needed_by homes.now act.now (way.now.behind ++ rest.now)) }
 {
@@ -394,7 +395,7 @@ fn needed(alloc: Global, homes: &Homes, act: &Act, way: &Way, rest: &[Shown]) ->
 
 /// What an act needs next.
 pub fn next(alloc: Global, going: &Going) -> Mem<Need>
-    requires { IsShortAct going.now.act }
+    requires { FitsCalls going.now.act }
     ensures value { IfOk result (λ n. need_of n ≡ next going.now) }
     ensures fits { FitsNeed (next going.now) }
 {

@@ -1,15 +1,15 @@
 //! What a call asks of whom, and what the location database is asked.
 
 ghost use Rattle.std.specs.Prelude.{◌≡◌, IfOk};
-ghost use Rattle.afs_ideal.specs.Operations.{volume_called, volume_changed};
-ghost use Rattle.afs_rows.specs.ClientRow.{question, volume_asked};
+ghost use Rattle.spec_ideal.specs.Operations.{volume_called, volume_changed};
+ghost use Rattle.spec_rows.specs.ClientRow.{question, volume_asked};
 
 use crate::volumes::base_of;
-use afs_history::acts::{Operand, Path};
 use afs_num::calls::FsCall;
 use afs_num::location_calls::LocCall;
 use afs_num::sequences::Octets;
 use afs_num::types::Mem;
+use spec_history::acts::{Operand, Path};
 use std::alloc::Global;
 
 /// The volume that a call is on; it has none, where this is none.

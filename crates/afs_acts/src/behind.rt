@@ -21,9 +21,9 @@ struct Block {
 impl Model for Block {
     ghost use Rattle.std.specs.Prelude.{List};
     ghost use Rattle.std.specs.Arc.{arc_slice_items};
-    ghost use Rattle.afs_rows.specs.Going.{Shown};
+    ghost use Rattle.spec_rows.specs.Going.{ReadShown};
 
-    ghost Value = { List Shown };
+    ghost Value = { List ReadShown };
 
     ghost view = { λ b. arc_slice_items b.reads };
 }
@@ -40,11 +40,11 @@ pub struct Behind {
 impl Model for Behind {
     ghost use Rattle.std.specs.Prelude.{List, ◌++◌};
     ghost use Rattle.std.specs.List.{flat_map};
-    ghost use Rattle.afs_rows.specs.Going.{Shown};
+    ghost use Rattle.spec_rows.specs.Going.{ReadShown};
 
-    ghost Value = { List Shown };
+    ghost Value = { List ReadShown };
 
-    ghost view = { λ b. flat_map (λ (block : List Shown). block) b.full.items ++ b.last.items };
+    ghost view = { λ b. flat_map (λ (block : List ReadShown). block) b.full.items ++ b.last.items };
 }
 
 /// A copy that shares the reads.

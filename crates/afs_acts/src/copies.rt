@@ -1,15 +1,15 @@
 //! Copies.
 
 ghost use Rattle.std.specs.Prelude.{◌≡◌, IfOk};
-ghost use Rattle.afs_history.specs.declared.acts.Act.TheVariants as acts;
+ghost use Rattle.spec_history.specs.declared.acts.Act.TheVariants as acts;
 ghost use Rattle.afs_acts.specs.Named.{operand_at};
 
 use crate::named::Place;
-use afs_history::acts::{Act, Operand, Path, Written};
 use afs_num::histories::{Body, ReadBody};
 use afs_num::location_calls::{LocEntry, LocSite, LocSites};
 use afs_num::sequences::{Octets, Sequence};
 use afs_num::types::Mem;
+use spec_history::acts::{Act, Operand, Path, Written};
 use std::alloc::Global;
 
 pub fn copy_body(alloc: Global, body: &Body) -> Mem<Body>

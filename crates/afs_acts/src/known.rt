@@ -3,23 +3,23 @@
 ghost use Rattle.std.specs.Prelude.{◌≡◌, ◌<◌, ◌&&◌, ◌++◌, ◌∷◌, [], IfOk, IfSome, List, OnOk, find, length, nat_eq};
 ghost use Rattle.std.specs.List.{All, AllByRecursion, list_any};
 ghost use Rattle.std.specs.Option.{option_copied, option_map};
-ghost use Rattle.afs_history.specs.declared.scripts.VolumeLine.{VolumeLine};
+ghost use Rattle.spec_history.specs.declared.scripts.VolumeLine.{VolumeLine};
 ghost use Rattle.afs_num.specs.Nodes.{IsNode};
 ghost use Rattle.std.specs.Str.{bytes_eq};
-ghost use Rattle.afs_ideal.specs.Volumes.{has_bit};
+ghost use Rattle.spec_ideal.specs.Volumes.{has_bit};
 ghost use Rattle.afs_num.specs.declared.location_calls.LocEntry.{LocEntry as Known};
 ghost use Rattle.afs_num.specs.declared.location_calls.LocSite.{LocSite as KnownSite};
-ghost use Rattle.afs_records.specs.Entries.{entry_of_line, is_read_write, read_write_site, same_entry, same_numbers, same_sites};
-ghost use Rattle.afs_rows.specs.ClientRow.{home_of, stands_for};
-ghost use Rattle.afs_rows.specs.Runs.{location_by, locations_in};
-ghost use Rattle.afs_shape.specs.Tables.{IsEntry, IsServer, IsSite};
+ghost use Rattle.spec_records.specs.Entries.{entry_of_line, is_read_write, read_write_site, same_entry, same_numbers, same_sites};
+ghost use Rattle.spec_rows.specs.ClientRow.{home_of, stands_for};
+ghost use Rattle.spec_rows.specs.Runs.{location_by, locations_in};
+ghost use Rattle.spec_shape.specs.Tables.{IsEntry, IsServer, IsSite};
 ghost use Rattle.afs_acts.specs.Acts.{HasServer, first_volume_line};
 ghost use Rattle.afs_acts.specs.Located.{Puts, sites_from};
 
 use crate::copies::copy_entry;
-use afs_history::scripts::{VolumeLine, VolumeLines};
 use afs_num::location_calls::{LocEntry, LocSite, LocSites};
 use afs_num::types::{Mem, Node};
+use spec_history::scripts::{VolumeLine, VolumeLines};
 use std::alloc::Global;
 use std::marker::Model;
 use std::sync::Arc;
@@ -42,11 +42,11 @@ impl Model for Location {
     ghost use Rattle.std.specs.Prelude.{◌≡◌};
     ghost use Rattle.std.specs.Arc.{arc_value};
     ghost use Rattle.std.specs.List.{AllByRecursion};
-    ghost use Rattle.afs_shape.specs.Tables.{IsSite};
+    ghost use Rattle.spec_shape.specs.Tables.{IsSite};
     ghost use Rattle.afs_num.specs.Nodes.{IsNode};
     ghost use Rattle.afs_num.specs.declared.location_calls.LocEntry.{LocEntry};
     ghost use Rattle.afs_num.specs.declared.types.Node.{Node};
-    ghost use Rattle.afs_rows.specs.ClientRow.{home_of};
+    ghost use Rattle.spec_rows.specs.ClientRow.{home_of};
 
     ghost Value = { LocEntry };
 

@@ -1,11 +1,11 @@
 //! What an act names.
 
 ghost use Rattle.std.specs.Prelude.{◌≡◌};
-ghost use Rattle.afs_rows.specs.Going.{operands_of, reads_of};
+ghost use Rattle.spec_rows.specs.Going.{operands_of, reads_of};
 ghost use Rattle.afs_acts.specs.Named.{first_in, operand_at, operands_in, reads_in, second_in};
 ghost use Rattle.std.specs.Option.{option_map};
 
-use afs_history::acts::{Act, Operand, Path};
+use spec_history::acts::{Act, Operand, Path};
 
 /// An operand of an act, however the act has it.
 #[derive(Clone, Copy)]

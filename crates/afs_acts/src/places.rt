@@ -5,16 +5,16 @@ ghost use Rattle.std.specs.Option.{option_copied, option_map};
 ghost use Rattle.std.specs.Str.{bytes_eq};
 ghost use Rattle.afs_num.specs.Nodes.{IsNode};
 ghost use Rattle.afs_num.specs.declared.location_calls.LocEntry.{LocEntry as Known};
-ghost use Rattle.afs_rows.specs.ClientRow.{server_for};
-ghost use Rattle.afs_rows.specs.Going.{find_location, has_number, home_at, homes_of, volume_at};
+ghost use Rattle.spec_rows.specs.ClientRow.{server_for};
+ghost use Rattle.spec_rows.specs.Going.{find_location, has_number, home_at, homes_of, volume_at};
 ghost use Rattle.afs_acts.specs.Named.{operand_at};
 
 use crate::known::Location;
 use crate::named::{Place, named};
 use crate::types::Homes;
 use crate::volumes::{base_of, has_number, number_in};
-use afs_history::acts::{Act, Operand, Path};
 use afs_num::types::Node;
+use spec_history::acts::{Act, Operand, Path};
 
 fn with_number(table: &[Location], id: u32) -> Option<&Location>
     ensures { option_copied result ≡ find (has_number id) table.now }

@@ -1,10 +1,10 @@
 //! How many reads an act takes from a cache at most.
 
 ghost use Rattle.std.specs.Prelude.{◌≡◌, ◌<◌, ◌^◌, length};
-ghost use Rattle.afs_rows.specs.Going.{reads_of, reads_to};
+ghost use Rattle.spec_rows.specs.Going.{reads_of, reads_to};
 
 use crate::named::{Naming, named};
-use afs_history::acts::{Act, Operand, Path};
+use spec_history::acts::{Act, Operand, Path};
 
 fn reads_along(path: &Path) -> u64
     ensures value { result ≡ length path.now.names }

@@ -3,9 +3,9 @@
 ghost use Rattle.std.specs.Prelude.{◌≡◌, ◌<◌, ◌+◌, ◌^◌, IfOk, IfSome, IsSome, None, OnErr, OnOk, is_some};
 ghost use Rattle.std.specs.Option.{option_map};
 ghost use Rattle.afs_num.specs.Nodes.{IsNode};
-ghost use Rattle.afs_rows.specs.ClientRow.{server_for};
-ghost use Rattle.afs_rows.specs.Going.{began, filled, is_home, known_or, operand_in, reads_of, with_read};
-ghost use Rattle.afs_acts.specs.Acts.{IsShortAct, IsShortIfAny};
+ghost use Rattle.spec_rows.specs.ClientRow.{server_for};
+ghost use Rattle.spec_rows.specs.Going.{began, filled, is_home, known_or, operand_in, reads_of, with_read};
+ghost use Rattle.afs_acts.specs.Acts.{FitsCalls, IsShortIfAny};
 ghost use Rattle.afs_acts.specs.Named.{operand_at};
 ghost use Rattle.afs_acts.specs.Ways.{first_operand, names_of, Steps};
 
@@ -17,11 +17,11 @@ use crate::places::{homes_of, server_for};
 use crate::reads::most_reads;
 use crate::walks::goes_on;
 use crate::ways::{name_behind, start};
-use afs_history::acts::{Act, Operand, SharedAct};
 use afs_num::calls::{Fids, FsCall};
 use afs_num::histories::ReadBody;
 use afs_num::sequences::Sequence;
 use afs_num::types::{Fid, Mem, Node};
+use spec_history::acts::{Act, Operand, SharedAct};
 use std::alloc::Global;
 use std::marker::Model;
 
@@ -33,7 +33,7 @@ pub struct Homes {
 }
 
 impl Model for Homes {
-    ghost use Rattle.afs_rows.specs.Going.{Homes};
+    ghost use Rattle.spec_rows.specs.Going.{Homes};
 
     ghost Value = { Homes };
 
@@ -48,9 +48,9 @@ pub struct Shown {
 }
 
 impl Model for Shown {
-    ghost use Rattle.afs_rows.specs.Going.{Shown};
+    ghost use Rattle.spec_rows.specs.Going.{ReadShown};
 
-    ghost Value = { Shown };
+    ghost Value = { ReadShown };
 
     ghost view = { λ s. record { fid = s.fid; body = s.body } };
 }
@@ -87,7 +87,7 @@ impl Drop for Going {
 
 impl Model for Going {
     ghost use Rattle.std.specs.Prelude.{◌++◌};
-    ghost use Rattle.afs_rows.specs.Going.{Going};
+    ghost use Rattle.spec_rows.specs.Going.{Going};
     ghost use Rattle.afs_acts.specs.Ways.{first_operand, IsUnderway};
 
     ghost Value = { Going };
@@ -314,7 +314,7 @@ impl Going {
     /// A copy of that operand.
     pub fn operand_in(&self, alloc: Global, volume: u32) -> Mem<Option<Operand>>
         ensures value { IfOk result (λ o. o ≡ operand_in self.now volume) }
-        ensures short { IsShortAct self.now.act → IsShortIfAny (operand_in self.now volume) }
+        ensures short { FitsCalls self.now.act → IsShortIfAny (operand_in self.now volume) }
     {
         match self.place_in(volume) {
             Some(place) => Ok(Some(copy_place(alloc, place)?)),

@@ -1,7 +1,7 @@
 //! Names and numbers of volumes.
 
 ghost use Rattle.std.specs.Prelude.{◌≡◌, ◌-◌, length, take};
-ghost use Rattle.afs_rows.specs.Going.{base_of, copy_of, has_number, number_in, number_there};
+ghost use Rattle.spec_rows.specs.Going.{base_of, copy_of, has_number, number_in, number_there};
 
 use afs_num::location_calls::LocEntry;
 

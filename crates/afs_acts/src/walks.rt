@@ -2,11 +2,11 @@
 
 ghost use Rattle.std.specs.Prelude.{◌≡◌, ◌<◌, ◌≤◌, ◌∷◌, [], ◌++◌, ℕ, List, Ok, Some, drop, length, true, IfOk, IfSome};
 ghost use Rattle.std.specs.Option.{option_copied, option_map};
-ghost use Rattle.afs_ideal.specs.Directories.{named};
-ghost use Rattle.afs_rows.specs.Going.{first_body, first_status, has_rights, is_even, is_last_name, looked_up, parted};
-ghost use Rattle.afs_rows.specs.Going.{Shown as Read};
-ghost use Rattle.afs_history.specs.declared.acts.Operand.TheVariants as operands;
-ghost use Rattle.afs_rows.specs.Going.{locates};
+ghost use Rattle.spec_ideal.specs.Directories.{named};
+ghost use Rattle.spec_rows.specs.Going.{first_body, first_status, has_rights, is_even, is_last_name, looked_up, parted};
+ghost use Rattle.spec_rows.specs.Going.{ReadShown as Read};
+ghost use Rattle.spec_history.specs.declared.acts.Operand.TheVariants as operands;
+ghost use Rattle.spec_rows.specs.Going.{locates};
 ghost use Rattle.afs_acts.specs.Walks.{along, at_root, body_at, entry_by, fid_at, need_of, object_at, parent_at, path_at, then_on, walk_to, within};
 ghost use Rattle.afs_acts.specs.Ways.{IsUnderway};
 ghost use Rattle.afs_acts.specs.Needs.{at_of, came, came_body, came_fid, came_within, first_name, first_parted, first_read, status_rest, taken_of};
@@ -14,11 +14,11 @@ ghost use Rattle.afs_acts.specs.Needs.{at_of, came, came_body, came_fid, came_wi
 use crate::copies::copy_path;
 use crate::types::{Need, Shown, Way};
 use crate::ways::root;
-use afs_history::acts::{Operand, Path};
 use afs_num::directories::Name;
 use afs_num::histories::{Body, ReadBody};
 use afs_num::sequences::Octets;
 use afs_num::types::{Fid, Mem};
+use spec_history::acts::{Operand, Path};
 use std::alloc::Global;
 
 /// A fid that was reached, and the reads behind it.

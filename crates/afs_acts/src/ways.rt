@@ -3,13 +3,13 @@
 ghost use Rattle.std.specs.Prelude.{◌≡◌, ◌<◌, ◌≤◌, ◌+◌, ◌^◌, ℕ, Some, length, IfSome};
 ghost use Rattle.std.specs.List.{slice_get};
 ghost use Rattle.std.specs.Option.{option_copied};
-ghost use Rattle.afs_rows.specs.Going.{root_of};
+ghost use Rattle.spec_rows.specs.Going.{root_of};
 ghost use Rattle.afs_acts.specs.Ways.{first_operand, names_of, path_in, path_of, start_in, start_of};
 
 use crate::named::{Naming, named};
-use afs_history::acts::{Act, Operand, Path};
 use afs_num::sequences::Octets;
 use afs_num::types::Fid;
+use spec_history::acts::{Act, Operand, Path};
 
 /// The root of a volume.
 pub fn root(volume: u32) -> Fid

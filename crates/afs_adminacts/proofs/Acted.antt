@@ -1,28 +1,28 @@
 -- Acts over all machines: what is asked can be spelled, and where an act begins and where answers lead fits.
 use Rattle.std.proofs.Common.{◌≡◌, ◌≤◌, ◌<◌, ◌^◌, ℕ, Bool, true, false, cond, ◌&&◌, List, [], length, Option, Some, None, Result, Ok, Err, IfOk, nat_eq, refl, subst, sym, arith}
-use Rattle.afs_history.specs.declared.scripts.AdminAct.{AdminAct}
-use Rattle.afs_history.specs.declared.scripts.AdminAct.TheVariants as acts
-use Rattle.afs_model.specs.CellRows.{cell_replies}
+use Rattle.spec_history.specs.declared.scripts.AdminAct.{AdminAct}
+use Rattle.spec_history.specs.declared.scripts.AdminAct.TheVariants as acts
+use Rattle.spec_model.specs.CellRows.{cell_replies}
 use Rattle.afs_num.specs.Names.{volume_name_ok}
 use Rattle.afs_num.specs.declared.location_calls.LocEntry.{LocEntry}
 use Rattle.afs_num.specs.declared.location_calls.LocReply.TheVariants as entries
 use Rattle.afs_num.specs.declared.messages.Reply.{Reply}
 use Rattle.afs_num.specs.declared.messages.Reply.TheVariants as tell
 use Rattle.afs_num.specs.declared.types.Code.{Code}
-use Rattle.afs_shape.specs.Rows.{IsWithin}
-use Rattle.afs_shape.specs.Tables.{IsServer}
-use Rattle.afs_adminrows.specs.Acts.{answered, asks_at, begins_with, can_go_on, creates_from, free_answered, goes_on, lock_answered, locked, refused, seek_answered}
-use Rattle.afs_adminrows.specs.Asks.{home, name_in}
-use Rattle.afs_adminrows.specs.Entries.{has_read_only_at, is_usable}
-use Rattle.afs_adminrows.specs.Turns.{fails, is_superseded, mend_fails, seek_fails}
-use Rattle.afs_adminrows.specs.declared.places.Cause.{Cause}
-use Rattle.afs_adminrows.specs.declared.places.Cause.TheVariants as causes
-use Rattle.afs_adminrows.specs.declared.places.Hold.{Hold}
-use Rattle.afs_adminrows.specs.declared.places.Place.{Place}
-use Rattle.afs_adminrows.specs.declared.places.Place.TheVariants as places
-use Rattle.afs_adminrows.specs.declared.places.Purpose.TheVariants as purposes
-use Rattle.afs_adminrows.specs.declared.turns.Ask.{Ask}
-use Rattle.afs_adminrows.specs.declared.turns.Errand.{Errand}
+use Rattle.spec_shape.specs.Rows.{IsWithin}
+use Rattle.spec_shape.specs.Tables.{IsServer}
+use Rattle.spec_adminrows.specs.Acts.{answered, asks_at, begins_with, can_go_on, creates_from, free_answered, goes_on_locked, lock_answered, locked, refused, seek_answered}
+use Rattle.spec_adminrows.specs.Asks.{home, name_in_act}
+use Rattle.spec_adminrows.specs.Entries.{has_read_only_at, is_usable}
+use Rattle.spec_adminrows.specs.Turns.{fails, is_superseded, mend_fails, seek_fails}
+use Rattle.spec_adminrows.specs.declared.places.Cause.{Cause}
+use Rattle.spec_adminrows.specs.declared.places.Cause.TheVariants as causes
+use Rattle.spec_adminrows.specs.declared.places.Hold.{Hold}
+use Rattle.spec_adminrows.specs.declared.places.Place.{Place}
+use Rattle.spec_adminrows.specs.declared.places.Place.TheVariants as places
+use Rattle.spec_adminrows.specs.declared.places.Purpose.TheVariants as purposes
+use Rattle.spec_adminrows.specs.declared.turns.Ask.{Ask}
+use Rattle.spec_adminrows.specs.declared.turns.Errand.{Errand}
 use Rattle.afs_adminparts.specs.Fitting.{FitsDumpIfAny, FitsHold, FitsPlace, FitsTurn, IsShortAdminAct, IsSpelledAsk, NamesCopies}
 use Rattle.afs_adminparts.proofs.Kept.{both_true, either_fits, guarded_fits, usable_fits, volume_named}
 use Rattle.afs_adminacts.proofs.Moves.{move_kept, move_spelled, plan_kept, plan_spelled}
@@ -43,19 +43,19 @@ given_is P x (Err e) h is = tt
 -- ---- what is asked
 
 pub asked_spelled : (e : Errand) (p : Place) → IsShortAdminAct e.act → FitsPlace e.act p → IsSpelledAsk (asks_at e p)
-asked_spelled e (places.Seeks c) short fits = record { callee = refl; call = (name_counted (name_in e.act) short.name, tt) }
+asked_spelled e (places.Seeks c) short fits = record { callee = refl; call = (name_counted (name_in_act e.act) short.name, tt) }
 asked_spelled e (places.Locks c v) short fits = record { callee = refl; call = (tt, (tt, (tt, tt))) }
 asked_spelled e (places.Frees h code first) short fits = record { callee = refl; call = (tt, tt) }
-asked_spelled e (places.Creates f step) short fits = create_spelled (name_in e.act) f step short.name fits
+asked_spelled e (places.Creates f step) short fits = create_spelled (name_in_act e.act) f step short.name fits
 asked_spelled e (places.Adds h server) short fits = add_spelled h server fits.0 fits.1
-asked_spelled e (places.Backs h step) short fits = backup_spelled (name_in e.act) h step fits.0 fits.1
+asked_spelled e (places.Backs h step) short fits = backup_spelled (name_in_act e.act) h step fits.0 fits.1
 asked_spelled e (places.Dumps s step) short fits = dump_spelled s step fits
 asked_spelled e (places.Releases h step) short fits = release_spelled h step fits.1
-asked_spelled e (places.Tours r step) short fits = tour_spelled (name_in e.act) r step fits.0 fits.1
-asked_spelled e (places.Visits r s step) short fits = visit_spelled (name_in e.act) r s step fits.0 fits.1 fits.2
+asked_spelled e (places.Tours r step) short fits = tour_spelled (name_in_act e.act) r step fits.0 fits.1
+asked_spelled e (places.Visits r s step) short fits = visit_spelled (name_in_act e.act) r s step fits.0 fits.1 fits.2
 asked_spelled e (places.Surveys h why s left seen) short fits = survey_spelled h s fits.server
 asked_spelled e (places.Plans h target) short fits = plan_spelled h
-asked_spelled e (places.Moves m step) short fits = move_spelled (name_in e.act) m step short.name fits
+asked_spelled e (places.Moves m step) short fits = move_spelled (name_in_act e.act) m step short.name fits
 asked_spelled e (places.Removes h seen step) short fits = remove_spelled h step fits.0
 asked_spelled e (places.Sweeps h spot left step) short fits = sweep_spelled h spot step fits.0
 asked_spelled e (places.Asks c h seen) short fits = entry_spelled h
@@ -79,7 +79,7 @@ begun_fits act held short fits = tt
 -- ---- where replies lead
 
 -- the name of the act is a volume's, so those of its copies can be spelled
-goes_on_kept : (e : Errand) (h : Hold) (act : AdminAct) → e.servers ≤ 8 → IsShortAdminAct act → NamesCopies act → FitsHold h → FitsTurn act (goes_on e h act)
+goes_on_kept : (e : Errand) (h : Hold) (act : AdminAct) → e.servers ≤ 8 → IsShortAdminAct act → NamesCopies act → FitsHold h → FitsTurn act (goes_on_locked e h act)
 goes_on_kept e h (acts.Create name server quota) few short named fits = tt
 goes_on_kept e h (acts.Restore name server label) few short named fits = tt
 goes_on_kept e h (acts.AddSite name server) few short named fits = either_fits (acts.AddSite name server) (has_read_only_at server h.entry) _ _ tt (fits, short.server)
@@ -96,8 +96,8 @@ locked_kept e h (causes.After code) few short named fits = surveys_all_kept e.ac
 
 lock_kept : (e : Errand) (c : Cause) (reply : Reply) → e.servers ≤ 8 → IsShortAdminAct e.act → IsWithin cell_replies reply → FitsTurn e.act (lock_answered e c reply)
 lock_kept e c (tell.Location (entries.SetLock stamp n)) few short within = guarded_fits e.act (can_go_on e n) _ _ (λ goes.
-    let both = both_true (volume_name_ok (name_in e.act)) (is_usable n) goes in
-    locked_kept e _ c few short (volume_named (name_in e.act) both.0) (usable_fits n stamp within.1.0 both.1)) tt
+    let both = both_true (volume_name_ok (name_in_act e.act)) (is_usable n) goes in
+    locked_kept e _ c few short (volume_named (name_in_act e.act) both.0) (usable_fits n stamp within.1.0 both.1)) tt
 lock_kept e c reply few short within = tt
 
 seek_kept : (act : AdminAct) (c : Cause) (reply : Reply) → FitsTurn act (seek_answered c reply)

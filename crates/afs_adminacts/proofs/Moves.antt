@@ -1,17 +1,17 @@
 -- Moves: what is asked can be spelled, and a reply leads to what fits.
 use Rattle.std.proofs.Common.{◌≡◌, ◌≤◌, ℕ, Bool, true, false, cond, List, length, map, nat_eq, refl, arith}
-use Rattle.afs_history.specs.declared.scripts.AdminAct.{AdminAct}
+use Rattle.spec_history.specs.declared.scripts.AdminAct.{AdminAct}
 use Rattle.afs_num.specs.declared.location_calls.LocReply.TheVariants as entries
 use Rattle.afs_num.specs.declared.messages.Reply.{Reply}
 use Rattle.afs_num.specs.declared.messages.Reply.TheVariants as tell
 use Rattle.afs_num.specs.declared.volume_calls.VolReply.TheVariants as volumes
-use Rattle.afs_shape.specs.Items.{volume_name_limit}
-use Rattle.afs_shape.specs.Tables.{IsServer}
-use Rattle.afs_adminrows.specs.Moving.{move_answered, move_asks, moved_off, plan_answered, plan_asks}
-use Rattle.afs_adminrows.specs.declared.places.Hold.{Hold}
-use Rattle.afs_adminrows.specs.declared.places.Moving.{Moving}
-use Rattle.afs_adminrows.specs.declared.places.Moving.TheVariants as at
-use Rattle.afs_adminrows.specs.declared.places.Trip.{Trip}
+use Rattle.spec_shape.specs.Items.{volume_name_limit}
+use Rattle.spec_shape.specs.Tables.{IsServer}
+use Rattle.spec_adminrows.specs.Moving.{move_answered, move_asks, moved_off, plan_answered, plan_asks}
+use Rattle.spec_adminrows.specs.declared.places.Hold.{Hold}
+use Rattle.spec_adminrows.specs.declared.places.Moving.{Moving}
+use Rattle.spec_adminrows.specs.declared.places.Moving.TheVariants as at
+use Rattle.spec_adminrows.specs.declared.places.Trip.{Trip}
 use Rattle.afs_adminparts.specs.Fitting.{FitsHold, FitsTrip, FitsTurn, IsSpelledAsk}
 use Rattle.afs_adminparts.proofs.Kept.{either_fits}
 use Rattle.afs_adminparts.proofs.Spelled.{home_node, moved_is_entry, name_counted, server_node}

@@ -1,27 +1,27 @@
 -- Releases: what is asked can be spelled, and an answer leads to what fits.
 use Rattle.std.proofs.Common.{◌≡◌, ◌≤◌, ℕ, ◌+◌, ◌++◌, Bool, true, false, cond, List, [], ◌∷◌, length, map, filter, Option, Some, None, nat_eq, refl, arith, length-append}
 use Rattle.std.specs.List.{AllByRecursion, list_any}
-use Rattle.afs_history.specs.declared.scripts.AdminAct.{AdminAct}
+use Rattle.spec_history.specs.declared.scripts.AdminAct.{AdminAct}
 use Rattle.afs_num.specs.declared.location_calls.LocReply.TheVariants as entries
 use Rattle.afs_num.specs.declared.location_calls.LocSite.{LocSite}
 use Rattle.afs_num.specs.declared.messages.Reply.{Reply}
 use Rattle.afs_num.specs.declared.messages.Reply.TheVariants as tell
 use Rattle.afs_num.specs.declared.types.Code.{Code}
 use Rattle.afs_num.specs.declared.volume_calls.VolReply.TheVariants as volumes
-use Rattle.afs_rows.specs.Going.{readonly_end}
-use Rattle.afs_shape.specs.Items.{volume_name_limit}
-use Rattle.afs_shape.specs.Tables.{IsServer, IsSite}
-use Rattle.afs_adminrows.specs.Entries.{is_read_only_site}
-use Rattle.afs_adminrows.specs.Releasing.{goes_to, is_listed, numbers, release_answered, release_asks, server_of, site_fails, site_fails_open, skips, takes_or_makes, tour_answered, tour_asks, tour_refused, visit_answered, visit_asks, visit_refused}
-use Rattle.afs_adminrows.specs.Turns.{is_superseded}
-use Rattle.afs_adminrows.specs.declared.places.Hold.{Hold}
-use Rattle.afs_adminrows.specs.declared.places.Releasing.{Releasing}
-use Rattle.afs_adminrows.specs.declared.places.Releasing.TheVariants as releasing
-use Rattle.afs_adminrows.specs.declared.places.Tour.{Tour}
-use Rattle.afs_adminrows.specs.declared.places.Touring.{Touring}
-use Rattle.afs_adminrows.specs.declared.places.Touring.TheVariants as touring
-use Rattle.afs_adminrows.specs.declared.places.Visiting.{Visiting}
-use Rattle.afs_adminrows.specs.declared.places.Visiting.TheVariants as at
+use Rattle.spec_rows.specs.Going.{readonly_end}
+use Rattle.spec_shape.specs.Items.{volume_name_limit}
+use Rattle.spec_shape.specs.Tables.{IsServer, IsSite}
+use Rattle.spec_adminrows.specs.Entries.{is_read_only_site}
+use Rattle.spec_adminrows.specs.Releasing.{goes_to, is_listed, numbers_clone, release_answered, release_asks, server_of, site_fails, site_fails_open, skips, takes_or_makes, tour_answered, tour_asks, tour_refused, visit_answered, visit_asks, visit_refused}
+use Rattle.spec_adminrows.specs.Turns.{is_superseded}
+use Rattle.spec_adminrows.specs.declared.places.Hold.{Hold}
+use Rattle.spec_adminrows.specs.declared.places.Releasing.{Releasing}
+use Rattle.spec_adminrows.specs.declared.places.Releasing.TheVariants as releasing
+use Rattle.spec_adminrows.specs.declared.places.Tour.{Tour}
+use Rattle.spec_adminrows.specs.declared.places.Touring.{Touring}
+use Rattle.spec_adminrows.specs.declared.places.Touring.TheVariants as touring
+use Rattle.spec_adminrows.specs.declared.places.Visiting.{Visiting}
+use Rattle.spec_adminrows.specs.declared.places.Visiting.TheVariants as at
 use Rattle.afs_adminparts.specs.Fitting.{AreServers, FitsHold, FitsTour, FitsTurn, IsSpelledAsk, NamesCopies, most_named}
 use Rattle.afs_adminparts.proofs.Kept.{either_fits}
 use Rattle.afs_adminparts.proofs.Spelled.{home_node, name_counted, released_is_entry, server_node}
@@ -69,7 +69,7 @@ sites_kept : (sites : List LocSite) → AllByRecursion IsSite sites → AreServe
 sites_kept [] all = tt
 sites_kept (s ∷ sites) all = site_kept (is_read_only_site s) s (filter is_read_only_site sites) all.0 (sites_kept sites all.1)
 
-numbers_kept : (act : AdminAct) (h : Hold) (read_only : ℕ) → NamesCopies act → FitsHold h → FitsTurn act (numbers h read_only)
+numbers_kept : (act : AdminAct) (h : Hold) (read_only : ℕ) → NamesCopies act → FitsHold h → FitsTurn act (numbers_clone h read_only)
 numbers_kept act h read_only few fits = either_fits act (nat_eq read_only 0) _ _ (few, fits) (few, fits)
 
 pub release_kept : (act : AdminAct) (h : Hold) (step : Releasing) (reply : Reply) → NamesCopies act → FitsHold h → FitsTurn act (release_answered h step reply)

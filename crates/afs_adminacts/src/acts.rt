@@ -2,18 +2,18 @@
 //! here only tells which machine it is.
 
 ghost use Rattle.std.specs.Prelude.{◌≡◌, ◌≤◌, ◌&&◌, ℕ, [], IfOk};
-ghost use Rattle.afs_model.specs.CellRows.{cell_replies};
+ghost use Rattle.spec_model.specs.CellRows.{cell_replies};
 ghost use Rattle.afs_num.specs.Names.{volume_name_ok};
 ghost use Rattle.afs_num.specs.declared.location_calls.LocCall.TheVariants as loc;
 ghost use Rattle.afs_num.specs.declared.location_calls.LocReply.TheVariants as entries;
 ghost use Rattle.afs_num.specs.declared.messages.Reply.TheVariants as tell;
-ghost use Rattle.afs_shape.specs.Rows.{IsWithin};
-ghost use Rattle.afs_adminrows.specs.Acts as rows;
-ghost use Rattle.afs_adminrows.specs.Asks.{at_loc, family, force_by, held_at_loc, name_in, operation_by};
-ghost use Rattle.afs_adminrows.specs.Copying as copies;
-ghost use Rattle.afs_adminrows.specs.Entries.{is_usable};
-ghost use Rattle.afs_adminrows.specs.declared.places.Dumping.TheVariants as dumping;
-ghost use Rattle.afs_adminrows.specs.declared.places.Place.TheVariants as places;
+ghost use Rattle.spec_shape.specs.Rows.{IsWithin};
+ghost use Rattle.spec_adminrows.specs.Acts as rows;
+ghost use Rattle.spec_adminrows.specs.Asks.{at_loc, family, force_by, held_at_loc, name_in_act, operation_by};
+ghost use Rattle.spec_adminrows.specs.Copying as copies;
+ghost use Rattle.spec_adminrows.specs.Entries.{is_usable};
+ghost use Rattle.spec_adminrows.specs.declared.places.Dumping.TheVariants as dumping;
+ghost use Rattle.spec_adminrows.specs.declared.places.Place.TheVariants as places;
 ghost use Rattle.afs_adminparts.specs.Fitting.{FitsDumpIfAny, FitsPlace, FitsTurn, IsShortAdminAct, IsSpelledAsk};
 
 use crate::{moving, releasing, visiting};
@@ -22,24 +22,24 @@ use afs_adminparts::copies::copy_entry;
 use afs_adminparts::entries::is_usable;
 use afs_adminparts::surveying;
 use afs_adminparts::turning::{NO_DUMP, fails, mend_fails, seek_fails};
-use afs_adminrows::places::{
-    Backing, Cause, Creating, Dumping, Fresh, Hold, Place, Purpose, Releasing, Saving, SharedHold,
-};
-use afs_adminrows::turns::{Ask, Turn};
 use afs_adminvolumes::{copying, creating, recovering, removing};
-use afs_history::scripts::AdminAct;
 use afs_num::location_calls::{LocCall, LocEntry, LocReply};
 use afs_num::messages::Reply;
 use afs_num::names::volume_name_ok;
 use afs_num::sequences::Octets;
 use afs_num::types::{Code, Mem};
+use spec_adminrows::places::{
+    Backing, Cause, Creating, Dumping, Fresh, Hold, Place, Purpose, Releasing, Saving, SharedHold,
+};
+use spec_adminrows::turns::{Ask, Turn};
+use spec_history::scripts::AdminAct;
 use std::alloc::Global;
 
 // ---- what is asked
 
 /// The entry of the act's name.
 fn seek_asks(alloc: Global, act: &AdminAct) -> Mem<Ask>
-    ensures { IfOk result (λ a. a ≡ at_loc 0 (loc.GetEntryByName (name_in act.now))) }
+    ensures { IfOk result (λ a. a ≡ at_loc 0 (loc.GetEntryByName (name_in_act act.now))) }
 {
     let name = name_in(act).copy(alloc)?;
     Ok(at_loc(0, LocCall::GetEntryByName { name }))
@@ -186,7 +186,7 @@ fn dumps(alloc: Global, hold: &SharedHold, label: &Octets, from: u32) -> Mem<Tur
 /// The entry is locked for the act, which goes on.
 fn goes_on(alloc: Global, act: &AdminAct, servers: u32, hold: &SharedHold) -> Mem<Turn>
     requires servers { servers ≤ 8 }
-    ensures { IfOk result (λ t. t ≡ rows.goes_on (record { act = act.now; servers = servers }) hold.now act.now) }
+    ensures { IfOk result (λ t. t ≡ rows.goes_on_locked (record { act = act.now; servers = servers }) hold.now act.now) }
 {
     match act {
         AdminAct::Create { .. } | AdminAct::Restore { .. } => Ok(Turn::Passes),
@@ -250,7 +250,7 @@ fn holds(
 
 /// Whether the act can go on with the entry.
 fn can_go_on(act: &AdminAct, entry: &LocEntry) -> bool
-    ensures { result ≡ (volume_name_ok (name_in act.now) && is_usable entry.now) }
+    ensures { result ≡ (volume_name_ok (name_in_act act.now) && is_usable entry.now) }
 {
     volume_name_ok(name_in(act).as_slice()) && is_usable(entry)
 }

@@ -4,8 +4,8 @@ ghost use Rattle.std.specs.Prelude.{◌≡◌, ◌≤◌, [], IfOk};
 ghost use Rattle.afs_num.specs.declared.location_calls.LocReply.TheVariants as entries;
 ghost use Rattle.afs_num.specs.declared.messages.Reply.TheVariants as tell;
 ghost use Rattle.afs_num.specs.declared.volume_calls.VolReply.TheVariants as volumes;
-ghost use Rattle.afs_adminrows.specs.Moving as rows;
-ghost use Rattle.afs_adminrows.specs.declared.places.Moving.TheVariants as places;
+ghost use Rattle.spec_adminrows.specs.Moving as rows;
+ghost use Rattle.spec_adminrows.specs.declared.places.Moving.TheVariants as places;
 ghost use Rattle.afs_adminparts.specs.Errands.{in_cell};
 ghost use Rattle.afs_adminparts.specs.Fitting.{FitsTrip};
 
@@ -17,13 +17,13 @@ use afs_adminparts::copies::copy_trip;
 use afs_adminparts::entries::entry_moved;
 use afs_adminparts::surveying::surveys_all;
 use afs_adminparts::turning::{FINE, SAME_PLACE, frees};
-use afs_adminrows::places::{Hold, Moving, Place, Purpose, SharedHold, Trip};
-use afs_adminrows::turns::{Ask, Turn};
 use afs_num::location_calls::{LocCall, LocReply};
 use afs_num::messages::Reply;
 use afs_num::sequences::Octets;
 use afs_num::types::Mem;
 use afs_num::volume_calls::{VolCall, VolReply};
+use spec_adminrows::places::{Hold, Moving, Place, Purpose, SharedHold, Trip};
+use spec_adminrows::turns::{Ask, Turn};
 use std::alloc::Global;
 
 // ---- what is asked

@@ -5,22 +5,24 @@ ghost use Rattle.std.specs.Prelude.{◌≡◌, [], map, filter, IfOk};
 ghost use Rattle.afs_num.specs.declared.location_calls.LocReply.TheVariants as entries;
 ghost use Rattle.afs_num.specs.declared.messages.Reply.TheVariants as tell;
 ghost use Rattle.afs_num.specs.declared.volume_calls.VolReply.TheVariants as volumes;
-ghost use Rattle.afs_adminrows.specs.Entries.{is_read_only_site};
-ghost use Rattle.afs_adminrows.specs.Releasing as rows;
-ghost use Rattle.afs_adminrows.specs.declared.places.Touring.TheVariants as places;
+ghost use Rattle.spec_adminrows.specs.Entries.{is_read_only_site};
+ghost use Rattle.spec_adminrows.specs.Releasing as rows;
+ghost use Rattle.spec_adminrows.specs.declared.places.Touring.TheVariants as places;
 ghost use Rattle.afs_adminparts.specs.Fitting.{FitsHold, FitsTour};
 
 use afs_adminparts::asking::{BUSY, OFFLINE, READ_ONLY, at_home, family, held_at_loc};
 use afs_adminparts::copies::copied;
 use afs_adminparts::entries::{entry_released, is_read_only_site};
 use afs_adminparts::turning::{FINE, code_or, fails};
-use afs_adminrows::places::{Hold, Place, Releasing, Servers, SharedHold, Tour, Touring, Visiting};
-use afs_adminrows::turns::{Ask, Turn};
 use afs_num::location_calls::{LocCall, LocReply, LocSite};
 use afs_num::messages::Reply;
 use afs_num::sequences::Octets;
 use afs_num::types::{Code, Mem};
 use afs_num::volume_calls::{ListedVolumes, VolCall, VolReply};
+use spec_adminrows::places::{
+    Hold, Place, Releasing, Servers, SharedHold, Tour, Touring, Visiting,
+};
+use spec_adminrows::turns::{Ask, Turn};
 use std::alloc::Global;
 
 // ---- what is asked
@@ -140,7 +142,7 @@ pub fn releases(hold: &SharedHold, at: Releasing) -> Mem<Turn>
 
 /// The entry may have a number for the read-only volume already.
 fn numbers(hold: &SharedHold) -> Mem<Turn>
-    ensures { IfOk result (λ t. t ≡ rows.numbers hold.now hold.now.entry.read_only) }
+    ensures { IfOk result (λ t. t ≡ rows.numbers_clone hold.now hold.now.entry.read_only) }
 {
     let read_only = hold.get().entry.read_only;
     if read_only == 0 {

@@ -5,21 +5,21 @@ ghost use Rattle.std.specs.Prelude.{◌≡◌, ◌++◌, IfOk};
 ghost use Rattle.std.specs.List.{list_any};
 ghost use Rattle.afs_num.specs.declared.messages.Reply.TheVariants as tell;
 ghost use Rattle.afs_num.specs.declared.volume_calls.VolReply.TheVariants as volumes;
-ghost use Rattle.afs_shape.specs.Tables.{IsServer};
-ghost use Rattle.afs_adminrows.specs.Releasing as rows;
-ghost use Rattle.afs_adminrows.specs.declared.places.Visiting.TheVariants as places;
+ghost use Rattle.spec_shape.specs.Tables.{IsServer};
+ghost use Rattle.spec_adminrows.specs.Releasing as rows;
+ghost use Rattle.spec_adminrows.specs.declared.places.Visiting.TheVariants as places;
 ghost use Rattle.afs_adminparts.specs.Fitting.{FitsTour};
 
 use crate::releasing::{copy_tour, tours_on};
 use afs_adminparts::asking::{BUSY, OFFLINE, READ_ONLY, UNFILLED, at_home, family, held_at};
 use afs_adminparts::copies::{copied, name_with};
 use afs_adminparts::turning::{code_or, is_superseded};
-use afs_adminrows::places::{Place, Tour, Visiting};
-use afs_adminrows::turns::{Ask, Turn};
 use afs_num::messages::Reply;
 use afs_num::sequences::Octets;
 use afs_num::types::{Code, Mem};
 use afs_num::volume_calls::{ListedVolume, ListedVolumes, VolCall, VolReply};
+use spec_adminrows::places::{Place, Tour, Visiting};
+use spec_adminrows::turns::{Ask, Turn};
 use std::alloc::Global;
 
 /// The end of the name of a read-only volume.

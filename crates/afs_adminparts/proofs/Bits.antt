@@ -5,7 +5,7 @@ use Rattle.std.proofs.lemmas.Bool.{eqb-true}
 use Rattle.std.proofs.lemmas.Nat.{and_comm, and-not}
 use Rattle.std.proofs.lemmas.Nat.Bits.{and_pow}
 use lib.Bits.{or_add_and}
-use Rattle.afs_adminrows.specs.Entries.{with_bit, without_bit}
+use Rattle.spec_adminrows.specs.Entries.{with_bit, without_bit}
 
 -- one bit of a number is 0, or the bit
 one_or_none : (b p : ℕ) → b < 2 → (b * p ≡ 0) ⊎ (b * p ≡ p)

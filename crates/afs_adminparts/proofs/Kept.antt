@@ -1,16 +1,17 @@
 -- Turns that fit; and an entry that an act goes on with, which names the volume's server.
+use Rattle.spec_rows.specs.ClientRow.{number_or_none}
 use Rattle.std.proofs.Common.{◌≡◌, ◌≤◌, ℕ, Bool, true, false, cond, not, ◌&&◌, List, [], ◌∷◌, length, Option, Some, None, find, is_some, nat_lt, arith, refl}
 use Rattle.std.specs.List.{AllByRecursion, list_all}
 use Rattle.std.specs.Option.{option_map}
-use Rattle.afs_history.specs.declared.scripts.AdminAct.{AdminAct}
+use Rattle.spec_history.specs.declared.scripts.AdminAct.{AdminAct}
 use Rattle.afs_num.specs.Names.{has_size, is_copy_name, is_in, is_name_of, is_plain, volume_name_ok}
 use Rattle.afs_num.specs.declared.location_calls.LocEntry.{LocEntry}
 use Rattle.afs_num.specs.declared.location_calls.LocSite.{LocSite}
-use Rattle.afs_records.specs.Entries.{is_read_write, site_of}
-use Rattle.afs_rows.specs.LocRow.{most_listed_sites}
-use Rattle.afs_shape.specs.Tables.{IsEntry, IsServer, IsSite}
-use Rattle.afs_adminrows.specs.Entries.{home_in, is_usable, number_or_none}
-use Rattle.afs_adminrows.specs.declared.turns.Turn.{Turn}
+use Rattle.spec_records.specs.Entries.{is_read_write, site_of}
+use Rattle.spec_rows.specs.LocRow.{most_listed_sites}
+use Rattle.spec_shape.specs.Tables.{IsEntry, IsServer, IsSite}
+use Rattle.spec_adminrows.specs.Entries.{home_in, is_usable}
+use Rattle.spec_adminrows.specs.declared.turns.Turn.{Turn}
 use Rattle.afs_adminparts.specs.Fitting.{FitsHold, FitsTurn, most_named}
 
 pub both_true : (x y : Bool) → (x && y) ≡ true → (x ≡ true) × (y ≡ true)

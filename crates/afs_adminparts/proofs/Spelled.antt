@@ -5,12 +5,12 @@ use Rattle.afs_num.specs.Nodes.{IsNode}
 use Rattle.afs_num.specs.declared.location_calls.LocEntry.{LocEntry}
 use Rattle.afs_num.specs.declared.location_calls.LocSite.{LocSite}
 use Rattle.afs_num.specs.declared.types.Node.TheVariants as nodes
-use Rattle.afs_records.specs.Entries.{is_read_write}
-use Rattle.afs_shape.specs.Items.{site_limit, volume_name_limit}
-use Rattle.afs_shape.specs.Tables.{IsCount, IsEntry, IsServer, IsSite}
-use Rattle.afs_adminrows.specs.Asks.{home}
-use Rattle.afs_adminrows.specs.Entries.{entry_moved, entry_released, is_read_only_site, site_moved, site_released}
-use Rattle.afs_adminrows.specs.declared.places.Hold.{Hold}
+use Rattle.spec_records.specs.Entries.{is_read_write}
+use Rattle.spec_shape.specs.Items.{site_limit, volume_name_limit}
+use Rattle.spec_shape.specs.Tables.{IsCount, IsEntry, IsServer, IsSite}
+use Rattle.spec_adminrows.specs.Asks.{home}
+use Rattle.spec_adminrows.specs.Entries.{entry_moved, entry_released, is_read_only_site, site_moved, site_released}
+use Rattle.spec_adminrows.specs.declared.places.Hold.{Hold}
 use Rattle.afs_adminparts.specs.Fitting.{FitsHold}
 
 -- ---- callees

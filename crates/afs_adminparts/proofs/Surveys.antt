@@ -1,21 +1,21 @@
 -- Surveys: what is asked can be spelled, and a reply leads to what fits.
 use Rattle.std.proofs.Common.{◌≡◌, ◌≤◌, ◌<◌, ℕ, zero, suc, ◌+◌, ◌-◌, List, [], ◌∷◌, ◌++◌, map, None, ap, arith}
 use Rattle.std.specs.List.{AllByRecursion}
-use Rattle.afs_history.specs.declared.scripts.AdminAct.{AdminAct}
+use Rattle.spec_history.specs.declared.scripts.AdminAct.{AdminAct}
 use Rattle.afs_num.specs.declared.messages.Reply.{Reply}
 use Rattle.afs_num.specs.declared.messages.Reply.TheVariants as tell
 use Rattle.afs_num.specs.declared.types.Code.{Code}
 use Rattle.afs_num.specs.declared.volume_calls.ListedVolume.{ListedVolume}
 use Rattle.afs_num.specs.declared.volume_calls.VolReply.TheVariants as volumes
-use Rattle.afs_shape.specs.Tables.{IsServer}
-use Rattle.afs_adminrows.specs.Asks.{all_servers, from_to}
-use Rattle.afs_adminrows.specs.Surveying.{seen_by, survey_answered, survey_asks, survey_refused, surveyed, surveys, surveys_all}
-use Rattle.afs_adminrows.specs.Turns.{is_superseded}
-use Rattle.afs_adminrows.specs.declared.places.Hold.{Hold}
-use Rattle.afs_adminrows.specs.declared.places.Purpose.{Purpose}
-use Rattle.afs_adminrows.specs.declared.places.Purpose.TheVariants as purposes
-use Rattle.afs_adminrows.specs.declared.places.Seen.{Seen}
-use Rattle.afs_adminrows.specs.declared.turns.Errand.{Errand}
+use Rattle.spec_shape.specs.Tables.{IsServer}
+use Rattle.spec_adminrows.specs.Asks.{all_servers, from_to}
+use Rattle.spec_adminrows.specs.Surveying.{seen_by, survey_answered, survey_asks, survey_refused, surveyed, surveys, surveys_all}
+use Rattle.spec_adminrows.specs.Turns.{is_superseded}
+use Rattle.spec_adminrows.specs.declared.places.Hold.{Hold}
+use Rattle.spec_adminrows.specs.declared.places.Purpose.{Purpose}
+use Rattle.spec_adminrows.specs.declared.places.Purpose.TheVariants as purposes
+use Rattle.spec_adminrows.specs.declared.places.Seen.{Seen}
+use Rattle.spec_adminrows.specs.declared.turns.Errand.{Errand}
 use Rattle.afs_adminparts.specs.Fitting.{AreServers, FitAllSeen, FitsHold, FitsPurpose, FitsSurvey, FitsTurn, IsSpelledAsk}
 use Rattle.afs_adminparts.proofs.Kept.{either_fits}
 use Rattle.afs_adminparts.proofs.Spelled.{server_node}

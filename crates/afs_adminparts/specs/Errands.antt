@@ -1,7 +1,7 @@
 -- A survey needs nothing of an errand but how many servers the cell has.
 use Rattle.std.specs.Prelude.{ℕ, []}
-use Rattle.afs_history.specs.declared.scripts.AdminAct.TheVariants as acts
-use Rattle.afs_adminrows.specs.declared.turns.Errand.{Errand}
+use Rattle.spec_history.specs.declared.scripts.AdminAct.TheVariants as acts
+use Rattle.spec_adminrows.specs.declared.turns.Errand.{Errand}
 
 -- an errand in a cell of so many servers, whichever act it is
 abbrev pub in_cell : ℕ → Errand

@@ -2,33 +2,33 @@
 -- 8 sites, and a dump has fewer bytes than a word counts. Each place that fits leads to places that fit, whatever reply comes.
 use Rattle.std.specs.Prelude.{◌≤◌, ◌<◌, ◌^◌, ℕ, List, Option, Some, None, length}
 use Rattle.std.specs.List.{AllByRecursion}
-use Rattle.afs_history.specs.declared.scripts.AdminAct.{AdminAct}
-use Rattle.afs_history.specs.declared.scripts.AdminAct.TheVariants as acts
+use Rattle.spec_history.specs.declared.scripts.AdminAct.{AdminAct}
+use Rattle.spec_history.specs.declared.scripts.AdminAct.TheVariants as acts
 use Rattle.afs_num.specs.Nodes.{IsNode}
-use Rattle.afs_model.specs.CellRows.{cell_calls}
-use Rattle.afs_rows.specs.LocRow.{most_listed_sites}
-use Rattle.afs_shape.specs.Items.{volume_name_limit}
-use Rattle.afs_shape.specs.Rows.{IsWithin}
-use Rattle.afs_shape.specs.Tables.{IsEntry, IsServer}
-use Rattle.afs_adminrows.specs.Asks.{home, name_in}
-use Rattle.afs_adminrows.specs.declared.places.Fresh.{Fresh}
-use Rattle.afs_adminrows.specs.declared.places.Hold.{Hold}
-use Rattle.afs_adminrows.specs.declared.places.Mend.{Mend}
-use Rattle.afs_adminrows.specs.declared.places.Mending.{Mending}
-use Rattle.afs_adminrows.specs.declared.places.Mending.TheVariants as mending
-use Rattle.afs_adminrows.specs.declared.places.Place.{Place}
-use Rattle.afs_adminrows.specs.declared.places.Place.TheVariants as places
-use Rattle.afs_adminrows.specs.declared.places.Purpose.{Purpose}
-use Rattle.afs_adminrows.specs.declared.places.Purpose.TheVariants as purposes
-use Rattle.afs_adminrows.specs.declared.places.Saving.{Saving}
-use Rattle.afs_adminrows.specs.declared.places.Seen.{Seen}
-use Rattle.afs_adminrows.specs.declared.places.Spot.{Spot}
-use Rattle.afs_adminrows.specs.declared.places.Tour.{Tour}
-use Rattle.afs_adminrows.specs.declared.places.Trip.{Trip}
-use Rattle.afs_adminrows.specs.declared.turns.Ask.{Ask}
-use Rattle.afs_adminrows.specs.declared.turns.HeldDump.{HeldDump}
-use Rattle.afs_adminrows.specs.declared.turns.Turn.{Turn}
-use Rattle.afs_adminrows.specs.declared.turns.Turn.TheVariants as turns
+use Rattle.spec_model.specs.CellRows.{cell_calls}
+use Rattle.spec_rows.specs.LocRow.{most_listed_sites}
+use Rattle.spec_shape.specs.Items.{volume_name_limit}
+use Rattle.spec_shape.specs.Rows.{IsWithin}
+use Rattle.spec_shape.specs.Tables.{IsEntry, IsServer}
+use Rattle.spec_adminrows.specs.Asks.{home, name_in_act}
+use Rattle.spec_adminrows.specs.declared.places.Fresh.{Fresh}
+use Rattle.spec_adminrows.specs.declared.places.Hold.{Hold}
+use Rattle.spec_adminrows.specs.declared.places.Mend.{Mend}
+use Rattle.spec_adminrows.specs.declared.places.Mending.{Mending}
+use Rattle.spec_adminrows.specs.declared.places.Mending.TheVariants as mending
+use Rattle.spec_adminrows.specs.declared.places.Place.{Place}
+use Rattle.spec_adminrows.specs.declared.places.Place.TheVariants as places
+use Rattle.spec_adminrows.specs.declared.places.Purpose.{Purpose}
+use Rattle.spec_adminrows.specs.declared.places.Purpose.TheVariants as purposes
+use Rattle.spec_adminrows.specs.declared.places.Saving.{Saving}
+use Rattle.spec_adminrows.specs.declared.places.Seen.{Seen}
+use Rattle.spec_adminrows.specs.declared.places.Spot.{Spot}
+use Rattle.spec_adminrows.specs.declared.places.Tour.{Tour}
+use Rattle.spec_adminrows.specs.declared.places.Trip.{Trip}
+use Rattle.spec_adminrows.specs.declared.turns.Ask.{Ask}
+use Rattle.spec_adminrows.specs.declared.turns.HeldDump.{HeldDump}
+use Rattle.spec_adminrows.specs.declared.turns.Turn.{Turn}
+use Rattle.spec_adminrows.specs.declared.turns.Turn.TheVariants as turns
 
 -- ---- what is asked
 
@@ -49,7 +49,7 @@ NamesServer act = Unit {0}
 
 -- an act within its limits
 pub record IsShortAdminAct (act : AdminAct) : Type 0 where
-  pub name : length (name_in act) ≤ volume_name_limit
+  pub name : length (name_in_act act) ≤ volume_name_limit
   pub server : NamesServer act
 
 -- with at most so many bytes the names of a volume's copies are within the limit too: an end has 9
@@ -57,7 +57,7 @@ abbrev pub most_named : ℕ
 most_named = 22
 
 abbrev pub NamesCopies : AdminAct → Type 0
-NamesCopies act = length (name_in act) ≤ most_named
+NamesCopies act = length (name_in_act act) ≤ most_named
 
 -- ---- what places carry
 

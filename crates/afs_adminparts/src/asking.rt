@@ -1,18 +1,18 @@
 //! Of whom something is asked, and what is read of the act (AFS-3 Programmer's Reference, Volume Server / Volume Location Server Interface).
 
 ghost use Rattle.std.specs.Prelude.{◌≡◌};
-ghost use Rattle.afs_shape.specs.Tables.{IsServer};
-ghost use Rattle.afs_adminrows.specs.Asks as asks;
+ghost use Rattle.spec_shape.specs.Tables.{IsServer};
+ghost use Rattle.spec_adminrows.specs.Asks as asks;
 
 use crate::entries::home_in;
-use afs_adminrows::places::{Cause, Hold};
-use afs_adminrows::turns::Ask;
-use afs_history::scripts::AdminAct;
 use afs_num::location_calls::LocCall;
 use afs_num::messages::Call;
 use afs_num::sequences::Octets;
 use afs_num::types::Node;
 use afs_num::volume_calls::VolCall;
+use spec_adminrows::places::{Cause, Hold};
+use spec_adminrows::turns::Ask;
+use spec_history::scripts::AdminAct;
 
 /// The flags of a transaction whose volume is offline to all others.
 pub const OFFLINE: u32 = 1;
@@ -44,7 +44,7 @@ const FOR_DELETION: u32 = 128;
 
 /// The name of the volume that the act is on.
 pub fn name_in(act: &AdminAct) -> &Octets
-    ensures { result.now ≡ asks.name_in act.now }
+    ensures { result.now ≡ asks.name_in_act act.now }
 {
     match act {
         AdminAct::Create { name, .. }

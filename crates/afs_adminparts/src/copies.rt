@@ -2,10 +2,10 @@
 
 ghost use Rattle.std.specs.Prelude.{◌≡◌, ◌++◌, IfOk};
 
-use afs_adminrows::places::{Fresh, Mend, Saving, Trip};
 use afs_num::location_calls::LocEntry;
 use afs_num::sequences::{Octets, Sequence};
 use afs_num::types::Mem;
+use spec_adminrows::places::{Fresh, Mend, Saving, Trip};
 use std::alloc::Global;
 
 /// A list of servers, or of volumes at servers.

@@ -1,14 +1,14 @@
 //! What administrators write into entries of the location database. An entry is copied, and the copy changed.
 
 ghost use Rattle.std.specs.Prelude.{◌≡◌, IfOk, [], map};
-ghost use Rattle.afs_adminrows.specs.Entries as entries;
-ghost use Rattle.afs_records.specs.Entries.{is_read_write, site_of};
+ghost use Rattle.spec_adminrows.specs.Entries as entries;
+ghost use Rattle.spec_records.specs.Entries.{is_read_write, site_of};
 
 use crate::copies::copy_entry;
-use afs_adminrows::places::Servers;
 use afs_num::location_calls::{LocEntry, LocSite, LocSites};
 use afs_num::sequences::Octets;
 use afs_num::types::Mem;
+use spec_adminrows::places::Servers;
 use std::alloc::Global;
 
 /// The flags of a site: it is new; the read-only volume is there; the read-write one is.

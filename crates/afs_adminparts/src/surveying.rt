@@ -1,20 +1,20 @@
 //! Each server is asked which volumes of the family it has, which brings it the stamp: so begin a move, a removal and a recovery.
 
 ghost use Rattle.std.specs.Prelude.{◌≡◌, ◌≤◌, ◌++◌, [], IfOk, map};
-ghost use Rattle.afs_shape.specs.Tables.{IsServer};
-ghost use Rattle.afs_adminrows.specs.Asks as asks;
-ghost use Rattle.afs_adminrows.specs.Surveying as surveying;
+ghost use Rattle.spec_shape.specs.Tables.{IsServer};
+ghost use Rattle.spec_adminrows.specs.Asks as asks;
+ghost use Rattle.spec_adminrows.specs.Surveying as surveying;
 ghost use Rattle.afs_adminparts.specs.Errands.{in_cell};
 
 use crate::asking::{family, held_at};
 use crate::copies::copied;
 use crate::turning::{fails, mend_fails};
-use afs_adminrows::places::{AllSeen, Hold, Place, Purpose, Removing, Seen, Servers, SharedHold};
-use afs_adminrows::turns::{Ask, Turn};
 use afs_num::messages::Reply;
 use afs_num::sequences::Sequence;
 use afs_num::types::{Code, Mem};
 use afs_num::volume_calls::{ListedVolume, VolCall, VolReply};
+use spec_adminrows::places::{AllSeen, Hold, Place, Purpose, Removing, Seen, Servers, SharedHold};
+use spec_adminrows::turns::{Ask, Turn};
 use std::alloc::Global;
 
 /// ListVols at this server.

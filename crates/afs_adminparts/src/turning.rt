@@ -1,11 +1,11 @@
 //! Where failures lead, and how an act ends.
 
 ghost use Rattle.std.specs.Prelude.{◌≡◌, IfOk};
-ghost use Rattle.afs_adminrows.specs.Turns as turns;
+ghost use Rattle.spec_adminrows.specs.Turns as turns;
 
-use afs_adminrows::places::{Cause, Place, SharedHold};
-use afs_adminrows::turns::Turn;
 use afs_num::types::{Code, Mem};
+use spec_adminrows::places::{Cause, Place, SharedHold};
+use spec_adminrows::turns::Turn;
 
 pub const FINE: Code = Code(0);
 

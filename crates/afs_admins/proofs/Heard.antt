@@ -8,11 +8,11 @@ use Rattle.afs_num.specs.declared.messages.Received.{Received}
 use Rattle.afs_num.specs.declared.messages.Received.TheVariants.{Unserved, Whole}
 use Rattle.afs_num.specs.declared.types.Node.{Node}
 use Rattle.afs_num.specs.declared.types.Node.TheVariants.{Admin}
-use Rattle.afs_history.specs.declared.lines.Line.TheVariants as lines
-use Rattle.afs_history.specs.declared.lines.Outs.{Outs}
-use Rattle.afs_model.specs.Messages.{is_unserved, is_whole, messages_spelled, FoundBy}
-use Rattle.afs_rows.specs.Steps.{Step}
-use Rattle.afs_adminrows.specs.AdminRow.{admin_row, called, gets, takes_in, told, AdminState}
+use Rattle.spec_history.specs.declared.lines.Line.TheVariants as lines
+use Rattle.spec_history.specs.declared.lines.Outs.{Outs}
+use Rattle.spec_model.specs.Messages.{is_unserved, is_whole, messages_spelled, FoundBy}
+use Rattle.spec_rows.specs.Steps.{Step}
+use Rattle.spec_adminrows.specs.AdminRow.{admin_row, called, gets, takes_in, told, AdminState}
 use Rattle.afs_calling.specs.Stepping.{Makes}
 use Rattle.afs_admins.specs.Happening.{AdminMakes}
 use Rattle.afs_admins.specs.declared.admins.AdminSeat.{AdminSeat}

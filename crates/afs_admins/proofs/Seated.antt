@@ -6,14 +6,14 @@ use Rattle.std.proofs.lemmas.List.Elements.{All-cons, All-head, All-nil, All-tai
 use Rattle.afs_num.specs.Nodes.{same_node, IsNode}
 use Rattle.afs_num.specs.declared.types.Node.{Node}
 use Rattle.afs_num.specs.declared.types.Node.TheVariants.{Admin}
-use Rattle.afs_history.specs.declared.scripts.AdminAct.{AdminAct}
-use Rattle.afs_history.specs.declared.scripts.AdminAct.TheVariants as acts
-use Rattle.afs_history.specs.declared.scripts.Script.{Script}
-use Rattle.afs_history.specs.declared.scripts.Task.{Task}
-use Rattle.afs_history.specs.declared.scripts.Task.TheVariants as tasks
-use Rattle.afs_shape.specs.Tables.{IsServer}
+use Rattle.spec_history.specs.declared.scripts.AdminAct.{AdminAct}
+use Rattle.spec_history.specs.declared.scripts.AdminAct.TheVariants as acts
+use Rattle.spec_history.specs.declared.scripts.Script.{Script}
+use Rattle.spec_history.specs.declared.scripts.Task.{Task}
+use Rattle.spec_history.specs.declared.scripts.Task.TheVariants as tasks
+use Rattle.spec_shape.specs.Tables.{IsServer}
 use Rattle.afs_adminparts.specs.Fitting.{IsShortAdminAct}
-use Rattle.afs_adminrows.specs.AdminRow.{new_admin, AdminState}
+use Rattle.spec_adminrows.specs.AdminRow.{new_admin, AdminState}
 use Rattle.afs_words.specs.declared.nodes.Counts.{Counts}
 use Rattle.afs_grammar.specs.CellScripts.{counts_of, FitsAdminAct, FitsTask, IsCellScript, IsFrom}
 use Rattle.afs_schedule.specs.Schedules.{admin_act, doer, tasks_of}

@@ -3,8 +3,8 @@ use Rattle.std.proofs.Common.{refl, ap, sym, ◌∙◌, ◌≡◌, ℕ, true, fa
 use Rattle.std.specs.Prelude.{IsSome}
 use Rattle.afs_num.specs.declared.types.Key.{Key}
 use Rattle.afs_num.specs.declared.types.Node.{Node}
-use Rattle.afs_adminrows.specs.AdminRow.{waiting_on, AdminState}
-use Rattle.afs_adminrows.specs.declared.turns.Running.{Running}
+use Rattle.spec_adminrows.specs.AdminRow.{waiting_on, AdminState}
+use Rattle.spec_adminrows.specs.declared.turns.Running.{Running}
 use Rattle.afs_mover.specs.Steps.{waits_by}
 use Rattle.afs_schedule.specs.Schedules.{is_waiting_on}
 

@@ -5,15 +5,15 @@ use Rattle.afs_num.specs.declared.messages.Message.{Message}
 use Rattle.afs_num.specs.declared.messages.Received.TheVariants.{Whole}
 use Rattle.afs_num.specs.declared.types.Node.{Node}
 use Rattle.afs_num.specs.declared.types.Node.TheVariants.{Admin}
-use Rattle.afs_history.specs.declared.lines.Line.{Line}
-use Rattle.afs_history.specs.declared.lines.Line.TheVariants as lines
-use Rattle.afs_history.specs.declared.lines.Outs.{Outs}
-use Rattle.afs_history.specs.declared.scripts.AdminAct.{AdminAct}
-use Rattle.afs_history.specs.declared.scripts.Script.{Script}
-use Rattle.afs_model.specs.Messages.{messages_spelled, parcels_read, received}
-use Rattle.afs_rows.specs.Steps.{Step}
-use Rattle.afs_adminrows.specs.AdminRow.{admin_begin_row, admin_reborn, admin_row, admin_timeout_row, waiting_on, AdminState}
-use Rattle.afs_adminrows.specs.declared.turns.Running.{Running}
+use Rattle.spec_history.specs.declared.lines.Line.{Line}
+use Rattle.spec_history.specs.declared.lines.Line.TheVariants as lines
+use Rattle.spec_history.specs.declared.lines.Outs.{Outs}
+use Rattle.spec_history.specs.declared.scripts.AdminAct.{AdminAct}
+use Rattle.spec_history.specs.declared.scripts.Script.{Script}
+use Rattle.spec_model.specs.Messages.{messages_spelled, parcels_read, received}
+use Rattle.spec_rows.specs.Steps.{Step}
+use Rattle.spec_adminrows.specs.AdminRow.{admin_begin_row, admin_reborn, admin_row, admin_timeout_row, waiting_on, AdminState}
+use Rattle.spec_adminrows.specs.declared.turns.Running.{Running}
 use Rattle.afs_schedule.specs.Schedules.{admin_act, is_waiting_on}
 use Rattle.afs_clients.specs.Happening.{ClientTells, NoneHappened, DisklessHappens}
 use Rattle.afs_clients.specs.Places.{put_place}

@@ -1,6 +1,6 @@
 -- What the seats of a cell's administrators must be for the next input.
 use Rattle.std.specs.Prelude.{◌≤◌, ◌<◌, ℕ, List}
-use Rattle.afs_history.specs.declared.scripts.Script.{Script}
+use Rattle.spec_history.specs.declared.scripts.Script.{Script}
 use Rattle.afs_calling.specs.Calls.{number_limit}
 use Rattle.afs_clients.specs.Places.{Each}
 use Rattle.afs_admins.specs.Seating.{IsSeated}

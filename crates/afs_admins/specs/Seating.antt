@@ -2,11 +2,11 @@
 use Rattle.std.specs.Prelude.{◌≡◌, ◌≤◌, ◌+◌, ℕ, false, List, [], ◌∷◌}
 use Rattle.std.specs.List.{All}
 use Rattle.afs_num.specs.declared.types.Node.TheVariants.{Admin}
-use Rattle.afs_history.specs.declared.scripts.Script.{Script}
-use Rattle.afs_history.specs.declared.scripts.Task.{Task}
-use Rattle.afs_history.specs.declared.scripts.Task.TheVariants as tasks
+use Rattle.spec_history.specs.declared.scripts.Script.{Script}
+use Rattle.spec_history.specs.declared.scripts.Task.{Task}
+use Rattle.spec_history.specs.declared.scripts.Task.TheVariants as tasks
 use Rattle.afs_adminparts.specs.Fitting.{IsShortAdminAct}
-use Rattle.afs_adminrows.specs.AdminRow.{new_admin}
+use Rattle.spec_adminrows.specs.AdminRow.{new_admin}
 use Rattle.afs_mover.specs.Steps.{lasting}
 use Rattle.afs_schedule.specs.Schedules.{tasks_of}
 use Rattle.afs_admins.specs.declared.admins.AdminSeat.{AdminSeat}

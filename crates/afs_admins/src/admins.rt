@@ -7,7 +7,7 @@ ghost use Rattle.afs_calling.specs.Calls.{number_limit};
 ghost use Rattle.afs_clients.specs.Happening.{DisklessHappens};
 ghost use Rattle.afs_clients.specs.declared.happening.AdminInput.TheVariants as input;
 ghost use Rattle.afs_grammar.specs.CellScripts.{IsCellScript};
-ghost use Rattle.afs_adminrows.specs.AdminRow.{waiting_on};
+ghost use Rattle.spec_adminrows.specs.AdminRow.{waiting_on};
 ghost use Rattle.afs_schedule.specs.Schedules.{is_waiting_on};
 ghost use Rattle.afs_admins.specs.Happening.{AdminGoes, AdminHears, AdminTakes, HasBegun, HasFallen, HasRisen, HasTimedOut, IsVoidAdmin};
 ghost use Rattle.afs_admins.specs.Seating.{GoesOn, IsFirstAdmin, IsSeated, IsShortOrder};
@@ -15,11 +15,11 @@ ghost use Rattle.afs_admins.specs.Seating.{GoesOn, IsFirstAdmin, IsSeated, IsSho
 use crate::copies::shared_act;
 use afs_clients::happening::{AdminInput, Happened};
 use afs_clients::telling::told_alone;
-use afs_history::lines::Line;
-use afs_history::scripts::Script;
 use afs_mover::Mover;
 use afs_num::types::{Mem, Node};
 use afs_schedule::Plan;
+use spec_history::lines::Line;
+use spec_history::scripts::Script;
 use std::alloc::Global;
 
 /// An administrator with its epoch; whether it is down; and what it has yet to do.

@@ -2,9 +2,9 @@
 
 ghost use Rattle.std.specs.Prelude.{◌≡◌, IfOk};
 
-use afs_history::orders::SharedAdminAct;
-use afs_history::scripts::AdminAct;
 use afs_num::types::Mem;
+use spec_history::orders::SharedAdminAct;
+use spec_history::scripts::AdminAct;
 use std::alloc::Global;
 
 fn copy_act(alloc: Global, act: &AdminAct) -> Mem<AdminAct>

@@ -8,7 +8,7 @@ ghost use Rattle.afs_admins.specs.Ready.{AllReadyAdmins};
 use crate::admins::AdminSeat;
 use afs_clients::happening::{AdminInput, Happened};
 use afs_clients::places::Places;
-use afs_history::scripts::Script;
+use spec_history::scripts::Script;
 use std::alloc::Global;
 
 /// An administrator is given a message.

@@ -5,8 +5,8 @@ ghost use Rattle.afs_grammar.specs.CellScripts.{IsCellScript};
 ghost use Rattle.afs_admins.specs.Seating.{AreFirstAdmins};
 
 use crate::admins::AdminSeat;
-use afs_history::scripts::Script;
 use afs_num::types::Mem;
+use spec_history::scripts::Script;
 use std::alloc::Global;
 
 /// The administrators at set-up, in order of number.

@@ -1,25 +1,25 @@
 -- Further sites, backups and dumps: what is asked can be spelled, and a reply leads to what fits.
 use Rattle.std.proofs.Common.{◌≡◌, ◌≤◌, ◌<◌, ◌^◌, ℕ, ◌+◌, Bool, true, List, [], ◌∷◌, ◌++◌, length, nat_eq, nat_lt, arith, length-append, subst, sym, ap, refl}
 use Rattle.std.specs.List.{AllByRecursion}
-use Rattle.afs_history.specs.declared.scripts.AdminAct.{AdminAct}
+use Rattle.spec_history.specs.declared.scripts.AdminAct.{AdminAct}
 use Rattle.afs_num.specs.declared.location_calls.LocEntry.{LocEntry}
 use Rattle.afs_num.specs.declared.location_calls.LocReply.TheVariants as entries
 use Rattle.afs_num.specs.declared.location_calls.LocSite.{LocSite}
 use Rattle.afs_num.specs.declared.messages.Reply.{Reply}
 use Rattle.afs_num.specs.declared.messages.Reply.TheVariants as tell
 use Rattle.afs_num.specs.declared.volume_calls.VolReply.TheVariants as volumes
-use Rattle.afs_rows.specs.Going.{backup_end}
-use Rattle.afs_rows.specs.LocRow.{most_listed_sites}
-use Rattle.afs_shape.specs.Items.{site_limit, volume_name_limit}
-use Rattle.afs_shape.specs.Tables.{IsCount, IsEntry, IsServer, IsSite}
-use Rattle.afs_adminrows.specs.Copying.{add_answered, add_asks, backup_answered, backup_asks, clones_or_renews, dump_answered, dump_asks, dumps_on, has_room}
-use Rattle.afs_adminrows.specs.Entries.{entry_added, entry_backed}
-use Rattle.afs_adminrows.specs.declared.places.Backing.{Backing}
-use Rattle.afs_adminrows.specs.declared.places.Backing.TheVariants as at
-use Rattle.afs_adminrows.specs.declared.places.Dumping.{Dumping}
-use Rattle.afs_adminrows.specs.declared.places.Dumping.TheVariants as dumping
-use Rattle.afs_adminrows.specs.declared.places.Hold.{Hold}
-use Rattle.afs_adminrows.specs.declared.places.Saving.{Saving}
+use Rattle.spec_rows.specs.Going.{backup_end}
+use Rattle.spec_rows.specs.LocRow.{most_listed_sites}
+use Rattle.spec_shape.specs.Items.{site_limit, volume_name_limit}
+use Rattle.spec_shape.specs.Tables.{IsCount, IsEntry, IsServer, IsSite}
+use Rattle.spec_adminrows.specs.Copying.{add_answered, add_asks, backup_answered, backup_asks, clones_or_renews, dump_answered, dump_asks, dumps_on, has_offset}
+use Rattle.spec_adminrows.specs.Entries.{entry_added, entry_backed}
+use Rattle.spec_adminrows.specs.declared.places.Backing.{Backing}
+use Rattle.spec_adminrows.specs.declared.places.Backing.TheVariants as at
+use Rattle.spec_adminrows.specs.declared.places.Dumping.{Dumping}
+use Rattle.spec_adminrows.specs.declared.places.Dumping.TheVariants as dumping
+use Rattle.spec_adminrows.specs.declared.places.Hold.{Hold}
+use Rattle.spec_adminrows.specs.declared.places.Saving.{Saving}
 use Rattle.afs_adminparts.specs.Fitting.{FitsHold, FitsSaving, FitsTurn, IsSpelledAsk, NamesCopies, most_named}
 use Rattle.afs_adminparts.proofs.Kept.{either_fits, guarded_fits}
 use Rattle.afs_adminparts.proofs.Spelled.{home_node, name_counted}
@@ -87,13 +87,13 @@ dump_spelled s (dumping.Ends t) fits = record { callee = home_node s.hold fits.h
 dumps_on_kept : (act : AdminAct) (s : Saving) (t last : ℕ) → FitsSaving s → FitsTurn act (dumps_on s t last)
 dumps_on_kept act s t last fits = either_fits act (nat_eq last 0) _ _ fits (fits.bytes, fits)
 
-roomy : (s : Saving) (piece : List ℕ) → has_room s piece ≡ true → length (s.bytes ++ piece) < 2 ^ 32
+roomy : (s : Saving) (piece : List ℕ) → has_offset s piece ≡ true → length (s.bytes ++ piece) < 2 ^ 32
 roomy s piece room = grind (arith, room, length-append s.bytes piece)
 
 pub dump_kept : (act : AdminAct) (s : Saving) (step : Dumping) (reply : Reply) → FitsSaving s → FitsTurn act (dump_answered s step reply)
 dump_kept act s dumping.Stamps (tell.Volume (volumes.ListVols ls)) fits = fits
 dump_kept act s dumping.Begins (tell.Volume (volumes.TransCreate t)) fits = fits
 dump_kept act s (dumping.Reads t) (tell.Volume (volumes.Dump last piece)) fits =
-    guarded_fits act (has_room s piece) _ _ (λ room. dumps_on_kept act (record s { bytes = s.bytes ++ piece }) t last (record { hold = fits.hold; bytes = roomy s piece room })) tt
+    guarded_fits act (has_offset s piece) _ _ (λ room. dumps_on_kept act (record s { bytes = s.bytes ++ piece }) t last (record { hold = fits.hold; bytes = roomy s piece room })) tt
 dump_kept act s (dumping.Ends t) (tell.Volume volumes.EndTrans) fits = tt
 dump_kept act s step reply fits = tt

@@ -1,22 +1,22 @@
 -- New volumes: what is asked can be spelled, and a reply leads to what fits.
 use Rattle.std.proofs.Common.{◌≡◌, ◌≤◌, ◌<◌, ℕ, zero, suc, Bool, List, [], ◌∷◌, length, min, take, drop, Option, Some, None, refl, arith}
-use Rattle.afs_history.specs.declared.scripts.AdminAct.{AdminAct}
+use Rattle.spec_history.specs.declared.scripts.AdminAct.{AdminAct}
 use Rattle.afs_num.specs.declared.location_calls.LocReply.TheVariants as entries
 use Rattle.afs_num.specs.declared.messages.Reply.{Reply}
 use Rattle.afs_num.specs.declared.messages.Reply.TheVariants as tell
 use Rattle.afs_num.specs.declared.types.Code.{Code}
 use Rattle.afs_num.specs.declared.volume_calls.VolReply.TheVariants as volumes
-use Rattle.afs_dumps.specs.Streams.{is_last_at, piece_at}
-use Rattle.afs_model.specs.VolRows.{piece_limit}
-use Rattle.afs_shape.specs.Items.{volume_name_limit}
-use Rattle.afs_shape.specs.Tables.{IsCount, IsEntry, IsServer}
-use Rattle.afs_volrows.specs.VolRow.{most_piece}
-use Rattle.afs_adminrows.specs.Creating.{create_answered, create_asks, create_refused, dump_in, enters_not, fills_on, fills_or_closes, scraps_by}
-use Rattle.afs_adminrows.specs.Entries.{new_entry}
-use Rattle.afs_adminrows.specs.Turns.{fails, is_dead, is_superseded, is_unlisted}
-use Rattle.afs_adminrows.specs.declared.places.Creating.{Creating}
-use Rattle.afs_adminrows.specs.declared.places.Creating.TheVariants as at
-use Rattle.afs_adminrows.specs.declared.places.Fresh.{Fresh}
+use Rattle.spec_dumps.specs.Streams.{is_last_at, piece_at}
+use Rattle.spec_model.specs.VolRows.{piece_limit}
+use Rattle.spec_shape.specs.Items.{volume_name_limit}
+use Rattle.spec_shape.specs.Tables.{IsCount, IsEntry, IsServer}
+use Rattle.spec_volrows.specs.VolRow.{most_piece}
+use Rattle.spec_adminrows.specs.Creating.{create_answered, create_asks, create_refused, dump_in, enters_not, fills_on, fills_or_closes, scraps_by}
+use Rattle.spec_adminrows.specs.Entries.{new_entry}
+use Rattle.spec_adminrows.specs.Turns.{fails, is_dead, is_superseded, is_unlisted}
+use Rattle.spec_adminrows.specs.declared.places.Creating.{Creating}
+use Rattle.spec_adminrows.specs.declared.places.Creating.TheVariants as at
+use Rattle.spec_adminrows.specs.declared.places.Fresh.{Fresh}
 use Rattle.afs_adminparts.specs.Fitting.{FitsFresh, FitsTurn, IsSpelledAsk}
 use Rattle.afs_adminparts.proofs.Kept.{either_fits}
 use Rattle.afs_adminparts.proofs.Spelled.{name_counted, server_node}

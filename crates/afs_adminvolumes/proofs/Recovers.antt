@@ -1,28 +1,28 @@
 -- Recoveries: what is asked can be spelled, and a reply leads to what fits.
 use Rattle.std.proofs.Common.{◌≡◌, ◌≤◌, ℕ, zero, suc, Bool, true, false, cond, List, [], ◌∷◌, map, filter, Option, Some, None, refl}
 use Rattle.std.specs.List.{AllByRecursion}
-use Rattle.afs_history.specs.declared.scripts.AdminAct.{AdminAct}
-use Rattle.afs_model.specs.CellRows.{cell_replies}
+use Rattle.spec_history.specs.declared.scripts.AdminAct.{AdminAct}
+use Rattle.spec_model.specs.CellRows.{cell_replies}
 use Rattle.afs_num.specs.declared.location_calls.LocEntry.{LocEntry}
 use Rattle.afs_num.specs.declared.location_calls.LocReply.TheVariants as entries
 use Rattle.afs_num.specs.declared.messages.Reply.{Reply}
 use Rattle.afs_num.specs.declared.messages.Reply.TheVariants as tell
 use Rattle.afs_num.specs.declared.volume_calls.VolReply.TheVariants as volumes
-use Rattle.afs_shape.specs.Rows.{IsWithin}
-use Rattle.afs_shape.specs.Tables.{IsEntry, IsServer}
-use Rattle.afs_adminrows.specs.Asks.{all_servers, family}
-use Rattle.afs_adminrows.specs.Entries.{home_in, is_usable}
-use Rattle.afs_adminrows.specs.Recovering.{drops_others, entry_answered, entry_asks, has_copy, mend_answered, mend_asks, mend_of, mended, mends_on, must_go, opens_or_frees, takes_copies}
-use Rattle.afs_adminrows.specs.Turns.{is_superseded}
-use Rattle.afs_adminrows.specs.declared.places.Cause.{Cause}
-use Rattle.afs_adminrows.specs.declared.places.Cause.TheVariants as causes
-use Rattle.afs_adminrows.specs.declared.places.Hold.{Hold}
-use Rattle.afs_adminrows.specs.declared.places.Mend.{Mend}
-use Rattle.afs_adminrows.specs.declared.places.Mending.{Mending}
-use Rattle.afs_adminrows.specs.declared.places.Mending.TheVariants as at
-use Rattle.afs_adminrows.specs.declared.places.Seen.{Seen}
-use Rattle.afs_adminrows.specs.declared.places.Spot.{Spot}
-use Rattle.afs_adminrows.specs.declared.turns.Errand.{Errand}
+use Rattle.spec_shape.specs.Rows.{IsWithin}
+use Rattle.spec_shape.specs.Tables.{IsEntry, IsServer}
+use Rattle.spec_adminrows.specs.Asks.{all_servers, family}
+use Rattle.spec_adminrows.specs.Entries.{home_in, is_usable}
+use Rattle.spec_adminrows.specs.Recovering.{drops_others, entry_answered, entry_asks, has_copy, mend_answered, mend_asks, mend_of, mended, mends_on, must_go, opens_or_frees, takes_copies}
+use Rattle.spec_adminrows.specs.Turns.{is_superseded}
+use Rattle.spec_adminrows.specs.declared.places.Cause.{Cause}
+use Rattle.spec_adminrows.specs.declared.places.Cause.TheVariants as causes
+use Rattle.spec_adminrows.specs.declared.places.Hold.{Hold}
+use Rattle.spec_adminrows.specs.declared.places.Mend.{Mend}
+use Rattle.spec_adminrows.specs.declared.places.Mending.{Mending}
+use Rattle.spec_adminrows.specs.declared.places.Mending.TheVariants as at
+use Rattle.spec_adminrows.specs.declared.places.Seen.{Seen}
+use Rattle.spec_adminrows.specs.declared.places.Spot.{Spot}
+use Rattle.spec_adminrows.specs.declared.turns.Errand.{Errand}
 use Rattle.afs_adminparts.specs.Fitting.{AreServers, FitAllSeen, FitSpots, FitsHold, FitsMend, FitsMending, FitsTurn, IsSpelledAsk}
 use Rattle.afs_adminparts.proofs.Kept.{either_fits, guarded_fits, usable_home}
 use Rattle.afs_adminvolumes.proofs.Removes.{spots_fit}

@@ -1,19 +1,19 @@
 -- Removals: what is asked can be spelled, and a reply leads to what fits.
 use Rattle.std.proofs.Common.{◌≡◌, ℕ, Bool, true, false, cond, List, [], ◌∷◌, map, filter, refl}
 use Rattle.std.specs.List.{AllByRecursion}
-use Rattle.afs_history.specs.declared.scripts.AdminAct.{AdminAct}
+use Rattle.spec_history.specs.declared.scripts.AdminAct.{AdminAct}
 use Rattle.afs_num.specs.declared.location_calls.LocReply.TheVariants as entries
 use Rattle.afs_num.specs.declared.messages.Reply.{Reply}
 use Rattle.afs_num.specs.declared.messages.Reply.TheVariants as tell
 use Rattle.afs_num.specs.declared.volume_calls.VolReply.TheVariants as volumes
-use Rattle.afs_adminrows.specs.Removing.{is_other, others_of, remove_answered, remove_asks, spot_of, sweep_answered, sweep_asks, sweeps}
-use Rattle.afs_adminrows.specs.declared.places.Hold.{Hold}
-use Rattle.afs_adminrows.specs.declared.places.Removing.{Removing}
-use Rattle.afs_adminrows.specs.declared.places.Removing.TheVariants as at
-use Rattle.afs_adminrows.specs.declared.places.Seen.{Seen}
-use Rattle.afs_adminrows.specs.declared.places.Spot.{Spot}
-use Rattle.afs_adminrows.specs.declared.places.Sweeping.{Sweeping}
-use Rattle.afs_adminrows.specs.declared.places.Sweeping.TheVariants as sweeping
+use Rattle.spec_adminrows.specs.Removing.{is_other_copy, others_of, remove_answered, remove_asks, spot_of, sweep_answered, sweep_asks, sweeps}
+use Rattle.spec_adminrows.specs.declared.places.Hold.{Hold}
+use Rattle.spec_adminrows.specs.declared.places.Removing.{Removing}
+use Rattle.spec_adminrows.specs.declared.places.Removing.TheVariants as at
+use Rattle.spec_adminrows.specs.declared.places.Seen.{Seen}
+use Rattle.spec_adminrows.specs.declared.places.Spot.{Spot}
+use Rattle.spec_adminrows.specs.declared.places.Sweeping.{Sweeping}
+use Rattle.spec_adminrows.specs.declared.places.Sweeping.TheVariants as sweeping
 use Rattle.afs_adminparts.specs.Fitting.{FitAllSeen, FitSpots, FitsHold, FitsSeen, FitsSpot, FitsTurn, IsSpelledAsk}
 use Rattle.afs_adminparts.proofs.Spelled.{home_node, server_node}
 
@@ -48,7 +48,7 @@ pub remove_kept : (act : AdminAct) (h : Hold) (seen : List Seen) (step : Removin
 remove_kept act h seen at.Begins (tell.Volume (volumes.TransCreate t)) fits all = (fits, all)
 remove_kept act h seen (at.Fences t) (tell.Volume volumes.SetFlags) fits all = (fits, all)
 remove_kept act h seen (at.Decides t) (tell.Location entries.DeleteEntry) fits all = (fits, all)
-remove_kept act h seen (at.Deletes t) (tell.Volume volumes.DeleteVolume) fits all = sweeps_kept act h (others_of h seen) (spots_fit (is_other h) seen all)
+remove_kept act h seen (at.Deletes t) (tell.Volume volumes.DeleteVolume) fits all = sweeps_kept act h (others_of h seen) (spots_fit (is_other_copy h) seen all)
 remove_kept act h seen step reply fits all = tt
 
 pub sweep_kept : (act : AdminAct) (h : Hold) (spot : Spot) (left : List Spot) (step : Sweeping) (reply : Reply) → FitsSpot spot → FitSpots left → FitsTurn act (sweep_answered h spot left step reply)

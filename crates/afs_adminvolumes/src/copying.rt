@@ -3,22 +3,22 @@
 ghost use Rattle.std.specs.Prelude.{◌≡◌, ◌++◌, ◌<◌, ◌^◌, IfOk, [], length};
 ghost use Rattle.afs_num.specs.declared.messages.Reply.TheVariants as tell;
 ghost use Rattle.afs_num.specs.declared.volume_calls.VolReply.TheVariants as volumes;
-ghost use Rattle.afs_shape.specs.Tables.{IsServer};
-ghost use Rattle.afs_adminrows.specs.Asks as asks;
-ghost use Rattle.afs_adminrows.specs.Copying as copying;
+ghost use Rattle.spec_shape.specs.Tables.{IsServer};
+ghost use Rattle.spec_adminrows.specs.Asks as asks;
+ghost use Rattle.spec_adminrows.specs.Copying as copying;
 ghost use Rattle.afs_adminparts.specs.Fitting.{FitsDump};
 
 use afs_adminparts::asking::{BACKUP, BUSY, at_home, family, held_at_loc};
 use afs_adminparts::copies::{copy_saving, name_with};
 use afs_adminparts::entries::{entry_added, entry_backed, has_read_only_at};
 use afs_adminparts::turning::{FINE, SAME_PLACE, frees};
-use afs_adminrows::places::{Backing, Dumping, Hold, Place, Saving, SharedHold};
-use afs_adminrows::turns::{Ask, Turn};
 use afs_num::location_calls::{LocCall, LocReply};
 use afs_num::messages::Reply;
 use afs_num::sequences::Octets;
 use afs_num::types::Mem;
 use afs_num::volume_calls::{VolCall, VolReply};
+use spec_adminrows::places::{Backing, Dumping, Hold, Place, Saving, SharedHold};
+use spec_adminrows::turns::{Ask, Turn};
 use std::alloc::Global;
 
 /// The end of the name of a backup.
@@ -277,7 +277,7 @@ pub fn dumps(alloc: Global, saving: &Saving, at: Dumping) -> Mem<Turn>
 
 /// Whether the dump still has fewer bytes than a word counts, with this piece.
 fn has_room(saving: &Saving, piece: &Octets) -> bool
-    ensures { result ≡ copying.has_room saving.now piece.now }
+    ensures { result ≡ copying.has_offset saving.now piece.now }
 {
     saving.bytes.len() + piece.len() < 4_294_967_296
 }

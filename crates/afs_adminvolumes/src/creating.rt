@@ -1,27 +1,27 @@
 //! A new volume, empty (`vos create`) or from a dump (`vos restore`).
 
 ghost use Rattle.std.specs.Prelude.{◌≡◌, IfOk, [], None, drop, take};
-ghost use Rattle.afs_dumps.specs.Streams.{is_last_at, piece_at};
+ghost use Rattle.spec_dumps.specs.Streams.{is_last_at, piece_at};
 ghost use Rattle.afs_num.specs.declared.location_calls.LocReply.TheVariants as entries;
 ghost use Rattle.afs_num.specs.declared.messages.Reply.TheVariants as tell;
 ghost use Rattle.afs_num.specs.declared.volume_calls.VolReply.TheVariants as volumes;
-ghost use Rattle.afs_shape.specs.Tables.{IsServer};
-ghost use Rattle.afs_volrows.specs.VolRow.{last_word, most_piece};
-ghost use Rattle.afs_adminrows.specs.Asks as asks;
-ghost use Rattle.afs_adminrows.specs.Creating as creating;
+ghost use Rattle.spec_shape.specs.Tables.{IsServer};
+ghost use Rattle.spec_volrows.specs.VolRow.{last_word, most_piece};
+ghost use Rattle.spec_adminrows.specs.Asks as asks;
+ghost use Rattle.spec_adminrows.specs.Creating as creating;
 ghost use Rattle.afs_adminparts.specs.Fitting.{FitsFresh};
 
 use afs_adminparts::asking::{CLOSED, OFFLINE, READ_WRITE, UNFILLED, at_loc, at_server};
 use afs_adminparts::copies::copy_fresh;
 use afs_adminparts::entries::new_entry;
 use afs_adminparts::turning::{FINE, fails, is_dead, is_unlisted};
-use afs_adminrows::places::{Creating, Fresh, Place};
-use afs_adminrows::turns::{Ask, Turn};
 use afs_num::location_calls::{LocCall, LocReply};
 use afs_num::messages::Reply;
 use afs_num::sequences::Octets;
 use afs_num::types::{Code, Mem};
 use afs_num::volume_calls::{VolCall, VolReply};
+use spec_adminrows::places::{Creating, Fresh, Place};
+use spec_adminrows::turns::{Ask, Turn};
 use std::alloc::Global;
 
 /// At most so many bytes of a dump go in one piece.

@@ -4,11 +4,11 @@
 
 ghost use Rattle.std.specs.Prelude.{◌≡◌, ◌≤◌, IfOk, filter, map};
 ghost use Rattle.std.specs.List.{list_any};
-ghost use Rattle.afs_history.specs.declared.scripts.AdminAct.{AdminAct as Act};
+ghost use Rattle.spec_history.specs.declared.scripts.AdminAct.{AdminAct as Act};
 ghost use Rattle.afs_num.specs.declared.location_calls.LocReply.TheVariants as entries;
 ghost use Rattle.afs_num.specs.declared.messages.Reply.TheVariants as tell;
-ghost use Rattle.afs_adminrows.specs.Recovering as recovering;
-ghost use Rattle.afs_adminrows.specs.Removing.{spot_of};
+ghost use Rattle.spec_adminrows.specs.Recovering as recovering;
+ghost use Rattle.spec_adminrows.specs.Removing.{spot_of};
 ghost use Rattle.afs_adminparts.specs.Errands.{in_cell};
 ghost use Rattle.afs_adminparts.specs.Fitting.{FitsMend, FitsMending};
 
@@ -18,15 +18,15 @@ use afs_adminparts::copies::{copied, copy_mend};
 use afs_adminparts::entries::{has_read_only_at, home_in, is_usable};
 use afs_adminparts::surveying::all_servers;
 use afs_adminparts::turning::{FINE, NOT_THERE, mend_fails};
-use afs_adminrows::places::{
-    AllSeen, Cause, Hold, Mend, Mending, Place, Seen, Servers, SharedHold, Spot, Spots,
-};
-use afs_adminrows::turns::{Ask, Turn};
 use afs_num::location_calls::{LocCall, LocEntry, LocReply};
 use afs_num::messages::Reply;
 use afs_num::sequences::Sequence;
 use afs_num::types::Mem;
 use afs_num::volume_calls::{VolCall, VolReply};
+use spec_adminrows::places::{
+    AllSeen, Cause, Hold, Mend, Mending, Place, Seen, Servers, SharedHold, Spot, Spots,
+};
+use spec_adminrows::turns::{Ask, Turn};
 use std::alloc::Global;
 
 // ---- what is asked
@@ -140,14 +140,14 @@ pub fn asks(mend: &Mend, at: Mending) -> Ask
 
 /// Whether this volume was seen at this server.
 fn is_at(server: u32, volume: u32, seen: &Seen) -> bool
-    ensures { result ≡ recovering.is_at server volume seen.now }
+    ensures { result ≡ recovering.is_listed_at server volume seen.now }
 {
     seen.server == server && seen.volume.volume == volume
 }
 
 /// Whether this volume was seen there by a list.
 fn is_among(server: u32, volume: u32, seen: &[Seen]) -> bool
-    ensures { result ≡ list_any (recovering.is_at server volume) seen.now }
+    ensures { result ≡ list_any (recovering.is_listed_at server volume) seen.now }
 {
     seen.iter().any(|one| is_at(server, volume, one))
 }

@@ -2,22 +2,22 @@
 
 ghost use Rattle.std.specs.Prelude.{◌≡◌, IfOk, filter, map};
 ghost use Rattle.afs_num.specs.declared.messages.Reply.TheVariants as tell;
-ghost use Rattle.afs_shape.specs.Tables.{IsServer};
-ghost use Rattle.afs_adminrows.specs.Asks as asks;
-ghost use Rattle.afs_adminrows.specs.Removing as removing;
+ghost use Rattle.spec_shape.specs.Tables.{IsServer};
+ghost use Rattle.spec_adminrows.specs.Asks as asks;
+ghost use Rattle.spec_adminrows.specs.Removing as removing;
 
 use afs_adminparts::asking::{CLOSED, OFFLINE, at_home, family, held_at, held_at_loc, home};
 use afs_adminparts::copies::copied;
 use afs_adminparts::turning::FINE;
-use afs_adminrows::places::{
-    AllSeen, Hold, Place, Removing, Seen, SharedHold, Spot, Spots, Sweeping,
-};
-use afs_adminrows::turns::{Ask, Turn};
 use afs_num::location_calls::{LocCall, LocReply};
 use afs_num::messages::Reply;
 use afs_num::sequences::Sequence;
 use afs_num::types::Mem;
 use afs_num::volume_calls::{VolCall, VolReply};
+use spec_adminrows::places::{
+    AllSeen, Hold, Place, Removing, Seen, SharedHold, Spot, Spots, Sweeping,
+};
+use spec_adminrows::turns::{Ask, Turn};
 use std::alloc::Global;
 
 // ---- the volume itself
@@ -80,7 +80,7 @@ pub fn spot_of(seen: &Seen) -> Spot
 
 /// Whether another volume was seen than the one of this number at its server.
 fn is_other(hold: &Hold, seen: &Seen) -> bool
-    ensures { result ≡ removing.is_other hold.now seen.now }
+    ensures { result ≡ removing.is_other_copy hold.now seen.now }
 {
     seen.server != home(hold) || seen.volume.volume != family(hold)
 }

@@ -11,7 +11,7 @@ use Rattle.clap.specs.Kinds.{Kinds}
 use Rattle.clap.specs.Walk.{Row, Rule, Text, Waiting, arg_by_short, bundle_met, long_or_other, plain_word}
 use Rattle.clap.specs.declared.error.kind.ErrorKind.{ErrorKind}
 use Rattle.clap.specs.declared.error.kind.ErrorKind.TheVariants.{TooManyValues, UnknownArgument}
-use Rattle.afs_model.specs.ScriptWords.{numeral, ranged}
+use Rattle.spec_model.specs.ScriptWords.{numeral, ranged}
 use Rattle.afs_command.specs.Forms.{is_name}
 use Rattle.afs_arguments.proofs.Leaf.{held, made_rules, rules}
 

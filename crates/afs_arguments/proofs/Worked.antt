@@ -5,7 +5,7 @@ use Rattle.clap.proofs.OnLiterals.{clap_on_literals}
 use Rattle.clap.specs.Faults.{fault_of}
 use Rattle.clap.specs.Walk.{Text, is_empty}
 use Rattle.afs_disk.specs.declared.bank.Place.TheVariants.{Memory, Folder}
-use Rattle.afs_model.specs.ScriptWords.{numeral, ranged}
+use Rattle.spec_model.specs.ScriptWords.{numeral, ranged}
 use Rattle.afs_command.specs.Forms.{form_in}
 use Rattle.afs_command.specs.declared.statuses.Form.{Form}
 use Rattle.afs_command.specs.declared.statuses.Form.TheVariants.{Gen, Replay}

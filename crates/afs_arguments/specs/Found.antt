@@ -5,7 +5,7 @@ use Rattle.std.specs.Str.{bytes_eq}
 use Rattle.clap.specs.Faults.{fault_of}
 use Rattle.clap.specs.Simple.{subcommand_of}
 use Rattle.clap.specs.Walk.{Row, Text, first_of, one_of}
-use Rattle.afs_model.specs.ScriptWords.{ranged}
+use Rattle.spec_model.specs.ScriptWords.{ranged}
 use Rattle.afs_command.specs.Forms.{form_by, form_in, name_of, with_folder, Options}
 use Rattle.afs_command.specs.declared.statuses.Form.{Form}
 use Rattle.afs_arguments.specs.Program.{program}
@@ -20,12 +20,12 @@ checked told None = Some (record { wire = told; folder = None })
 checked told (Some name) = with_folder told (name_of name)
 
 -- the rows tell whether there was `--wire`
-abbrev pub IsTold : List Row → Bool → Type 0
-IsTold rows wire = (told : Bool) → one_of (codes "wire") rows ≡ Some (flag_text told) → wire ≡ told
+abbrev pub WireIsTold : List Row → Bool → Type 0
+WireIsTold rows wire = (told : Bool) → one_of (codes "wire") rows ≡ Some (flag_text told) → wire ≡ told
 
 -- these are the options of the rows
 abbrev pub Finds : List Row → Options → Type 0
-Finds rows o = (o.folder ≡ first_of (codes "disks") rows) × IsTold rows o.wire
+Finds rows o = (o.folder ≡ first_of (codes "disks") rows) × WireIsTold rows o.wire
 
 -- the same of the rows of a replay, where that was asked for
 abbrev pub FindsIn : Option (Text × List Row) → Option Options → Type 0

@@ -12,7 +12,7 @@ ghost use Rattle.clap.specs.Walk.{first_of, rows_of};
 ghost use Rattle.clap.specs.declared.error.kind.ErrorKind.TheVariants.{OutOfMemory};
 ghost use Rattle.afs_arguments.specs.Program.{program, IsGen, IsReplay};
 ghost use Rattle.afs_command.specs.Forms.{form_by, form_in, is_name, place_of};
-ghost use Rattle.afs_arguments.specs.Found.{checked, made_by, Finds, FindsIn, FindsWord, IsTaken, IsTold};
+ghost use Rattle.afs_arguments.specs.Found.{checked, made_by, Finds, FindsIn, FindsWord, IsTaken, WireIsTold};
 
 use afs_command::statuses::{Form, form_of as form_without_clap};
 use afs_disk::Place;
@@ -86,7 +86,7 @@ impl<'a> Model for Options<'a> {
 }
 
 fn wire_in(found: &ArgMatches<'_>) -> bool
-    ensures { IsTold (rows_of (found_of found.now)) result }
+    ensures { WireIsTold (rows_of (found_of found.now)) result }
 {
     found.get_flag("wire")
 }

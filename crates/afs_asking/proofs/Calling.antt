@@ -7,16 +7,16 @@ use Rattle.afs_num.specs.Nodes.{IsNode, same_node}
 use Rattle.afs_num.specs.declared.types.Node.{Node}
 use Rattle.afs_num.specs.declared.types.Node.TheVariants as nodes
 use Rattle.afs_num.specs.declared.messages.Call.TheVariants as ask
-use Rattle.afs_shape.specs.Rows.{IsWithin}
-use Rattle.afs_shape.specs.Tables.{IsCount}
-use Rattle.afs_model.specs.CellRows.{cell_calls}
-use Rattle.afs_rows.specs.States.{Gift}
-use Rattle.afs_rows.specs.Going as going
-use Rattle.afs_rows.specs.Going.{Copy, Going, Need, backup_end, copy_of, next, readonly_end, without_end}
-use Rattle.afs_history.specs.declared.acts.Operand.{Operand}
-use Rattle.afs_history.specs.declared.acts.Operand.TheVariants as operands
-use Rattle.afs_rows.specs.ClientRow.{batch, call_by, first_server_of, given_promise, gifts_to, in_order, question}
-use Rattle.afs_acts.specs.Acts.{IsShortAct, IsShortOperand, FitsNeed}
+use Rattle.spec_shape.specs.Rows.{IsWithin}
+use Rattle.spec_shape.specs.Tables.{IsCount}
+use Rattle.spec_model.specs.CellRows.{cell_calls}
+use Rattle.spec_rows.specs.States.{Gift}
+use Rattle.spec_rows.specs.Going as going
+use Rattle.spec_rows.specs.Going.{Copy, Going, Need, backup_end, copy_of, next, readonly_end, without_end}
+use Rattle.spec_history.specs.declared.acts.Operand.{Operand}
+use Rattle.spec_history.specs.declared.acts.Operand.TheVariants as operands
+use Rattle.spec_rows.specs.ClientRow.{batch, call_by, first_server_of, given_promise, gifts_to, in_order, question}
+use Rattle.afs_acts.specs.Acts.{FitsCalls, IsShortOperand, FitsNeed}
 use Rattle.afs_acts.proofs.Fitting.{next_fits}
 use Rattle.afs_entries.proofs.Batches.{few}
 use Rattle.afs_entries.proofs.Removing.{map_length}
@@ -42,11 +42,11 @@ needed_within gifts (going.locates o) h = tt
 needed_within gifts (going.answers n) h = tt
 
 -- what an act needs within its limits
-pub need_fits : (g : Going) (need : Need) → IsShortAct g.act → need ≡ next g → FitsNeed need
+pub need_fits : (g : Going) (need : Need) → FitsCalls g.act → need ≡ next g → FitsNeed need
 need_fits g need s q = subst FitsNeed (sym q) (next_fits g s)
 
 -- the call of an act within its limits
-pub call_within : (g : Going) (gifts : List Gift) → IsShortAct g.act → IsWithin cell_calls (ask.File (call_by gifts (next g)))
+pub call_within : (g : Going) (gifts : List Gift) → FitsCalls g.act → IsWithin cell_calls (ask.File (call_by gifts (next g)))
 call_within g gifts s = needed_within gifts (next g) (next_fits g s)
 
 pub first_is_node : (gs : List Gift) → All IsGift gs → IsNode (first_server_of gs)

@@ -10,13 +10,13 @@ use Rattle.afs_num.specs.declared.types.Node.{Node}
 use Rattle.afs_num.specs.declared.calls.AfsCallBack.{AfsCallBack}
 use Rattle.afs_num.specs.declared.calls.AfsFetchStatus.{AfsFetchStatus}
 use Rattle.afs_num.specs.declared.calls.AfsVolSync.{AfsVolSync}
-use Rattle.afs_rows.specs.States.{CacheEntry}
-use Rattle.afs_rows.specs.ClientRow.{entries_told, entry_told, is_below, is_trusted}
+use Rattle.spec_rows.specs.States.{CacheEntry}
+use Rattle.spec_rows.specs.ClientRow.{entries_told, cache_entry_told, stands_below, is_trusted}
 use Rattle.afs_asking.specs.Telling.{Told, first_told}
 
 abbrev told_on : Node → AfsVolSync → Option Told → List CacheEntry
 told_on server sync None = []
-told_on server sync (Some t) = entry_told server t.fid t.status t.callback sync None ∷ entries_told server sync t.fids t.statuses t.callbacks
+told_on server sync (Some t) = cache_entry_told server t.fid t.status t.callback sync None ∷ entries_told server sync t.fids t.statuses t.callbacks
 
 told_is : (server : Node) (sync : AfsVolSync) (fids : List Fid) (statuses : List AfsFetchStatus) (callbacks : List AfsCallBack) → entries_told server sync fids statuses callbacks ≡ told_on server sync (first_told fids statuses callbacks)
 told_is server sync [] ss cs = refl
@@ -28,7 +28,7 @@ pub told_none : (server : Node) (sync : AfsVolSync) (fids : List Fid) (statuses 
 told_none server sync fids statuses callbacks e = told_is server sync fids statuses callbacks ∙ ap (told_on server sync) e
 
 pub told_some : (server : Node) (sync : AfsVolSync) (fids : List Fid) (statuses : List AfsFetchStatus) (callbacks : List AfsCallBack) (t : Told) → first_told fids statuses callbacks ≡ Some t
-    → entries_told server sync fids statuses callbacks ≡ entry_told server t.fid t.status t.callback sync None ∷ entries_told server sync t.fids t.statuses t.callbacks
+    → entries_told server sync fids statuses callbacks ≡ cache_entry_told server t.fid t.status t.callback sync None ∷ entries_told server sync t.fids t.statuses t.callbacks
 told_some server sync fids statuses callbacks t e = told_is server sync fids statuses callbacks ∙ ap (told_on server sync) e
 
 -- ---- one after the other
@@ -38,7 +38,7 @@ pushed [] f rest = refl
 pushed (a ∷ all) f rest = ap (λ (es : List CacheEntry). entry_of a ∷ es) (pushed all f rest)
 
 pub told_more : (server : Node) (sync : AfsVolSync) (fids : List Fid) (statuses : List AfsFetchStatus) (callbacks : List AfsCallBack) (t : Told) (all now : List Fresh) (f : Fresh) (whole : List CacheEntry) → Some t ≡ first_told fids statuses callbacks → now ≡ all ++ f ∷ []
-    → entry_of f ≡ entry_told server t.fid t.status t.callback sync None → map entry_of all ++ entries_told server sync fids statuses callbacks ≡ whole → map entry_of now ++ entries_told server sync t.fids t.statuses t.callbacks ≡ whole
+    → entry_of f ≡ cache_entry_told server t.fid t.status t.callback sync None → map entry_of all ++ entries_told server sync fids statuses callbacks ≡ whole → map entry_of now ++ entries_told server sync t.fids t.statuses t.callbacks ≡ whole
 told_more server sync fids statuses callbacks t all now f whole e p q w =
     ap (λ (fs : List Fresh). map entry_of fs ++ entries_told server sync t.fids t.statuses t.callbacks) p
     ∙ (pushed all f (entries_told server sync t.fids t.statuses t.callbacks)
@@ -71,8 +71,8 @@ none_spent now all i f b lt is q n inv =
 abbrev below_when : ℕ → CacheEntry → Bool → Bool
 below_when index e t = if t then nat_eq (e.index + 1) index else true
 
-pub untrusted_below : (clock index : ℕ) (o : Option CacheEntry) (e : CacheEntry) (b : Bool) → o ≡ Some e → b ≡ is_trusted clock e → b ≡ false → not b ≡ is_below clock index o
-untrusted_below clock index o e b p q n = ap not n ∙ (ap (below_when index e) (sym n ∙ q) ∙ ap (is_below clock index) (sym p))
+pub untrusted_below : (clock index : ℕ) (o : Option CacheEntry) (e : CacheEntry) (b : Bool) → o ≡ Some e → b ≡ is_trusted clock e → b ≡ false → not b ≡ stands_below clock index o
+untrusted_below clock index o e b p q n = ap not n ∙ (ap (below_when index e) (sym n ∙ q) ∙ ap (stands_below clock index) (sym p))
 
-pub trusted_below : (clock index : ℕ) (o : Option CacheEntry) (e : CacheEntry) (b s : Bool) → o ≡ Some e → b ≡ is_trusted clock e → b ≡ true → s ≡ nat_eq (e.index + 1) index → s ≡ is_below clock index o
-trusted_below clock index o e b s p q n h = h ∙ (ap (below_when index e) (sym n ∙ q) ∙ ap (is_below clock index) (sym p))
+pub trusted_below : (clock index : ℕ) (o : Option CacheEntry) (e : CacheEntry) (b s : Bool) → o ≡ Some e → b ≡ is_trusted clock e → b ≡ true → s ≡ nat_eq (e.index + 1) index → s ≡ stands_below clock index o
+trusted_below clock index o e b s p q n h = h ∙ (ap (below_when index e) (sym n ∙ q) ∙ ap (stands_below clock index) (sym p))

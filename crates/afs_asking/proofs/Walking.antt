@@ -6,12 +6,12 @@ use Rattle.afs_num.specs.declared.types.Fid.{Fid}
 use Rattle.afs_num.specs.declared.types.Node.{Node}
 use Rattle.afs_num.specs.declared.histories.ReadBody.{ReadBody}
 use Rattle.afs_num.specs.declared.histories.ReadSource.TheVariants.{Cached}
-use Rattle.afs_history.specs.declared.lines.Line.{Line}
-use Rattle.afs_ideal.proofs.Basics.{same_fid-true}
-use Rattle.afs_rows.specs.States.{CacheEntry}
-use Rattle.afs_rows.specs.Going as going
-use Rattle.afs_rows.specs.Going.{Going, Need, next, with_read}
-use Rattle.afs_rows.specs.ClientRow.{Look, Walked, find_cached, used_first, is_trusted, look_at, looked, stays, behind, shown_by, walked_with, walked_at, walked_by, walked}
+use Rattle.spec_history.specs.declared.lines.Line.{Line}
+use Rattle.spec_ideal.proofs.Basics.{same_fid-true}
+use Rattle.spec_rows.specs.States.{CacheEntry}
+use Rattle.spec_rows.specs.Going as going
+use Rattle.spec_rows.specs.Going.{Going, Need, next, with_read}
+use Rattle.spec_rows.specs.ClientRow.{Look, Walked, find_cached, used_first, is_trusted, look_at, looked, not_walked, behind, shown_by, walked_with, walked_at, walked_by, walked}
 use Rattle.afs_entries.specs.Cached.{first_by, touched, touched_all}
 use Rattle.afs_entries.proofs.Listing.{found_under}
 use Rattle.afs_asking.specs.Looking.{read_line, fid_needed, found_with, found_at, found_of, found_by, Notes, Turns, comes_to, IsOnWay, HasWalked}
@@ -60,7 +60,7 @@ found_after clock gs es need = found_of_after clock gs es need (fid_needed need)
 -- ---- one turn
 
 abbrev turned : (Going → List CacheEntry → Walked) → Going → List CacheEntry → Option Look → Walked
-turned more act cache None = stays act cache
+turned more act cache None = not_walked act cache
 turned more act cache (Some l) = behind l (more (with_read l.fid l.body act) (touched l.fid cache))
 
 with_is : (more : Going → List CacheEntry → Walked) (act : Going) (cache : List CacheEntry) (e : CacheEntry) (o : Option ReadBody) → touched e.fid cache ≡ used_first e cache → walked_with more act cache e o ≡ turned more act cache (found_with e o)
@@ -68,7 +68,7 @@ with_is more act cache e None h = refl
 with_is more act cache e (Some body) h = ap (λ (es : List CacheEntry). behind (look_at Cached e body) (more (with_read e.fid body act) es)) (sym h)
 
 trusted_is : (b : Bool) (more : Going → List CacheEntry → Walked) (act : Going) (cache : List CacheEntry) (need : Need) (e : CacheEntry) → touched e.fid cache ≡ used_first e cache
-    → cond b (walked_with more act cache e (shown_by need e)) (stays act cache) ≡ turned more act cache (cond b (found_with e (shown_by need e)) None)
+    → cond b (walked_with more act cache e (shown_by need e)) (not_walked act cache) ≡ turned more act cache (cond b (found_with e (shown_by need e)) None)
 trusted_is true more act cache need e h = with_is more act cache e (shown_by need e) h
 trusted_is false more act cache need e h = refl
 
@@ -94,12 +94,12 @@ comes left clock cache w o q =
     ∙ ap (turned (walked left clock) w.going (touched_all w.used.items cache)) (found_after clock w.used.items cache (next w.going) ∙ q)
 
 -- where nothing is found, the walk is made
-ends_by : (left clock : ℕ) (cache : List CacheEntry) (w : program.Walked) → found_by clock cache (next w.going) ≡ None → comes_to left clock cache w ≡ stays w.going (touched_all w.used.items cache)
+ends_by : (left clock : ℕ) (cache : List CacheEntry) (w : program.Walked) → found_by clock cache (next w.going) ≡ None → comes_to left clock cache w ≡ not_walked w.going (touched_all w.used.items cache)
 ends_by zero clock cache w q = refl
 ends_by (suc left) clock cache w q = comes left clock cache w None q
 
 walked_on : (me : Node) (clock : ℕ) (cache : List CacheEntry) (whole : Walked) (told : List Line) (left : ℕ) (w : program.Walked) (ls : List Line)
-    → comes_to left clock cache w ≡ stays w.going (touched_all w.used.items cache) → IsOnWay me clock cache whole told left w ls → HasWalked me cache whole told w ls
+    → comes_to left clock cache w ≡ not_walked w.going (touched_all w.used.items cache) → IsOnWay me clock cache whole told left w ls → HasWalked me cache whole told w ls
 walked_on me clock cache whole told left w ls e h = record {
   short = h.short;
   need = h.need;

@@ -6,12 +6,12 @@ use Rattle.afs_num.specs.declared.types.Code.{Code}
 use Rattle.afs_num.specs.declared.types.Node.{Node}
 use Rattle.afs_num.specs.declared.messages.Call.{Call}
 use Rattle.afs_num.specs.declared.messages.Call.TheVariants as ask
-use Rattle.afs_model.specs.Heads.{user_limit}
-use Rattle.afs_rows.specs.Going.{Going, Need, answers, gives_back, locates, next}
-use Rattle.afs_rows.specs.States.{Gift}
-use Rattle.afs_rows.specs.ClientRow.{call_by, question}
-use Rattle.afs_history.specs.declared.acts.Operand.{Operand}
-use Rattle.afs_acts.specs.Acts.{IsShortAct, IsShortOperand}
+use Rattle.spec_model.specs.Heads.{user_limit}
+use Rattle.spec_rows.specs.Going.{Going, Need, answers, gives_back, locates, next}
+use Rattle.spec_rows.specs.States.{Gift}
+use Rattle.spec_rows.specs.ClientRow.{call_by, question}
+use Rattle.spec_history.specs.declared.acts.Operand.{Operand}
+use Rattle.afs_acts.specs.Acts.{FitsCalls, IsShortOperand}
 use Rattle.afs_acts.specs.Walks.{need_of}
 use Rattle.afs_acts.specs.declared.types.Need as needs
 pub use Rattle.afs_calling.specs.Calls.{calling}
@@ -44,15 +44,15 @@ Parts need (Ok o) = need ≡ locates o
 Parts need (Err other) = (need_of other ≡ need) × (operand_of need ≡ None)
 
 -- the call is the one for what it needs
-pub record IsAsked (going : Going) (gifts : List Gift) (call : Call) (giving : Bool) : Type 0 where
-  pub short : IsShortAct going.act
+pub record IsAskedForNeed (going : Going) (gifts : List Gift) (call : Call) (giving : Bool) : Type 0 where
+  pub short : FitsCalls going.act
   pub nodes : All IsGift gifts
   pub is : call ≡ ask.File (call_by gifts (next going))
   pub gives : giving ≡ is_giving (next going)
 
 -- the call of an act that waits for the location database is the question for its operand
 pub record IsSeeking (going : Going) (o : Operand) (call : Call) : Type 0 where
-  pub short : IsShortAct going.act
+  pub short : FitsCalls going.act
   pub operand : IsShortOperand o
   pub is : call ≡ ask.Location (question o)
 

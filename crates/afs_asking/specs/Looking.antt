@@ -4,12 +4,12 @@ use Rattle.afs_num.specs.declared.types.Node.{Node}
 use Rattle.afs_num.specs.declared.types.Fid.{Fid}
 use Rattle.afs_num.specs.declared.histories.ReadBody.{ReadBody}
 use Rattle.afs_num.specs.declared.histories.ReadSource.TheVariants.{Cached}
-use Rattle.afs_history.specs.declared.lines.Line.{Line}
-use Rattle.afs_history.specs.declared.lines.Line.TheVariants as lines
-use Rattle.afs_rows.specs.States.{CacheEntry}
-use Rattle.afs_rows.specs.Going.{Need, next, reads, reads_status, with_read}
-use Rattle.afs_rows.specs.ClientRow.{Look, Walked, find_cached, is_trusted, look_at, looked, shown_by, walked}
-use Rattle.afs_acts.specs.Acts.{IsShortAct}
+use Rattle.spec_history.specs.declared.lines.Line.{Line}
+use Rattle.spec_history.specs.declared.lines.Line.TheVariants as lines
+use Rattle.spec_rows.specs.States.{CacheEntry}
+use Rattle.spec_rows.specs.Going.{Need, next, reads, reads_status, with_read}
+use Rattle.spec_rows.specs.ClientRow.{Look, Walked, find_cached, is_trusted, look_at, looked, shown_by, walked}
+use Rattle.afs_acts.specs.Acts.{FitsCalls}
 use Rattle.afs_acts.specs.Walks.{need_of}
 use Rattle.afs_entries.specs.Cached.{touched_all}
 use Rattle.afs_asking.specs.declared.looks.Look as program
@@ -62,7 +62,7 @@ comes_to left clock cache w = walked left clock w.going (touched_all w.used.item
 
 -- the act has come so far along its whole walk from these entries; the reads so far were told behind other lines
 pub record IsOnWay (me : Node) (clock : ℕ) (entries : List CacheEntry) (whole : Walked) (before : List Line) (left : ℕ) (w : program_walked.Walked) (ls : List Line) : Type 0 where
-  pub short : IsShortAct w.going.act
+  pub short : FitsCalls w.going.act
   pub need : need_of w.need ≡ next w.going
   pub act : (comes_to left clock entries w).act ≡ whole.act
   pub cache : (comes_to left clock entries w).cache ≡ whole.cache
@@ -70,7 +70,7 @@ pub record IsOnWay (me : Node) (clock : ℕ) (entries : List CacheEntry) (whole 
 
 -- the act has made its whole walk from these entries, and it was found what it needs then
 pub record HasWalked (me : Node) (entries : List CacheEntry) (whole : Walked) (before : List Line) (w : program_walked.Walked) (ls : List Line) : Type 0 where
-  pub short : IsShortAct w.going.act
+  pub short : FitsCalls w.going.act
   pub need : need_of w.need ≡ next w.going
   pub act : w.going ≡ whole.act
   pub cache : touched_all w.used.items entries ≡ whole.cache

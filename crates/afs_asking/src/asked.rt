@@ -2,25 +2,25 @@
 
 ghost use Rattle.std.specs.Prelude.{◌≡◌, IfOk};
 ghost use Rattle.std.specs.List.{All};
-ghost use Rattle.afs_model.specs.CellRows.{cell_calls};
-ghost use Rattle.afs_shape.specs.Rows.{IsWithin};
+ghost use Rattle.spec_model.specs.CellRows.{cell_calls};
+ghost use Rattle.spec_shape.specs.Rows.{IsWithin};
 ghost use Rattle.afs_num.specs.Nodes.{IsNode};
-ghost use Rattle.afs_rows.specs.ClientRow.{behind_batch, call_by, server_for, volume_asked};
-ghost use Rattle.afs_rows.specs.Going.{next, operand_in};
-ghost use Rattle.afs_copyrows.specs.Sites.{entry_at, round_begun, round_by_entry, round_or};
+ghost use Rattle.spec_rows.specs.ClientRow.{behind_batch, call_by, server_for, volume_asked};
+ghost use Rattle.spec_rows.specs.Going.{next, operand_in};
+ghost use Rattle.spec_copyrows.specs.Sites.{entry_located, round_begun, round_by_entry, round_or};
 ghost use Rattle.std.specs.Option.{option_copied};
-ghost use Rattle.afs_acts.specs.Acts.{FitsNeed, IsShortAct, IsShortIfAny};
+ghost use Rattle.afs_acts.specs.Acts.{FitsNeed, FitsCalls, IsShortIfAny};
 ghost use Rattle.afs_acts.specs.Walks.{need_of};
 ghost use Rattle.afs_asking.specs.Asking.{code_of, IsGift, is_giving, Parts};
 ghost use Rattle.afs_num.specs.declared.messages.Call.TheVariants as ask;
 
 use afs_acts::{Going, Location, Need, volume_asked};
 use afs_entries::{Gift, batch_len, copy_gifts, gift_batch, gift_call};
-use afs_history::acts::Operand;
 use afs_num::calls::FsCall;
 use afs_num::messages::Call;
 use afs_num::types::{Code, Mem, Node};
 use afs_sites::{Round, round_for};
+use spec_history::acts::Operand;
 use std::alloc::Global;
 use std::marker::Model;
 
@@ -41,13 +41,13 @@ pub struct Asked {
 }
 
 impl Model for Asked {
-    ghost use Rattle.afs_asking.specs.Asking.{Asking, IsAsked};
+    ghost use Rattle.afs_asking.specs.Asking.{Asking, IsAskedForNeed};
 
     ghost Value = { Asking };
 
     ghost view = { λ a. record { going = a.held.value.going; gifts = a.held.value.gifts.items } };
 
-    ghost invariant = { λ a. IsAsked a.held.value.going a.held.value.gifts.items a.held.value.call a.held.value.gives_back };
+    ghost invariant = { λ a. IsAskedForNeed a.held.value.going a.held.value.gifts.items a.held.value.call a.held.value.gives_back };
 }
 
 /// The code with which an act is answered; it has none where it asks for something.
@@ -101,7 +101,7 @@ fn call_for(alloc: Global, need: Need, gifts: &[Gift]) -> Mem<FsCall>
 impl Asked {
     /// An act that goes on with the call for what it needs.
     pub fn new(alloc: Global, going: Going, need: Need, gifts: Vec<Gift>) -> Mem<Asked>
-        requires short { IsShortAct going.act }
+        requires short { FitsCalls going.act }
         requires need { need_of need ≡ next going }
         requires nodes { All IsGift gifts.items }
         ensures { IfOk result (λ a. a ≡ record { going = going; gifts = gifts.items }) }
@@ -143,7 +143,7 @@ impl Asked {
         begun: Option<&Round>,
         table: &[Location],
     ) -> Mem<Option<Round>>
-        ensures { IfOk result (λ o. o ≡ round_or (round_begun (volume_asked (call_by self.now.gifts (next self.now.going))) (option_copied begun.entry)) (round_by_entry (volume_asked (call_by self.now.gifts (next self.now.going))) (entry_at table.now (operand_in self.now.going (volume_asked (call_by self.now.gifts (next self.now.going))))))) }
+        ensures { IfOk result (λ o. o ≡ round_or (round_begun (volume_asked (call_by self.now.gifts (next self.now.going))) (option_copied begun.entry)) (round_by_entry (volume_asked (call_by self.now.gifts (next self.now.going))) (entry_located table.now (operand_in self.now.going (volume_asked (call_by self.now.gifts (next self.now.going))))))) }
     {
         let volume = volume_asked(self.file_call());
         round_for(alloc, begun, table, &self.held.going, volume)
@@ -161,7 +161,7 @@ impl Asked {
     /// A copy of the act, and of what it has read.
     pub fn copy_going(&self, alloc: Global) -> Mem<Going>
         ensures value { IfOk result (λ g. g ≡ self.now.going) }
-        ensures short { IsShortAct self.now.going.act }
+        ensures short { FitsCalls self.now.going.act }
     {
         self.held.going.copy(alloc)
     }

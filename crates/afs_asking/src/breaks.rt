@@ -2,13 +2,13 @@
 
 ghost use Rattle.std.specs.Prelude.{◌≡◌};
 ghost use Rattle.std.specs.List.{list_any};
-ghost use Rattle.afs_rows.specs.ClientRow.{is_named, is_spoiled_by_all, names_call};
+ghost use Rattle.spec_rows.specs.ClientRow.{is_among_fids, is_spoiled_by_all, names_call};
 
 use afs_num::calls::FsCall;
 use afs_num::types::Fid;
 
 pub fn is_named(fid: &Fid, fids: &[Fid]) -> bool
-    ensures { result ≡ is_named fid.now fids.now }
+    ensures { result ≡ is_among_fids fid.now fids.now }
 {
     for named in fids {
         if *named == *fid {
@@ -19,7 +19,7 @@ pub fn is_named(fid: &Fid, fids: &[Fid]) -> bool
 }
 
 fn is_one_named(asked: &[Fid], fids: &[Fid]) -> bool
-    ensures { result ≡ list_any (λ f. is_named f fids.now) asked.now }
+    ensures { result ≡ list_any (λ f. is_among_fids f fids.now) asked.now }
 {
     for fid in asked {
         if is_named(fid, fids) {

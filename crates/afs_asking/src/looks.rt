@@ -2,19 +2,19 @@
 
 ghost use Rattle.std.specs.Prelude.{◌≡◌, OnOk, IfOk};
 ghost use Rattle.std.specs.Option.{option_copied, option_map};
-ghost use Rattle.afs_rows.specs.Going.{next};
-ghost use Rattle.afs_rows.specs.ClientRow.{most_reads, shown_by, walked};
+ghost use Rattle.spec_rows.specs.Going.{next};
+ghost use Rattle.spec_rows.specs.ClientRow.{most_reads, shown_by, walked};
 ghost use Rattle.afs_num.specs.declared.types.Fid.{Fid as ReadFid};
-ghost use Rattle.afs_acts.specs.Acts.{IsShortAct};
+ghost use Rattle.afs_acts.specs.Acts.{FitsCalls};
 ghost use Rattle.afs_acts.specs.Walks.{need_of};
 ghost use Rattle.afs_entries.specs.Cached.{entry_at, HasBody, in_sight};
 ghost use Rattle.afs_asking.specs.Looking.{fid_needed, found_by, HasWalked, look_of, Notes, Turns};
 
 use afs_acts::{Going, Need, copy_body, copy_read, next};
 use afs_entries::{Entry, Sight};
-use afs_history::lines::{Line, Lines};
 use afs_num::histories::{ReadBody, ReadSource};
 use afs_num::types::{Fid, Mem, Node};
+use spec_history::lines::{Line, Lines};
 use std::alloc::Global;
 
 /// What an act has read from the cache: it has come so far, needs this next, and these entries were used.
@@ -83,7 +83,7 @@ fn look_up(alloc: Global, sight: Sight<'_>, now: u32, need: &Need) -> Mem<Option
 impl Walked {
     /// Notes a read from the cache, and what the act needs behind it.
     fn note(&mut self, alloc: Global, node: Node, look: Look, lines: &mut Lines) -> Mem<()>
-        requires { IsShortAct self.old.going.act }
+        requires { FitsCalls self.old.going.act }
         ensures { OnOk result (Notes node (look_of look) self.old self.new lines.old lines.new) }
     {
         let Look { fid, index, body } = look;
@@ -110,7 +110,7 @@ impl Walked {
         now: u32,
         lines: &mut Lines,
     ) -> Mem<bool>
-        requires short { IsShortAct self.old.going.act }
+        requires short { FitsCalls self.old.going.act }
         requires need { need_of self.old.need ≡ next self.old.going }
         requires body { HasBody (option_copied sight.fresh) }
         ensures { IfOk result (λ read. Turns node (found_by now (in_sight sight.entry.cache.now (option_copied sight.entry.fresh)) (next self.old.going)) read self.old self.new lines.old lines.new) }
@@ -133,7 +133,7 @@ pub fn walk(
     need: Need,
     lines: &mut Lines,
 ) -> Mem<Walked>
-    requires short { IsShortAct going.act }
+    requires short { FitsCalls going.act }
     requires need { need_of need ≡ next going }
     requires body { HasBody (option_copied sight.fresh) }
     ensures { IfOk result (λ w. HasWalked node (in_sight sight.entry.cache.now (option_copied sight.entry.fresh)) (walked (most_reads going) now going (in_sight sight.entry.cache.now (option_copied sight.entry.fresh))) lines.old w lines.new) }

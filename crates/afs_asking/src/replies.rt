@@ -4,10 +4,10 @@ ghost use Rattle.std.specs.Prelude.{◌≡◌, ◌+◌, ◌<◌, length, map, na
 ghost use Rattle.std.specs.List.{list_any};
 ghost use Rattle.std.specs.Option.{option_copied, option_map};
 ghost use Rattle.afs_num.specs.declared.types.Fid.{Fid as AnyFid};
-ghost use Rattle.afs_rows.specs.ClientRow.{body_told, entries_told, entry_told, is_below, is_busy_code, is_trusted, names_told, status_told};
-ghost use Rattle.afs_rows.specs.Scopes.{is_in_scope};
-ghost use Rattle.afs_rows.specs.States.{CacheEntry};
-ghost use Rattle.afs_ideal.specs.Directories.{directory_of};
+ghost use Rattle.spec_rows.specs.ClientRow.{body_told, entries_told, cache_entry_told, stands_below, is_busy_code, is_trusted, names_told, status_told};
+ghost use Rattle.spec_rows.specs.Scopes.{may_change};
+ghost use Rattle.spec_rows.specs.States.{CacheEntry};
+ghost use Rattle.spec_ideal.specs.Directories.{directory_of};
 ghost use Rattle.afs_asking.specs.Telling.{first_of, first_told, told_of};
 ghost use Rattle.afs_entries.specs.Cached.{drops_of, entry_at, entry_of};
 
@@ -41,7 +41,7 @@ pub fn entry_told(
     sync: &AfsVolSync,
     body: Option<Body>,
 ) -> Entry
-    ensures { (fid : AnyFid) → entry_at fid result ≡ entry_told server fid status.now callback.now sync.now body }
+    ensures { (fid : AnyFid) → entry_at fid result ≡ cache_entry_told server fid status.now callback.now sync.now body }
 {
     Entry {
         index: status.sync_counter,
@@ -62,7 +62,7 @@ pub fn is_busy(code: Code) -> bool
 
 /// The entries of what an answered call may have changed.
 pub fn scope_of(call: &FsCall) -> Drops
-    ensures { (e : CacheEntry) → drops_of result e ≡ is_in_scope call.now e.fid }
+    ensures { (e : CacheEntry) → drops_of result e ≡ may_change call.now e.fid }
 {
     match call {
         FsCall::StoreData { fid, .. }
@@ -87,7 +87,7 @@ fn stands_below(entry: &Entry, index: u32) -> bool
 
 /// Whether a trusted entry stands just below this index, or none is there.
 pub fn is_below(now: u32, index: u32, entry: Option<&Entry>) -> bool
-    ensures { (fid : AnyFid) → result ≡ is_below now index (option_map (entry_at fid) (option_copied entry.entry)) }
+    ensures { (fid : AnyFid) → result ≡ stands_below now index (option_map (entry_at fid) (option_copied entry.entry)) }
 {
     match entry {
         Some(entry) => !entry.is_trusted(now) || stands_below(entry, index),

@@ -2,19 +2,19 @@
 
 ghost use Rattle.std.specs.Prelude.{◌≡◌, IfOk};
 ghost use Rattle.std.specs.Option.{option_copied};
-ghost use Rattle.afs_model.specs.CellRows.{call_number, cell_calls};
+ghost use Rattle.spec_model.specs.CellRows.{call_number, cell_calls};
 ghost use Rattle.afs_num.specs.declared.messages.Call.TheVariants as ask;
-ghost use Rattle.afs_rows.specs.ClientRow.{question};
-ghost use Rattle.afs_rows.specs.Going.{filled};
-ghost use Rattle.afs_copyrows.specs.CopyRow.{forgotten};
-ghost use Rattle.afs_shape.specs.Rows.{IsWithin};
-ghost use Rattle.afs_acts.specs.Acts.{IsShortAct, IsShortOperand};
+ghost use Rattle.spec_rows.specs.ClientRow.{question};
+ghost use Rattle.spec_rows.specs.Going.{filled};
+ghost use Rattle.spec_copyrows.specs.CopyRow.{forgotten};
+ghost use Rattle.spec_shape.specs.Rows.{IsWithin};
+ghost use Rattle.afs_acts.specs.Acts.{FitsCalls, IsShortOperand};
 
 use afs_acts::{Going, Location, copy_operand, question};
-use afs_history::acts::Operand;
 use afs_num::messages::Call;
 use afs_num::types::{Code, Mem, Node};
 use afs_sites::forgotten;
+use spec_history::acts::Operand;
 use std::alloc::Global;
 use std::marker::Model;
 
@@ -26,7 +26,7 @@ pub struct Left {
 }
 
 impl Model for Left {
-    ghost use Rattle.afs_rows.specs.Going.{Left};
+    ghost use Rattle.spec_rows.specs.Going.{Left};
 
     ghost Value = { Left };
 
@@ -71,7 +71,7 @@ pub struct Seeking {
 }
 
 impl Model for Seeking {
-    ghost use Rattle.afs_rows.specs.Going.{Seek};
+    ghost use Rattle.spec_rows.specs.Going.{Seek};
     ghost use Rattle.afs_asking.specs.Asking.{IsSeeking};
 
     ghost Value = { Seek };
@@ -84,7 +84,7 @@ impl Model for Seeking {
 impl Seeking {
     /// An act that asks where this operand's volume is.
     pub fn new(alloc: Global, going: Going, operand: Operand, left: Option<Left>) -> Mem<Seeking>
-        requires short { IsShortAct going.act }
+        requires short { FitsCalls going.act }
         requires operand { IsShortOperand operand }
         ensures { IfOk result (λ s. s ≡ record { act = going; operand = operand; left = left }) }
     {
@@ -103,7 +103,7 @@ impl Seeking {
     /// A copy of the act, and of what it has read.
     pub fn copy_going(&self, alloc: Global) -> Mem<Going>
         ensures value { IfOk result (λ g. g ≡ self.now.act) }
-        ensures short { IsShortAct self.now.act.act }
+        ensures short { FitsCalls self.now.act.act }
     {
         self.held.going.copy(alloc)
     }
@@ -111,7 +111,7 @@ impl Seeking {
     /// The act as it goes on where the table is this one: the volume of its second operand is looked up anew, unless it walks there.
     fn renewed_going(&self, alloc: Global, table: &[Location]) -> Mem<Going>
         ensures value { IfOk result (λ g. g ≡ filled table.now (forgotten self.now.act)) }
-        ensures short { IfOk result (λ g. IsShortAct g.act) }
+        ensures short { IfOk result (λ g. FitsCalls g.act) }
     {
         let mut going = forgotten(alloc, &self.held.going)?;
         going.fill(table);

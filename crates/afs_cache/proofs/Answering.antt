@@ -10,24 +10,24 @@ use Rattle.afs_num.specs.declared.types.Head.{Head}
 use Rattle.afs_num.specs.declared.calls.FsCall.{FsCall}
 use Rattle.afs_num.specs.declared.messages.Message.{Message}
 use Rattle.afs_num.specs.declared.messages.Received.{Received}
-use Rattle.afs_history.specs.declared.lines.Line.{Line}
-use Rattle.afs_history.specs.declared.lines.Line.TheVariants as lines
-use Rattle.afs_history.specs.declared.lines.Outs.{Outs}
-use Rattle.afs_ideal.specs.Operations.{volume_changed}
-use Rattle.afs_model.specs.Calls.{Admitted}
-use Rattle.afs_model.specs.Calls as pairs
-use Rattle.afs_model.specs.Steps.{NodeState}
-use Rattle.afs_rows.specs.States.{CacheEntry, KnownBoot}
-use Rattle.afs_rows.specs.Going.{ClientState, Going}
-use Rattle.afs_rows.specs.ClientRow.{admits_call, boot_of, dropped, dropped_after, ends_step, given_up_in, left_after, left_in, runs_call, with_boot}
-use Rattle.afs_rows.specs.Scopes.{is_in_scope}
-use Rattle.afs_rows.specs.Steps.{Step}
+use Rattle.spec_history.specs.declared.lines.Line.{Line}
+use Rattle.spec_history.specs.declared.lines.Line.TheVariants as lines
+use Rattle.spec_history.specs.declared.lines.Outs.{Outs}
+use Rattle.spec_ideal.specs.Operations.{volume_changed}
+use Rattle.spec_model.specs.Calls.{Admitted}
+use Rattle.spec_model.specs.Calls as pairs
+use Rattle.spec_model.specs.Steps.{NodeState}
+use Rattle.spec_rows.specs.States.{CacheEntry, KnownBoot}
+use Rattle.spec_rows.specs.Going.{ClientState, Going}
+use Rattle.spec_rows.specs.ClientRow.{admits_call, boot_of, dropped, dropped_after, ends_step, given_up_in, left_after, left_in, runs_call, with_boot}
+use Rattle.spec_rows.specs.Scopes.{may_change}
+use Rattle.spec_rows.specs.Steps.{Step}
 use Rattle.afs_entries.specs.Cached.{drops_of, left}
 use Rattle.afs_entries.specs.declared.drops.Drops.{Drops}
 pub use Rattle.afs_calling.proofs.Stepping.{boot_told_is}
 pub use Rattle.afs_cache.proofs.Placing.{goes_answered, goes_taken, takes_same}
 use Rattle.afs_cache.proofs.Placing.{stills_same}
-use Rattle.afs_copyrows.specs.Sites.{CopyState}
+use Rattle.spec_copyrows.specs.Sites.{CopyState}
 use Rattle.afs_cache.specs.Managing.{TakesStill}
 use Rattle.afs_cache.specs.Acting.{changed_in}
 use Rattle.afs_cache.specs.Serving.{admits_asking, runs_asking}
@@ -77,9 +77,9 @@ filter_as p q [] h = refl
 filter_as p q (e ∷ es) h = kept_as (p e) (q e) e (filter p es) (filter q es) (h e) (filter_as p q es h)
 
 -- the entries of these go, and the act is answered
-pub plain_as : (me : Node) (c : ClientState) (d : Drops) (call : FsCall) (place : ℕ) (code : Code) → ((e : CacheEntry) → drops_of d e ≡ is_in_scope call e.fid)
+pub plain_as : (me : Node) (c : ClientState) (d : Drops) (call : FsCall) (place : ℕ) (code : Code) → ((e : CacheEntry) → drops_of d e ≡ may_change call e.fid)
     → ends_step me c (left d c.cache) (λ ls. lines.Given place ∷ dropped me (filter (drops_of d) c.cache) ls) code ≡ ends_step me c (left_after call c.cache) (λ ls. lines.Given place ∷ dropped me (dropped_after call c.cache) ls) code
 plain_as me c d call place code h =
     ap (λ (es : List CacheEntry). ends_step me c es (λ ls. lines.Given place ∷ dropped me (filter (drops_of d) c.cache) ls) code)
-    (filter_as (λ (e : CacheEntry). not (drops_of d e)) (λ (e : CacheEntry). not (is_in_scope call e.fid)) c.cache (λ e. ap not (h e)))
-    ∙ ap (λ (es : List CacheEntry). ends_step me c (left_after call c.cache) (λ ls. lines.Given place ∷ dropped me es ls) code) (filter_as (drops_of d) (λ (e : CacheEntry). is_in_scope call e.fid) c.cache h)
+    (filter_as (λ (e : CacheEntry). not (drops_of d e)) (λ (e : CacheEntry). not (may_change call e.fid)) c.cache (λ e. ap not (h e)))
+    ∙ ap (λ (es : List CacheEntry). ends_step me c (left_after call c.cache) (λ ls. lines.Given place ∷ dropped me es ls) code) (filter_as (drops_of d) (λ (e : CacheEntry). may_change call e.fid) c.cache h)

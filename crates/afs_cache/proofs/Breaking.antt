@@ -16,24 +16,24 @@ use Rattle.afs_num.specs.declared.messages.Call.{Call}
 use Rattle.afs_num.specs.declared.messages.Call.TheVariants as ask
 use Rattle.afs_num.specs.declared.messages.Carried.{Carried}
 use Rattle.afs_num.specs.declared.messages.Carried.TheVariants as carried
-use Rattle.afs_history.specs.declared.lines.Line.{Line}
-use Rattle.afs_history.specs.declared.lines.Line.TheVariants as lines
-use Rattle.afs_history.specs.declared.lines.Outs.{Outs}
-use Rattle.afs_model.specs.Steps.{NodeState}
-use Rattle.afs_rows.specs.States.{CacheEntry}
-use Rattle.afs_rows.specs.Going.{ClientState}
-use Rattle.afs_rows.specs.ServerRow.{bad_fields, not_served}
-use Rattle.afs_shape.specs.Tables.{is_among}
-use Rattle.afs_model.specs.CellRows.{client_calls}
-use Rattle.afs_model.specs.Calls.{Admitted, admitted}
-use Rattle.afs_model.specs.Calls as pairs
-use Rattle.afs_rows.specs.ClientRow.{admits_call, breaks, ignores, refused_with, replies_step, runs_call, runs_carried, takes_in}
+use Rattle.spec_history.specs.declared.lines.Line.{Line}
+use Rattle.spec_history.specs.declared.lines.Line.TheVariants as lines
+use Rattle.spec_history.specs.declared.lines.Outs.{Outs}
+use Rattle.spec_model.specs.Steps.{NodeState}
+use Rattle.spec_rows.specs.States.{CacheEntry}
+use Rattle.spec_rows.specs.Going.{ClientState}
+use Rattle.spec_rows.specs.ServerRow.{bad_fields, not_served}
+use Rattle.spec_shape.specs.Tables.{is_among}
+use Rattle.spec_model.specs.CellRows.{client_calls}
+use Rattle.spec_model.specs.Calls.{Admitted, admitted}
+use Rattle.spec_model.specs.Calls as pairs
+use Rattle.spec_rows.specs.ClientRow.{admits_call, breaks, ignores, refused_with, replies_step, runs_call, runs_carried, takes_in}
 use Rattle.afs_cache.specs.Serving.{admits_asking, runs_asking, takes_asking}
 use Rattle.afs_cache.specs.declared.serving.Asking.{Asking}
 use Rattle.afs_cache.specs.declared.serving.Asking.TheVariants as askings
-use Rattle.afs_rows.specs.Steps.{Step}
+use Rattle.spec_rows.specs.Steps.{Step}
 use Rattle.afs_entries.specs.Cached.{unlisted}
-use Rattle.afs_copyrows.specs.Sites.{as_it_is, with_client, CopyState}
+use Rattle.spec_copyrows.specs.Sites.{as_it_is, with_client, CopyState}
 use Rattle.afs_cache.specs.Managing.{Makes, TakesStill}
 
 either_is : (a b : Bool) → (a || b) ≡ cond a true b

@@ -3,27 +3,27 @@ use Rattle.std.proofs.Common.{◌≡◌, ℕ, true, false, List, [], ◌∷◌, 
 use Rattle.afs_num.specs.declared.types.Code.{Code}
 use Rattle.afs_num.specs.declared.types.Fid.{Fid}
 use Rattle.afs_num.specs.declared.types.Node.{Node}
-use Rattle.afs_history.specs.declared.acts.Act.{Act}
-use Rattle.afs_history.specs.declared.lines.Line.{Line}
-use Rattle.afs_history.specs.declared.lines.Line.TheVariants as lines
-use Rattle.afs_history.specs.declared.lines.Outs.{Outs}
-use Rattle.afs_model.specs.Steps.{NodeState}
-use Rattle.afs_rows.specs.States.{CacheEntry, Gift}
-use Rattle.afs_rows.specs.Going as going
-use Rattle.afs_rows.specs.Going.{ClientState, Going, Need, Seek, began, next}
-use Rattle.afs_rows.specs.ClientRow.{Walked, begin_row, begins_by, calls_step, drop_line, dropped, ends_step, gift_of, gives_all, gives_by, goes_by, goes_on, in_order, looked, seeks_step, stays, trusted_in, untrusted_in, walks_on}
-use Rattle.afs_rows.specs.Steps.{Step}
+use Rattle.spec_history.specs.declared.acts.Act.{Act}
+use Rattle.spec_history.specs.declared.lines.Line.{Line}
+use Rattle.spec_history.specs.declared.lines.Line.TheVariants as lines
+use Rattle.spec_history.specs.declared.lines.Outs.{Outs}
+use Rattle.spec_model.specs.Steps.{NodeState}
+use Rattle.spec_rows.specs.States.{CacheEntry, Gift}
+use Rattle.spec_rows.specs.Going as going
+use Rattle.spec_rows.specs.Going.{ClientState, Going, Need, Seek, began, next}
+use Rattle.spec_rows.specs.ClientRow.{Walked, begin_row, begins_by, calls_step, drop_line, dropped, ends_step, gift_of, gives_all, gives_by, goes_by, goes_on, in_order, looked, seeks_step, not_walked, trusted_in, untrusted_in, walks_on}
+use Rattle.spec_rows.specs.Steps.{Step}
 use Rattle.afs_entries.specs.Cached.{Kept, drops_of, left, unlisted}
 use Rattle.afs_entries.specs.declared.drops.Drops.{Drops}
 use Rattle.afs_entries.specs.declared.drops.Drops.TheVariants as drops
 use Rattle.afs_asking.specs.Asking.{is_giving}
-use Rattle.afs_cache.specs.Managing.{Answers, Goes, Makes, placed}
+use Rattle.afs_cache.specs.Managing.{Answers, Goes, Makes, sent_to_site}
 use Rattle.afs_cache.specs.Acting.{but_for, followed, IsDropping, outs_of, PlansFor, but_for_these}
 use Rattle.afs_cache.specs.declared.acting.Dropping.{Dropping}
 use Rattle.afs_cache.specs.declared.acting.Plan.{Plan}
 use Rattle.afs_cache.proofs.Answering.{goes_answered}
 use Rattle.afs_cache.proofs.Planning.{done_as, dropped_front, goes_in}
-use Rattle.afs_copyrows.specs.Sites.{with_client, CopyState}
+use Rattle.spec_copyrows.specs.Sites.{with_client, CopyState}
 
 -- ---- steps behind lines that are the same
 
@@ -65,11 +65,11 @@ dropped_told me cache d told first ls x h =
 
 pub plan_moves : (step : ClientState → (List Line → List Line) → Step ClientState) (other : (List Line → List Line) → Step ClientState) (told more : List Line) (plan : Plan) (old new : NodeState CopyState) (outs : Outs) (cache : List CacheEntry) (busy moved : ℕ)
     → PlansFor step more old plan → new.node ≡ old.node → new.state ≡ followed (but_for_these old.state cache busy moved) plan → outs ≡ outs_of plan → ((first : List Line) → step (but_for old.state.client cache busy moved) (λ ls. first ++ (more ++ ls)) ≡ other (λ ls. first ++ (told ++ ls)))
-    → (new.node ≡ old.node) × ((first : List Line) → Makes (placed old.node old.state (other (λ ls. first ++ (told ++ ls)))) new.state (λ ls. first ++ ls) outs)
+    → (new.node ≡ old.node) × ((first : List Line) → Makes (sent_to_site old.node old.state (other (λ ls. first ++ (told ++ ls)))) new.state (λ ls. first ++ ls) outs)
 plan_moves step other told more plan old new outs cache busy moved p n s o same = (
   n,
-  λ first. subst (λ (x : Step ClientState). Makes (placed old.node old.state x) new.state (λ ls. first ++ ls) outs) (same first)
-      (done_as (placed old.node old.state (step (but_for old.state.client cache busy moved) (λ ls. first ++ (more ++ ls)))) (but_for_these old.state cache busy moved) (but_for_these old.state cache busy moved) plan new.state outs (λ ls. first ++ ls) (p cache busy moved first) s refl o),
+  λ first. subst (λ (x : Step ClientState). Makes (sent_to_site old.node old.state x) new.state (λ ls. first ++ ls) outs) (same first)
+      (done_as (sent_to_site old.node old.state (step (but_for old.state.client cache busy moved) (λ ls. first ++ (more ++ ls)))) (but_for_these old.state cache busy moved) (but_for_these old.state cache busy moved) plan new.state outs (λ ls. first ++ ls) (p cache busy moved first) s refl o),
 )
 
 -- ---- the steps
@@ -83,11 +83,11 @@ ends_dropped me c d told first x code h =
 
 -- the act goes on
 pub goes_dropped : (me : Node) (c : ClientState) (d : Drops) (told first : List Line) (x : Dropping) (act : Going) → IsDropping me c.cache d told x
-    → goes_on me (but_for c (unlisted x.fids.items c.cache) c.busy c.moved) (λ ls. first ++ (x.lines ++ ls)) (stays act (unlisted x.fids.items c.cache)) ≡ goes_on me c (λ ls. first ++ (told ++ dropped me (filter (drops_of d) c.cache) ls)) (stays act (left d c.cache))
+    → goes_on me (but_for c (unlisted x.fids.items c.cache) c.busy c.moved) (λ ls. first ++ (x.lines ++ ls)) (not_walked act (unlisted x.fids.items c.cache)) ≡ goes_on me c (λ ls. first ++ (told ++ dropped me (filter (drops_of d) c.cache) ls)) (not_walked act (left d c.cache))
 goes_dropped me c d told first x act h =
-    goes_in me c (unlisted x.fids.items c.cache) c.busy c.moved (λ ls. first ++ (x.lines ++ ls)) (stays act (unlisted x.fids.items c.cache))
-    ∙ (ap (λ (es : List CacheEntry). goes_on me c (λ ls. first ++ (x.lines ++ ls)) (stays act es)) h.rest
-    ∙ goes_front me c (λ ls. first ++ (x.lines ++ ls)) (λ ls. first ++ (told ++ dropped me (filter (drops_of d) c.cache) ls)) (stays act (left d c.cache)) (λ ls. dropped_told me c.cache d told first ls x h))
+    goes_in me c (unlisted x.fids.items c.cache) c.busy c.moved (λ ls. first ++ (x.lines ++ ls)) (not_walked act (unlisted x.fids.items c.cache))
+    ∙ (ap (λ (es : List CacheEntry). goes_on me c (λ ls. first ++ (x.lines ++ ls)) (not_walked act es)) h.rest
+    ∙ goes_front me c (λ ls. first ++ (x.lines ++ ls)) (λ ls. first ++ (told ++ dropped me (filter (drops_of d) c.cache) ls)) (not_walked act (left d c.cache)) (λ ls. dropped_told me c.cache d told first ls x h))
 
 -- the promises are given back
 pub gives_dropped : (me : Node) (c : ClientState) (clock : ℕ) (told first : List Line) (x : Dropping) (gifts : List Gift) (act : Going) → IsDropping me c.cache (drops.Trusted clock) told x → gifts ≡ in_order (map gift_of (trusted_in clock c.cache))
@@ -135,7 +135,7 @@ begins_walking me c clock front act (going.locates o) e = refl
 begins_walking me c clock front act (going.answers n) e = refl
 
 pub goes_same : {E : Type 0} (step other : (List Line → List Line) → Step ClientState) (told : List Line) (old new : NodeState CopyState) (r : Result Outs E) → ((front : List Line → List Line) → step front ≡ other front) → Goes step told old new r → Goes other told old new r
-goes_same step other told old new (Ok outs) same h = (h.0, λ first. subst (λ (s : Step ClientState). Makes (placed old.node old.state s) new.state (λ ls. first ++ ls) outs) (same (λ ls. first ++ (told ++ ls))) (h.1 first))
+goes_same step other told old new (Ok outs) same h = (h.0, λ first. subst (λ (s : Step ClientState). Makes (sent_to_site old.node old.state s) new.state (λ ls. first ++ ls) outs) (same (λ ls. first ++ (told ++ ls))) (h.1 first))
 goes_same step other told old new (Err e) same h = h
 
 pub begun_giving : {E : Type 0} (me : Node) (c : ClientState) (clock : ℕ) (act : Going) (told : List Line) (old new : NodeState CopyState) (r : Result Outs E) → is_giving (next act) ≡ true → Goes (λ front. gives_all me (record c { busy = 0; moved = 0 }) clock act front) told old new r

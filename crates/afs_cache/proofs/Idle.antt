@@ -1,12 +1,12 @@
 -- An act runs at a client, or waits for the location database, just where a call of it waits.
 use Rattle.std.proofs.Common.{◌≡◌, true, false, Option, Some, None, refl}
 use Rattle.std.specs.Prelude.{IsSome, is_some}
-use Rattle.afs_model.specs.Steps.{NodeState}
+use Rattle.spec_model.specs.Steps.{NodeState}
 use Rattle.afs_num.specs.declared.types.Node.{Node}
-use Rattle.afs_rows.specs.Going.{ClientState, Going}
-use Rattle.afs_rows.specs.ClientRow.{act_of}
+use Rattle.spec_rows.specs.Going.{ClientState, Going}
+use Rattle.spec_rows.specs.ClientRow.{act_of}
 use Rattle.afs_cache.specs.Managing.{waits, waits_by}
-use Rattle.afs_copyrows.specs.Sites.{CopyState}
+use Rattle.spec_copyrows.specs.Sites.{CopyState}
 
 idle_by : (me : Node) (c : ClientState) (running : Option Going) → is_some (waits_by me c running) ≡ false → running ≡ None
 idle_by me c None e = refl

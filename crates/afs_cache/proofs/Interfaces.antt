@@ -9,10 +9,10 @@ use Rattle.afs_num.specs.declared.messages.Reply.{Reply}
 use Rattle.afs_num.specs.declared.messages.Reply.TheVariants as tell
 use Rattle.afs_num.specs.declared.types.Head.{Head}
 use Rattle.afs_num.specs.declared.types.Node.{Node}
-use Rattle.afs_rows.specs.Going.{ClientState, Going}
-use Rattle.afs_rows.specs.ClientRow.{ignores, refused_with, replies_step}
-use Rattle.afs_rows.specs.ServerRow.{not_served}
-use Rattle.afs_rows.specs.Steps.{Step}
+use Rattle.spec_rows.specs.Going.{ClientState, Going}
+use Rattle.spec_rows.specs.ClientRow.{ignores, refused_with, replies_step}
+use Rattle.spec_rows.specs.ServerRow.{not_served}
+use Rattle.spec_rows.specs.Steps.{Step}
 use Rattle.afs_cache.specs.Serving.{runs_asking}
 use Rattle.afs_cache.specs.Wanted.{counts_reply}
 use Rattle.afs_cache.specs.declared.serving.Asking.TheVariants as askings

@@ -26,25 +26,25 @@ use Rattle.afs_num.specs.declared.histories.ReadBody.{ReadBody}
 use Rattle.afs_num.specs.declared.histories.ReadBody.TheVariants as seen
 use Rattle.afs_num.specs.declared.histories.ReadSource.TheVariants.{Fetched}
 use Rattle.afs_num.specs.declared.histories.ReadStatus.{ReadStatus}
-use Rattle.afs_history.specs.declared.acts.Act.{Act}
-use Rattle.afs_history.specs.declared.acts.Operand.{Operand}
+use Rattle.spec_history.specs.declared.acts.Act.{Act}
+use Rattle.spec_history.specs.declared.acts.Operand.{Operand}
 use Rattle.afs_num.specs.declared.location_calls.LocEntry.{LocEntry}
-use Rattle.afs_history.specs.declared.lines.Line.{Line}
-use Rattle.afs_history.specs.declared.lines.Line.TheVariants as lines
-use Rattle.afs_model.specs.Calls.{Admitted, admitted, is_sent_again, last_timeout}
-use Rattle.afs_model.specs.Calls as pairs
-use Rattle.afs_rows.specs.States.{CacheEntry, Gift}
-use Rattle.afs_rows.specs.Going as going
-use Rattle.afs_rows.specs.Going.{ClientState, Going, Left, Need, Seek, next, began, filled, operand_in, volume_at, with_read}
-use Rattle.afs_rows.specs.ClientRow.{admits_call, asks_where, awaits, begin_row, begins_by, behind_batch, body_told, breaks, call_of, called, callee_of, calls_again, client_row, counts, dead_code, dropped, ends_step, entries_told, entry_in, entry_told, find_cached, gift_of, given, given_up_in, gives_all, gives_by, gives_up, goes_by, guest_row, has_location, hears, left_in, seek_timeout_row, ignores, in_order, is_awaited, is_below, is_busy_code, is_gone_code, is_older, is_sought, is_spent, is_trusted, knows, located, located_by, located_on, Look, look_at, looked, most_busy, most_moved, most_reads, moved_on, put_entries, put_entry, read_lines, refuses, refuses_for_good, runs_call, runs_carried, seeks_on, sought_by, sought_ends, sought_or, status_look, status_told, takes, takes_bulk, takes_bytes, takes_data, takes_entries, takes_entry, takes_given, takes_in, takes_list, takes_plain, takes_rights, takes_set, takes_shown, takes_status, takes_stored, timeout_line, timeout_row, tries_again, trusted_in, untrusted_in, volume_asked, walked, Walked, walks_on, whole, with_statuses}
-use Rattle.afs_rows.specs.Steps.{Step}
-use Rattle.afs_history.specs.declared.lines.Outs.{Outs}
-use Rattle.afs_model.specs.Steps.{NodeState}
-use Rattle.afs_ideal.specs.Operations.{volume_changed}
+use Rattle.spec_history.specs.declared.lines.Line.{Line}
+use Rattle.spec_history.specs.declared.lines.Line.TheVariants as lines
+use Rattle.spec_model.specs.Calls.{Admitted, admitted, is_sent_again, last_timeout}
+use Rattle.spec_model.specs.Calls as pairs
+use Rattle.spec_rows.specs.States.{CacheEntry, Gift}
+use Rattle.spec_rows.specs.Going as going
+use Rattle.spec_rows.specs.Going.{ClientState, Going, Left, Need, Seek, next, began, filled, operand_in, volume_at, with_read}
+use Rattle.spec_rows.specs.ClientRow.{admits_call, asks_where, awaits, begin_row, begins_by, behind_batch, body_told, breaks, call_of, called, callee_of, calls_again, client_row, counts, dead_code, dropped, ends_step, entries_told, entry_in, cache_entry_told, find_cached, gift_of, with_given, given_up_in, gives_all, gives_by, gives_up, goes_by, guest_row, has_location, hears, left_in, seek_timeout_row, ignores, in_order, is_awaited, stands_below, is_busy_code, is_gone_code, is_older, is_sought, is_spent, is_trusted, knows_place, located, located_by, located_on, Look, look_at, looked, most_busy, most_moved, most_reads, moved_on, put_entries, put_entry, read_lines, refuses, refuses_for_good, runs_call, runs_carried, seeks_on, sought_by, sought_ends, sought_or, status_look, status_told, takes, takes_bulk, takes_bytes, takes_data, takes_entries, takes_entry, takes_given, takes_in, takes_list, takes_plain, takes_rights, takes_set, takes_shown, takes_status, takes_stored, timeout_line, timeout_row, tries_again, trusted_in, untrusted_in, volume_asked, walked, Walked, walks_on, whole, with_statuses}
+use Rattle.spec_rows.specs.Steps.{Step}
+use Rattle.spec_history.specs.declared.lines.Outs.{Outs}
+use Rattle.spec_model.specs.Steps.{NodeState}
+use Rattle.spec_ideal.specs.Operations.{volume_changed}
 use Rattle.afs_calling.specs.Stepping.{Answers, Takes}
-use Rattle.afs_copyrows.specs.CopyRow as copy_rows
-use Rattle.afs_copyrows.specs.CopyRow.{answers_at, answers_in, answers_to, by_release, copy_begin_row, copy_row, copy_timeout_row, dies_at, dropping, entry_told as entry_carried, hears_by, is_below_release, is_over, offer_in, offers, Offer, refuses_at, renewing, tells_new, uses, uses_newer, without_older}
-use Rattle.afs_copyrows.specs.Sites.{as_it_is, asked_since, behind_first, calls_round, goes_round, leaves_site, round_of, seen_of, sited, sited_by, sited_in, unasked, with_client, CopyState, Round}
+use Rattle.spec_copyrows.specs.CopyRow as copy_rows
+use Rattle.spec_copyrows.specs.CopyRow.{answers_at, answers_in, answers_to, by_release, copy_begin_row, copy_row, copy_timeout_row, dies_at, dropping, entry_told as entry_carried, hears_by, is_below_release, is_over, offer_in, offers, Offer, refuses_at, renewing, tells_new, uses, uses_newer, without_older}
+use Rattle.spec_copyrows.specs.Sites.{as_it_is, asked_since, behind_first, calls_round, goes_round, leaves_site, round_of, seen_of, sited, sited_by, sited_in, unasked, with_client, CopyState, Round}
 use Rattle.afs_cache.specs.Managing.{copy_seek_times_out, copy_times_out}
 use Rattle.afs_cache.specs.Lasting.{lasting}
 
@@ -107,17 +107,17 @@ entry_rises me c clock place act entry body =
 
 entries_rise : (me : Node) (c : ClientState) (clock place : ℕ) (act : Going) (es : List CacheEntry) → Rises c (takes_entries me c clock place act es)
 entries_rise me c clock place act es =
-    let front : List Line → List Line = λ ls. given place (looked me (map status_look es) ls) in
+    let front : List Line → List Line = λ ls. with_given place (looked me (map status_look es) ls) in
     let going : Going = with_statuses es act in
     let cache : List CacheEntry = put_entries c.capacity es c.cache in
     either c (list_any (λ (e : CacheEntry). not (is_trusted clock e)) es) (calls_again me c place act) (walks_on me c clock front going cache) (refl, rises c.last) (walks_rises me c clock front going cache)
 
 status_rises : (me : Node) (c : ClientState) (clock place : ℕ) (fid : Fid) (status : AfsFetchStatus) (call : FsCall) → Rises c (takes_status me c clock place fid status call)
-status_rises me c clock place fid status call = either c (not c.spoiled && is_below clock status.sync_counter (find_cached fid c.cache)) _ _ (refl, stays c.last) (refl, stays c.last)
+status_rises me c clock place fid status call = either c (not c.spoiled && stands_below clock status.sync_counter (find_cached fid c.cache)) _ _ (refl, stays c.last) (refl, stays c.last)
 
 data_rises : (me : Node) (c : ClientState) (clock place : ℕ) (act : Going) (contents : List ℕ) (status : AfsFetchStatus) (callback : AfsCallBack) (sync : AfsVolSync) (call : FsCall) → Rises c (takes_data me c clock place act contents status callback sync call)
 data_rises me c clock place act contents status callback sync (calls.FetchData fid position wanted) =
-    entry_rises me c clock place act (entry_told c.callee fid status callback sync (Some (body_told status.file_type contents))) (seen.Contents (body_told status.file_type contents))
+    entry_rises me c clock place act (cache_entry_told c.callee fid status callback sync (Some (body_told status.file_type contents))) (seen.Contents (body_told status.file_type contents))
 data_rises me c clock place act contents status callback sync (calls.FetchAcl fid) = (refl, stays c.last)
 data_rises me c clock place act contents status callback sync (calls.FetchStatus fid) = (refl, stays c.last)
 data_rises me c clock place act contents status callback sync (calls.StoreData fid set position wanted file_length stored) = (refl, stays c.last)
@@ -141,7 +141,7 @@ data_rises me c clock place act contents status callback sync calls.Probe = (ref
 shown_rises : (me : Node) (c : ClientState) (clock place : ℕ) (act : Going) (status : AfsFetchStatus) (callback : AfsCallBack) (sync : AfsVolSync) (call : FsCall) → Rises c (takes_shown me c clock place act status callback sync call)
 shown_rises me c clock place act status callback sync (calls.FetchData fid position wanted) = (refl, stays c.last)
 shown_rises me c clock place act status callback sync (calls.FetchAcl fid) = (refl, stays c.last)
-shown_rises me c clock place act status callback sync (calls.FetchStatus fid) = entry_rises me c clock place act (entry_told c.callee fid status callback sync None) (seen.Status (status_told status))
+shown_rises me c clock place act status callback sync (calls.FetchStatus fid) = entry_rises me c clock place act (cache_entry_told c.callee fid status callback sync None) (seen.Status (status_told status))
 shown_rises me c clock place act status callback sync (calls.StoreData fid set position wanted file_length contents) = (refl, stays c.last)
 shown_rises me c clock place act status callback sync (calls.StoreAcl fid acl) = (refl, stays c.last)
 shown_rises me c clock place act status callback sync (calls.StoreStatus fid set) = (refl, stays c.last)
@@ -243,7 +243,7 @@ given_rises me c place act (calls.Symlink d n t s) = (refl, stays c.last)
 given_rises me c place act (calls.Link d n f) = (refl, stays c.last)
 given_rises me c place act (calls.MakeDir d n s) = (refl, stays c.last)
 given_rises me c place act (calls.RemoveDir d n) = (refl, stays c.last)
-given_rises me c place act (calls.GiveUpCallBacks fs cs) = gives_rises me c (given place) act (behind_batch c.gifts)
+given_rises me c place act (calls.GiveUpCallBacks fs cs) = gives_rises me c (with_given place) act (behind_batch c.gifts)
 given_rises me c place act (calls.GetVolumeStatus v) = (refl, stays c.last)
 given_rises me c place act calls.GetTime = (refl, stays c.last)
 given_rises me c place act (calls.BulkStatus fs) = (refl, stays c.last)
@@ -364,16 +364,16 @@ client_rises me c clock place r = in_rises me c clock place r
 
 on_rises : (me : Node) (c : ClientState) (clock place : ℕ) (act : Going) (o : Option ℕ) → Rises c (located_on me c clock place act o)
 on_rises me c clock place act None = (refl, stays c.last)
-on_rises me c clock place act (Some id) = walks_rises me c clock (given place) (filled c.table act) c.cache
+on_rises me c clock place act (Some id) = walks_rises me c clock (with_given place) (filled c.table act) c.cache
 
 moved_rises : (me : Node) (c : ClientState) (place : ℕ) (act : Going) (left : Left) (o : Option ℕ) → Rises c (moved_on me c place act left o)
 moved_rises me c place act left None = (refl, stays c.last)
 moved_rises me c place act left (Some id) = either c (same_node (callee_of c act) left.server) _ _ (refl, stays c.last) (refl, rises c.last)
 
 located_rises : (me : Node) (c : ClientState) (clock place : ℕ) (k : Seek) (l : LocEntry) (left : Option Left) → Rises c (located me c clock place k l left)
-located_rises me c clock place k l None = on_rises me (knows l c) clock place k.act (volume_at (knows l c).table k.operand)
+located_rises me c clock place k l None = on_rises me (knows_place l c) clock place k.act (volume_at (knows_place l c).table k.operand)
 located_rises me c clock place k l (Some left) =
-    either c (has_location l c.table) _ _ (refl, stays c.last) (moved_rises me (knows l c) place k.act left (volume_at (knows l c).table k.operand))
+    either c (has_location l c.table) _ _ (refl, stays c.last) (moved_rises me (knows_place l c) place k.act left (volume_at (knows_place l c).table k.operand))
 
 entry_told_rises : (me : Node) (c : ClientState) (clock place : ℕ) (k : Seek) (o : Option LocEntry) → Rises c (located_by me c clock place k o)
 entry_told_rises me c clock place k None = (refl, stays c.last)

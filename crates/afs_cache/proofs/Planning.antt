@@ -6,20 +6,20 @@ use Rattle.afs_num.specs.Nodes.{IsNode}
 use Rattle.afs_num.specs.declared.types.Code.{Code}
 use Rattle.afs_num.specs.declared.types.Node.{Node}
 use Rattle.afs_num.specs.declared.types.Fid.{Fid}
-use Rattle.afs_history.specs.declared.lines.Line.{Line}
-use Rattle.afs_history.specs.declared.lines.Line.TheVariants as lines
-use Rattle.afs_history.specs.declared.lines.Outs.{Outs}
-use Rattle.afs_model.specs.Messages.{parcels_read, messages_spelled}
-use Rattle.afs_rows.specs.States.{CacheEntry, Gift}
-use Rattle.afs_rows.specs.Going as going
-use Rattle.afs_rows.specs.Going.{ClientState, Going, Need, Seek, next}
-use Rattle.afs_rows.specs.ClientRow.{Look, Walked, asking, call_by, callee_by, callee_of, calls_step, ends_step, stays, looked, dropped, drop_line, goes_by, goes_on, gives_by, boot_of, put_entries, seeks_step}
-use Rattle.afs_rows.specs.Steps.{Step}
+use Rattle.spec_history.specs.declared.lines.Line.{Line}
+use Rattle.spec_history.specs.declared.lines.Line.TheVariants as lines
+use Rattle.spec_history.specs.declared.lines.Outs.{Outs}
+use Rattle.spec_model.specs.Messages.{parcels_read, messages_spelled}
+use Rattle.spec_rows.specs.States.{CacheEntry, Gift}
+use Rattle.spec_rows.specs.Going as going
+use Rattle.spec_rows.specs.Going.{ClientState, Going, Need, Seek, next}
+use Rattle.spec_rows.specs.ClientRow.{Look, Walked, asking, call_by, callee_by, callee_of, calls_step, ends_step, not_walked, looked, dropped, drop_line, goes_by, goes_on, gives_by, boot_of, put_entries, seeks_step}
+use Rattle.spec_rows.specs.Steps.{Step}
 use Rattle.afs_entries.specs.Cached.{Kept, touched_all}
 use Rattle.afs_asking.specs.Asking.{Asking, code_of, is_giving, operand_of}
-use Rattle.afs_model.specs.Steps.{NodeState}
-use Rattle.afs_copyrows.specs.Sites.{as_it_is, calls_round, goes_round, left_line, seen_of, sited_in, unasked, with_client, CopyState, Round}
-use Rattle.afs_cache.specs.Managing.{Makes, placed}
+use Rattle.spec_model.specs.Steps.{NodeState}
+use Rattle.spec_copyrows.specs.Sites.{as_it_is, calls_round, goes_round, left_line, seen_of, sited_in, unasked, with_client, CopyState, Round}
+use Rattle.afs_cache.specs.Managing.{Makes, sent_to_site}
 use Rattle.afs_cache.specs.Acting.{called_by, sent_to, IsAsking, followed, outs_of, but_for, but_for_these, CanFollow, IsWay, PlansFor, PlansRound, over, round_at, sought, sought_from}
 use Rattle.afs_asking.specs.Looking.{HasWalked}
 use Rattle.afs_cache.specs.declared.acting.Asks.{Asks}
@@ -28,14 +28,14 @@ use Rattle.afs_cache.proofs.Placing.{calls_placed, rests_placed}
 use Rattle.afs_cache.specs.declared.acting.Plan.{Plan}
 use Rattle.afs_cache.specs.declared.acting.Plan.TheVariants as plans
 use Rattle.afs_cache.specs.declared.acting.Seeks.{Seeks}
-use Rattle.afs_history.specs.declared.acts.Operand.{Operand}
+use Rattle.spec_history.specs.declared.acts.Operand.{Operand}
 use Rattle.afs_num.specs.declared.types.Node.TheVariants as nodes
 
 -- ---- plans as such
 
 pub plans_same : (step other : ClientState → (List Line → List Line) → Step ClientState) (told : List Line) (n : NodeState CopyState) (plan : Plan) → ((d : ClientState) (front : List Line → List Line) → step d front ≡ other d front) → PlansFor step told n plan → PlansFor other told n plan
 plans_same step other told n plan same p cache busy moved first =
-    subst (λ (s : Step ClientState). Makes (placed n.node n.state s) (followed (but_for_these n.state cache busy moved) plan) (λ ls. first ++ ls) (outs_of plan)) (same (but_for n.state.client cache busy moved) (λ ls. first ++ (told ++ ls))) (p cache busy moved first)
+    subst (λ (s : Step ClientState). Makes (sent_to_site n.node n.state s) (followed (but_for_these n.state cache busy moved) plan) (λ ls. first ++ ls) (outs_of plan)) (same (but_for n.state.client cache busy moved) (λ ls. first ++ (told ++ ls))) (p cache busy moved first)
 
 -- what is planned was done
 pub done_as : (step : Step CopyState) (c d : CopyState) (plan : Plan) (new : CopyState) (outs : Outs) (front : List Line → List Line) → Makes step (followed d plan) front (outs_of plan) → new ≡ followed c plan → c ≡ d → outs ≡ outs_of plan → Makes step new front outs
@@ -177,7 +177,7 @@ plans_seeking n k told s e l m cache busy moved first =
 -- ---- an act goes on
 
 -- it is answered where it needs no more
-answers_as : (me : Node) (d : ClientState) (front : List Line → List Line) (act : Going) (code : Code) (need : Need) → Some code ≡ code_of need → ends_step me d d.cache front code ≡ goes_by me d front (stays act d.cache) need
+answers_as : (me : Node) (d : ClientState) (front : List Line → List Line) (act : Going) (code : Code) (need : Need) → Some code ≡ code_of need → ends_step me d d.cache front code ≡ goes_by me d front (not_walked act d.cache) need
 answers_as me d front act code (going.reads f) e = absurd cc
 answers_as me d front act code (going.reads_status f) e = absurd cc
 answers_as me d front act code (going.reads_statuses fs) e = absurd cc
@@ -189,11 +189,11 @@ answers_as me d front act code (going.answers n) e = let same : code ≡ record 
 
 -- it asks where a volume is
 seeks_as : (me : Node) (d : ClientState) (front : List Line → List Line) (act : Going) (o : Operand) (need : Need) → need ≡ going.locates o
-    → seeks_step me d (record { act = act; operand = o; left = None }) d.cache front ≡ goes_by me d front (stays act d.cache) need
-seeks_as me d front act o need e = ap (goes_by me d front (stays act d.cache)) (sym e)
+    → seeks_step me d (record { act = act; operand = o; left = None }) d.cache front ≡ goes_by me d front (not_walked act d.cache) need
+seeks_as me d front act o need e = ap (goes_by me d front (not_walked act d.cache)) (sym e)
 
 -- it calls
-calls_as : (me : Node) (d : ClientState) (front : List Line → List Line) (act : Going) (need : Need) → None ≡ code_of need → operand_of need ≡ None → calls_step me d act front ≡ goes_by me d front (stays act d.cache) need
+calls_as : (me : Node) (d : ClientState) (front : List Line → List Line) (act : Going) (need : Need) → None ≡ code_of need → operand_of need ≡ None → calls_step me d act front ≡ goes_by me d front (not_walked act d.cache) need
 calls_as me d front act (going.reads f) e n = refl
 calls_as me d front act (going.reads_status f) e n = refl
 calls_as me d front act (going.reads_statuses fs) e n = refl
@@ -203,22 +203,22 @@ calls_as me d front act going.gives_back e n = refl
 calls_as me d front act (going.locates o) e n = absurd cc
 calls_as me d front act (going.answers n) e m = absurd cc
 
-pub plans_answer : {E : Type 0} (n : NodeState CopyState) (act : Going) (told : List Line) (code : Code) (r : Result Plan E) → Some code ≡ code_of (next act) → IfOk r (λ p. PlansFor (λ d front. ends_step n.node d d.cache front code) told n p) → IfOk r (λ p. PlansFor (λ d front. goes_on n.node d front (stays act d.cache)) told n p)
+pub plans_answer : {E : Type 0} (n : NodeState CopyState) (act : Going) (told : List Line) (code : Code) (r : Result Plan E) → Some code ≡ code_of (next act) → IfOk r (λ p. PlansFor (λ d front. ends_step n.node d d.cache front code) told n p) → IfOk r (λ p. PlansFor (λ d front. goes_on n.node d front (not_walked act d.cache)) told n p)
 plans_answer n act told code r e h =
-    if_ok (λ p. PlansFor (λ d front. ends_step n.node d d.cache front code) told n p) (λ p. PlansFor (λ d front. goes_on n.node d front (stays act d.cache)) told n p) r
-    (λ p. plans_same (λ d front. ends_step n.node d d.cache front code) (λ d front. goes_on n.node d front (stays act d.cache)) told n p (λ d front. answers_as n.node d front act code (next act) e)) h
+    if_ok (λ p. PlansFor (λ d front. ends_step n.node d d.cache front code) told n p) (λ p. PlansFor (λ d front. goes_on n.node d front (not_walked act d.cache)) told n p) r
+    (λ p. plans_same (λ d front. ends_step n.node d d.cache front code) (λ d front. goes_on n.node d front (not_walked act d.cache)) told n p (λ d front. answers_as n.node d front act code (next act) e)) h
 
 pub plans_question : {E : Type 0} (n : NodeState CopyState) (act : Going) (o : Operand) (told : List Line) (r : Result Plan E) → next act ≡ going.locates o
-    → IfOk r (λ p. PlansFor (λ d front. seeks_step n.node d (record { act = act; operand = o; left = None }) d.cache front) told n p) → IfOk r (λ p. PlansFor (λ d front. goes_on n.node d front (stays act d.cache)) told n p)
+    → IfOk r (λ p. PlansFor (λ d front. seeks_step n.node d (record { act = act; operand = o; left = None }) d.cache front) told n p) → IfOk r (λ p. PlansFor (λ d front. goes_on n.node d front (not_walked act d.cache)) told n p)
 plans_question n act o told r e h =
-    if_ok (λ p. PlansFor (λ d front. seeks_step n.node d (record { act = act; operand = o; left = None }) d.cache front) told n p) (λ p. PlansFor (λ d front. goes_on n.node d front (stays act d.cache)) told n p) r
-    (λ p. plans_same (λ d front. seeks_step n.node d (record { act = act; operand = o; left = None }) d.cache front) (λ d front. goes_on n.node d front (stays act d.cache)) told n p (λ d front. seeks_as n.node d front act o (next act) e)) h
+    if_ok (λ p. PlansFor (λ d front. seeks_step n.node d (record { act = act; operand = o; left = None }) d.cache front) told n p) (λ p. PlansFor (λ d front. goes_on n.node d front (not_walked act d.cache)) told n p) r
+    (λ p. plans_same (λ d front. seeks_step n.node d (record { act = act; operand = o; left = None }) d.cache front) (λ d front. goes_on n.node d front (not_walked act d.cache)) told n p (λ d front. seeks_as n.node d front act o (next act) e)) h
 
 pub plans_call : {E : Type 0} (n : NodeState CopyState) (act : Going) (told : List Line) (r : Result Plan E) → None ≡ code_of (next act) → operand_of (next act) ≡ None
-    → IfOk r (λ p. PlansFor (λ d front. calls_step n.node (record d { gifts = n.state.client.gifts }) act front) told n p) → IfOk r (λ p. PlansFor (λ d front. goes_on n.node d front (stays act d.cache)) told n p)
+    → IfOk r (λ p. PlansFor (λ d front. calls_step n.node (record d { gifts = n.state.client.gifts }) act front) told n p) → IfOk r (λ p. PlansFor (λ d front. goes_on n.node d front (not_walked act d.cache)) told n p)
 plans_call n act told r e o h =
-    if_ok (λ p. PlansFor (λ d front. calls_step n.node (record d { gifts = n.state.client.gifts }) act front) told n p) (λ p. PlansFor (λ d front. goes_on n.node d front (stays act d.cache)) told n p) r
-    (λ p q cache busy moved first. subst (λ (s : Step ClientState). Makes (placed n.node n.state s) (followed (but_for_these n.state cache busy moved) p) (λ ls. first ++ ls) (outs_of p)) (calls_as n.node (but_for n.state.client cache busy moved) (λ ls. first ++ (told ++ ls)) act (next act) e o) (q cache busy moved first)) h
+    if_ok (λ p. PlansFor (λ d front. calls_step n.node (record d { gifts = n.state.client.gifts }) act front) told n p) (λ p. PlansFor (λ d front. goes_on n.node d front (not_walked act d.cache)) told n p) r
+    (λ p q cache busy moved first. subst (λ (s : Step ClientState). Makes (sent_to_site n.node n.state s) (followed (but_for_these n.state cache busy moved) p) (λ ls. first ++ ls) (outs_of p)) (calls_as n.node (but_for n.state.client cache busy moved) (λ ls. first ++ (told ++ ls)) act (next act) e o) (q cache busy moved first)) h
 
 -- it is the same call, with the gifts that there are
 pub plans_gifts : {E : Type 0} (n : NodeState CopyState) (act : Going) (told : List Line) (gifts others : List Gift) (r : Result Plan E) → gifts ≡ others → IfOk r (λ p. PlansFor (λ d front. calls_step n.node (record d { gifts = gifts }) act front) told n p) → IfOk r (λ p. PlansFor (λ d front. calls_step n.node (record d { gifts = others }) act front) told n p)
@@ -271,7 +271,7 @@ calls_looked me d act xs ys e = ap (λ (zs : List Line). calls_step me d act (λ
 seeks_looked : (me : Node) (d : ClientState) (k : Seek) (cache : List CacheEntry) (xs ys : List Line) → xs ≡ ys → seeks_step me d k cache (λ ls. xs) ≡ seeks_step me d k cache (λ ls. ys)
 seeks_looked me d k cache xs ys e = ap (λ (zs : List Line). seeks_step me d k cache (λ ls. zs)) e
 
-looks_by : (me : Node) (d : ClientState) (w : Walked) (told first : List Line) (need : Need) → goes_by me d (λ ls. first ++ ((told ++ looked me w.looks []) ++ ls)) (stays w.act d.cache) need ≡ goes_by me d (λ ls. first ++ (told ++ ls)) (over w d.cache) need
+looks_by : (me : Node) (d : ClientState) (w : Walked) (told first : List Line) (need : Need) → goes_by me d (λ ls. first ++ ((told ++ looked me w.looks []) ++ ls)) (not_walked w.act d.cache) need ≡ goes_by me d (λ ls. first ++ (told ++ ls)) (over w d.cache) need
 looks_by me d w told first (going.reads f) = calls_looked me d w.act _ _ (looked_behind me first told [] w.looks)
 looks_by me d w told first (going.reads_status f) = calls_looked me d w.act _ _ (looked_behind me first told [] w.looks)
 looks_by me d w told first (going.reads_statuses fs) = calls_looked me d w.act _ _ (looked_behind me first told [] w.looks)
@@ -281,9 +281,9 @@ looks_by me d w told first going.gives_back = calls_looked me d w.act _ _ (looke
 looks_by me d w told first (going.locates o) = seeks_looked me d (record { act = w.act; operand = o; left = None }) d.cache _ _ (looked_behind me first told [] w.looks)
 looks_by me d w told first (going.answers n) = ends_looked me d d.cache (record { 0 = pos n }) _ _ (looked_behind me first told (lines.Answer me (record { 0 = pos n }) ∷ []) w.looks)
 
-pub plans_looked : (n : NodeState CopyState) (w : Walked) (told : List Line) (plan : Plan) → PlansFor (λ d front. goes_on n.node d front (stays w.act d.cache)) (told ++ looked n.node w.looks []) n plan → PlansFor (λ d front. goes_on n.node d front (over w d.cache)) told n plan
+pub plans_looked : (n : NodeState CopyState) (w : Walked) (told : List Line) (plan : Plan) → PlansFor (λ d front. goes_on n.node d front (not_walked w.act d.cache)) (told ++ looked n.node w.looks []) n plan → PlansFor (λ d front. goes_on n.node d front (over w d.cache)) told n plan
 plans_looked n w told plan p cache busy moved first =
-    subst (λ (s : Step ClientState). Makes (placed n.node n.state s) (followed (but_for_these n.state cache busy moved) plan) (λ ls. first ++ ls) (outs_of plan)) (looks_by n.node (but_for n.state.client cache busy moved) w told first (next w.act)) (p cache busy moved first)
+    subst (λ (s : Step ClientState). Makes (sent_to_site n.node n.state s) (followed (but_for_these n.state cache busy moved) plan) (λ ls. first ++ ls) (outs_of plan)) (looks_by n.node (but_for n.state.client cache busy moved) w told first (next w.act)) (p cache busy moved first)
 
 -- a step sets the cache that the walk leaves, whatever it was before
 goes_over : (me : Node) (c : ClientState) (cache : List CacheEntry) (busy moved : ℕ) (front : List Line → List Line) (w : Walked) (need : Need) → goes_by me (but_for c cache busy moved) front w need ≡ goes_by me (record c { busy = busy; moved = moved }) front w need
@@ -300,12 +300,12 @@ pub goes_in : (me : Node) (c : ClientState) (cache : List CacheEntry) (busy move
 goes_in me c cache busy moved front w = goes_over me c cache busy moved front w (next w.act)
 
 pub way_planned : (n : NodeState CopyState) (whole : Walked) (entries : List CacheEntry) (told ls : List Line) (w : program.Walked) (plan : Plan) → HasWalked n.node entries whole told w ls
-    → PlansFor (λ d front. goes_on n.node d front (stays w.going d.cache)) ls n plan → CanFollow n.state.client.last plan → IsWay n whole entries told (record { used = w.used; plan = plan })
+    → PlansFor (λ d front. goes_on n.node d front (not_walked w.going d.cache)) ls n plan → CanFollow n.state.client.last plan → IsWay n whole entries told (record { used = w.used; plan = plan })
 way_planned n whole entries told ls w plan h p f =
-    let there : PlansFor (λ d front. goes_on n.node d front (stays whole.act d.cache)) ls n plan = subst (λ (g : Going). PlansFor (λ d front. goes_on n.node d front (stays g d.cache)) ls n plan) h.act p in
+    let there : PlansFor (λ d front. goes_on n.node d front (not_walked whole.act d.cache)) ls n plan = subst (λ (g : Going). PlansFor (λ d front. goes_on n.node d front (not_walked g d.cache)) ls n plan) h.act p in
     record {
       used = h.cache;
-      plan = plans_looked n whole told plan (subst (λ (x : List Line). PlansFor (λ d front. goes_on n.node d front (stays whole.act d.cache)) x n plan) h.told there);
+      plan = plans_looked n whole told plan (subst (λ (x : List Line). PlansFor (λ d front. goes_on n.node d front (not_walked whole.act d.cache)) x n plan) h.told there);
       follows = f;
     }
 
@@ -313,20 +313,20 @@ way_planned n whole entries told ls w plan h p f =
 
 pub plan_goes : (step : ClientState → (List Line → List Line) → Step ClientState) (other : (List Line → List Line) → Step ClientState) (told : List Line) (plan : Plan) (old new : NodeState CopyState) (outs : Outs) (cache : List CacheEntry) (busy moved : ℕ)
     → PlansFor step told old plan → new.node ≡ old.node → new.state ≡ followed (but_for_these old.state cache busy moved) plan → outs ≡ outs_of plan → ((front : List Line → List Line) → step (but_for old.state.client cache busy moved) front ≡ other front)
-    → (new.node ≡ old.node) × ((first : List Line) → Makes (placed old.node old.state (other (λ ls. first ++ (told ++ ls)))) new.state (λ ls. first ++ ls) outs)
+    → (new.node ≡ old.node) × ((first : List Line) → Makes (sent_to_site old.node old.state (other (λ ls. first ++ (told ++ ls)))) new.state (λ ls. first ++ ls) outs)
 plan_goes step other told plan old new outs cache busy moved p n s o same = (
   n,
-  λ first. subst (λ (x : Step ClientState). Makes (placed old.node old.state x) new.state (λ ls. first ++ ls) outs) (same (λ ls. first ++ (told ++ ls)))
-      (done_as (placed old.node old.state (step (but_for old.state.client cache busy moved) (λ ls. first ++ (told ++ ls)))) (but_for_these old.state cache busy moved) (but_for_these old.state cache busy moved) plan new.state outs (λ ls. first ++ ls) (p cache busy moved first) s refl o),
+  λ first. subst (λ (x : Step ClientState). Makes (sent_to_site old.node old.state x) new.state (λ ls. first ++ ls) outs) (same (λ ls. first ++ (told ++ ls)))
+      (done_as (sent_to_site old.node old.state (step (but_for old.state.client cache busy moved) (λ ls. first ++ (told ++ ls)))) (but_for_these old.state cache busy moved) (but_for_these old.state cache busy moved) plan new.state outs (λ ls. first ++ ls) (p cache busy moved first) s refl o),
 )
 
 pub plan_taken : (step : ClientState → (List Line → List Line) → Step ClientState) (other : ℕ → Step ClientState) (told : List Line) (plan : Plan) (old new : NodeState CopyState) (outs : Outs) (cache : List CacheEntry) (busy moved : ℕ)
     → PlansFor step told old plan → new.node ≡ old.node → new.state ≡ followed (but_for_these old.state cache busy moved) plan → outs ≡ outs_of plan → ((place : ℕ) → step (but_for old.state.client cache busy moved) (λ ls. lines.Given place ∷ (told ++ ls)) ≡ other place)
-    → (new.node ≡ old.node) × ((place : ℕ) → Makes (placed old.node old.state (other place)) new.state (λ ls. lines.Given place ∷ ls) outs)
+    → (new.node ≡ old.node) × ((place : ℕ) → Makes (sent_to_site old.node old.state (other place)) new.state (λ ls. lines.Given place ∷ ls) outs)
 plan_taken step other told plan old new outs cache busy moved p n s o same = (
   n,
-  λ place. subst (λ (x : Step ClientState). Makes (placed old.node old.state x) new.state (λ ls. lines.Given place ∷ ls) outs) (same place)
-      (done_as (placed old.node old.state (step (but_for old.state.client cache busy moved) (λ ls. lines.Given place ∷ (told ++ ls)))) (but_for_these old.state cache busy moved) (but_for_these old.state cache busy moved) plan new.state outs (λ ls. lines.Given place ∷ ls) (p cache busy moved (lines.Given place ∷ [])) s refl o),
+  λ place. subst (λ (x : Step ClientState). Makes (sent_to_site old.node old.state x) new.state (λ ls. lines.Given place ∷ ls) outs) (same place)
+      (done_as (sent_to_site old.node old.state (step (but_for old.state.client cache busy moved) (λ ls. lines.Given place ∷ (told ++ ls)))) (but_for_these old.state cache busy moved) (but_for_these old.state cache busy moved) plan new.state outs (λ ls. lines.Given place ∷ ls) (p cache busy moved (lines.Given place ∷ [])) s refl o),
 )
 
 -- a plan in a round was followed

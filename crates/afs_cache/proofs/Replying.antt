@@ -3,8 +3,8 @@ use Rattle.std.proofs.Common.{◌≡◌, ℕ, Bool, true, false, cond, not, List
 use Rattle.std.proofs.Common.{◌&&◌, ◌+◌}
 use Rattle.std.specs.Prelude.{nat_lt}
 use Rattle.std.specs.List.{list_any}
-use Rattle.afs_ideal.specs.Operations.{volume_changed}
-use Rattle.afs_model.specs.Messages.{messages_spelled, parcels_read}
+use Rattle.spec_ideal.specs.Operations.{volume_changed}
+use Rattle.spec_model.specs.Messages.{messages_spelled, parcels_read}
 use Rattle.afs_num.specs.declared.types.Code.{Code}
 use Rattle.afs_num.specs.declared.types.Fid.{Fid}
 use Rattle.afs_num.specs.declared.types.Head.{Head}
@@ -27,16 +27,16 @@ use Rattle.afs_num.specs.declared.calls.FsCall.TheVariants as calls
 use Rattle.afs_num.specs.declared.histories.ReadBody.{ReadBody}
 use Rattle.afs_num.specs.declared.histories.ReadBody.TheVariants as seen
 use Rattle.afs_num.specs.declared.histories.ReadSource.TheVariants.{Fetched}
-use Rattle.afs_history.specs.declared.lines.Line.{Line}
-use Rattle.afs_history.specs.declared.lines.Line.TheVariants as lines
-use Rattle.afs_history.specs.declared.lines.Outs.{Outs}
-use Rattle.afs_model.specs.Steps.{NodeState}
-use Rattle.afs_rows.specs.States.{CacheEntry, Gift}
-use Rattle.afs_rows.specs.Going as going
-use Rattle.afs_rows.specs.Going.{ClientState, Going, Need, next, with_read}
-use Rattle.afs_rows.specs.ClientRow.{answers_step, awaits, behind_batch, body_told, booted, call_by, call_of, calls_again, calls_step, counts, dead_code, dropped, ends_step, entries_told, entry_told, given, gives_by, gives_up, goes_on, guest_row, ignores, is_awaited, is_busy_code, is_older, is_spent, is_trusted, left_in, Look, look_at, looked, most_busy, most_reads, put_entries, put_entry, read_lines, refreshed, refuses, refuses_for_good, resends_step, status_look, status_told, stays, takes, takes_bulk, takes_bytes, takes_data, takes_entries, takes_entry, takes_given, takes_in, takes_list, takes_plain, takes_rights, takes_set, takes_shown, takes_stored, timeout_line, tries_again, Walked, walked, walks_on, with_statuses, zero_code, goes_by}
-use Rattle.afs_rows.specs.Steps.{Step}
-use Rattle.afs_rows.specs.Scopes.{is_in_scope}
+use Rattle.spec_history.specs.declared.lines.Line.{Line}
+use Rattle.spec_history.specs.declared.lines.Line.TheVariants as lines
+use Rattle.spec_history.specs.declared.lines.Outs.{Outs}
+use Rattle.spec_model.specs.Steps.{NodeState}
+use Rattle.spec_rows.specs.States.{CacheEntry, Gift}
+use Rattle.spec_rows.specs.Going as going
+use Rattle.spec_rows.specs.Going.{ClientState, Going, Need, next, with_read}
+use Rattle.spec_rows.specs.ClientRow.{answers_step, awaits, behind_batch, body_told, knows_boot, call_by, call_of, calls_again, calls_step, counts, dead_code, dropped, ends_step, entries_told, cache_entry_told, with_given, gives_by, gives_up, goes_on, guest_row, ignores, is_awaited, is_busy_code, is_older, is_spent, is_trusted, left_in, Look, look_at, looked, most_busy, most_reads, put_entries, put_entry, read_lines, refreshed, refuses, refuses_for_good, resends_step, status_look, status_told, not_walked, takes, takes_bulk, takes_bytes, takes_data, takes_entries, takes_entry, takes_given, takes_in, takes_list, takes_plain, takes_rights, takes_set, takes_shown, takes_stored, timeout_line, tries_again, Walked, walked, walks_on, with_statuses, zero_code, goes_by}
+use Rattle.spec_rows.specs.Steps.{Step}
+use Rattle.spec_rows.specs.Scopes.{may_change}
 use Rattle.afs_acts.specs.Needs.{NeedsNoEntry}
 use Rattle.afs_acts.proofs.Staying.{rights_rest, status_rests, statuses_rest, walked_stays}
 use Rattle.afs_entries.specs.Cached.{drops_of, left}
@@ -44,7 +44,7 @@ use Rattle.afs_entries.specs.declared.drops.Drops.{Drops}
 use Rattle.afs_asking.specs.Asking.{Asking, asking_of, gifts_of, running_of}
 use Rattle.afs_cache.specs.Acting.{but_for, changed_in, sent_to}
 use Rattle.std.specs.declared.alloc.AllocError.{AllocError}
-use Rattle.afs_copyrows.specs.Sites.{as_it_is, with_client, CopyState}
+use Rattle.spec_copyrows.specs.Sites.{as_it_is, with_client, CopyState}
 use Rattle.afs_cache.proofs.Placing.{still_taken, stills_answered, stills_same, told_none}
 use Rattle.afs_cache.specs.Managing.{AnswersStill, by_act, by_call, given_up, Makes, rests, spent_by, Takes, TakesStill, telling}
 use Rattle.afs_cache.specs.Wanted.{awaited_by, body_wanted, bytes_stored, call_asked, counts_reply, holds_of, is_gift, rights_wanted, shows_rights, shows_status, shows_statuses, status_wanted, statuses_wanted, takes_fields, wanted_of}
@@ -116,11 +116,11 @@ again_as me c place a told e =
     ap (λ (gs : List Gift). calls_step me (record c { gifts = gs }) a.going (λ ls. lines.Given place ∷ (told ++ ls))) (gifts_is c.running c.gifts a e) ∙ ap (telling told) (with_act c place a (calls_again me c place) e)
 
 -- the act is answered
-pub ends_alone : (me : Node) (c : ClientState) (cache : List CacheEntry) (place : ℕ) (told : List Line) (code : Code) → told ≡ [] → ends_step me c cache (λ ls. lines.Given place ∷ (told ++ ls)) code ≡ ends_step me c cache (given place) code
+pub ends_alone : (me : Node) (c : ClientState) (cache : List CacheEntry) (place : ℕ) (told : List Line) (code : Code) → told ≡ [] → ends_step me c cache (λ ls. lines.Given place ∷ (told ++ ls)) code ≡ ends_step me c cache (with_given place) code
 ends_alone me c cache place told code t = ap (λ (xs : List Line). ends_step me c cache (λ ls. lines.Given place ∷ (xs ++ ls)) code) t
 
 -- the next promises are given back
-pub gives_alone : (me : Node) (c : ClientState) (place : ℕ) (act : Going) (gifts : List Gift) (told : List Line) → told ≡ [] → gives_by me c (λ ls. lines.Given place ∷ (told ++ ls)) act gifts ≡ gives_by me c (given place) act gifts
+pub gives_alone : (me : Node) (c : ClientState) (place : ℕ) (act : Going) (gifts : List Gift) (told : List Line) → told ≡ [] → gives_by me c (λ ls. lines.Given place ∷ (told ++ ls)) act gifts ≡ gives_by me c (with_given place) act gifts
 gives_alone me c place act gifts told t = ap (λ (xs : List Line). gives_by me c (λ ls. lines.Given place ∷ (xs ++ ls)) act gifts) t
 
 pub each_act : (c : ClientState) (place : ℕ) (step other : Going → Step ClientState) (running : Option Going) → ((act : Going) → step act ≡ other act) → by_act c place step running ≡ by_act c place other running
@@ -149,7 +149,7 @@ holds_as b f c place step other (Some act) e h = h act e
 abbrev data_by : Node → ClientState → ℕ → ℕ → Going → List ℕ → AfsFetchStatus → AfsCallBack → AfsVolSync → FsCall → Option Fid → Step ClientState
 data_by me c clock place act contents status callback sync call None = takes_plain me c place call
 data_by me c clock place act contents status callback sync call (Some fid) =
-    takes_entry me c clock place act (entry_told c.callee fid status callback sync (Some (body_told status.file_type contents))) (seen.Contents (body_told status.file_type contents))
+    takes_entry me c clock place act (cache_entry_told c.callee fid status callback sync (Some (body_told status.file_type contents))) (seen.Contents (body_told status.file_type contents))
 
 data_table : (me : Node) (c : ClientState) (clock place : ℕ) (act : Going) (contents : List ℕ) (status : AfsFetchStatus) (callback : AfsCallBack) (sync : AfsVolSync) (call : FsCall) → data_by me c clock place act contents status callback sync call (body_wanted call) ≡ takes_data me c clock place act contents status callback sync call
 data_table me c clock place act contents status callback sync (calls.FetchData qf qp qn) = refl
@@ -180,7 +180,7 @@ data_as me c clock place act contents status callback sync call o e = ap (data_b
 -- ---- promises are given back
 
 abbrev given_by : Node → ClientState → ℕ → Going → FsCall → Bool → Step ClientState
-given_by me c place act call true = gives_by me c (given place) act (behind_batch c.gifts)
+given_by me c place act call true = gives_by me c (with_given place) act (behind_batch c.gifts)
 given_by me c place act call false = takes_plain me c place call
 
 given_table : (me : Node) (c : ClientState) (place : ℕ) (act : Going) (call : FsCall) → given_by me c place act call (is_gift call) ≡ takes_given me c place act call
@@ -236,7 +236,7 @@ is_status (calls.CallBack qfs qcs) x e = absurd cc
 is_status calls.InitCallBackState x e = absurd cc
 is_status calls.Probe x e = absurd cc
 
-walks_rested : (me : Node) (c : ClientState) (clock : ℕ) (front : List Line → List Line) (act : Going) (cache : List CacheEntry) → NeedsNoEntry (next act) → goes_on me c front (stays act cache) ≡ walks_on me c clock front act cache
+walks_rested : (me : Node) (c : ClientState) (clock : ℕ) (front : List Line → List Line) (act : Going) (cache : List CacheEntry) → NeedsNoEntry (next act) → goes_on me c front (not_walked act cache) ≡ walks_on me c clock front act cache
 walks_rested me c clock front act cache h = ap (goes_on me c front) (sym (walked_stays (most_reads act) clock act cache h))
 
 if_trusted : (b : Bool) (x y z : Step ClientState) → x ≡ y → cond b x z ≡ cond b y z
@@ -248,7 +248,7 @@ shown_as me c clock place act entry h =
 
 abbrev shown_by : Node → ClientState → ℕ → ℕ → Going → AfsFetchStatus → AfsCallBack → AfsVolSync → FsCall → Option Fid → Step ClientState
 shown_by me c clock place act status callback sync call None = takes_plain me c place call
-shown_by me c clock place act status callback sync call (Some fid) = takes_entry me c clock place act (entry_told c.callee fid status callback sync None) (seen.Status (status_told status))
+shown_by me c clock place act status callback sync call (Some fid) = takes_entry me c clock place act (cache_entry_told c.callee fid status callback sync None) (seen.Status (status_told status))
 
 shown_table : (me : Node) (c : ClientState) (clock place : ℕ) (act : Going) (status : AfsFetchStatus) (callback : AfsCallBack) (sync : AfsVolSync) (call : FsCall) → shown_by me c clock place act status callback sync call (status_wanted call) ≡ takes_shown me c clock place act status callback sync call
 shown_table me c clock place act status callback sync (calls.FetchData qf qp qn) = refl
@@ -273,9 +273,9 @@ shown_table me c clock place act status callback sync calls.InitCallBackState = 
 shown_table me c clock place act status callback sync calls.Probe = refl
 
 pub status_as : (me : Node) (c : ClientState) (clock place : ℕ) (act : Going) (status : AfsFetchStatus) (callback : AfsCallBack) (sync : AfsVolSync) (fid : Fid) → Some fid ≡ status_wanted (call_of c act)
-    → shows_status me c clock place act (entry_told c.callee fid status callback sync None) ≡ takes_shown me c clock place act status callback sync (call_of c act)
+    → shows_status me c clock place act (cache_entry_told c.callee fid status callback sync None) ≡ takes_shown me c clock place act status callback sync (call_of c act)
 status_as me c clock place act status callback sync fid e =
-    shown_as me c clock place act (entry_told c.callee fid status callback sync None) (status_rests c.gifts fid (status_told status) act (is_status (call_of c act) fid e))
+    shown_as me c clock place act (cache_entry_told c.callee fid status callback sync None) (status_rests c.gifts fid (status_told status) act (is_status (call_of c act) fid e))
     ∙ (ap (shown_by me c clock place act status callback sync (call_of c act)) e ∙ shown_table me c clock place act status callback sync (call_of c act))
 
 pub status_none : (me : Node) (c : ClientState) (clock place : ℕ) (act : Going) (status : AfsFetchStatus) (callback : AfsCallBack) (sync : AfsVolSync) (call : FsCall) → None ≡ status_wanted call → takes_plain me c place call ≡ takes_shown me c clock place act status callback sync call
@@ -312,7 +312,7 @@ is_bulk calls.Probe x e = absurd cc
 all_as : (me : Node) (c : ClientState) (clock place : ℕ) (act : Going) (entries : List CacheEntry) → NeedsNoEntry (next (with_statuses entries act)) → shows_statuses me c clock place act entries ≡ takes_entries me c clock place act entries
 all_as me c clock place act entries h =
     ap (λ (s : Step ClientState). cond (list_any (λ (e : CacheEntry). not (is_trusted clock e)) entries) (calls_again me c place act) s)
-    (walks_rested me c clock (λ ls. given place (looked me (map status_look entries) ls)) (with_statuses entries act) (put_entries c.capacity entries c.cache) h)
+    (walks_rested me c clock (λ ls. with_given place (looked me (map status_look entries) ls)) (with_statuses entries act) (put_entries c.capacity entries c.cache) h)
 
 abbrev bulk_by : Node → ClientState → ℕ → ℕ → Going → List AfsFetchStatus → List AfsCallBack → AfsVolSync → FsCall → Option (List Fid) → Step ClientState
 bulk_by me c clock place act statuses callbacks sync call None = takes_plain me c place call
@@ -451,7 +451,7 @@ pub all_spent : {E : Type 0} (me : Node) (c : ClientState) (clock : ℕ) (all : 
 all_spent me c clock all told old new r e t =
     takes_same (λ place. telling told (by_act c place (calls_again me c place) c.running)) (λ place. telling told (by_act c place (λ act. shows_statuses me c clock place act all) c.running)) old new r
     (λ place. ap (telling told) (each_act c place (calls_again me c place) (λ act. shows_statuses me c clock place act all) c.running
-    (λ act. chosen_then (list_any (λ (e : CacheEntry). not (is_trusted clock e)) all) (calls_again me c place act) (goes_on me c (λ ls. given place (looked me (map status_look all) ls)) (stays (with_statuses all act) (put_entries c.capacity all c.cache))) e))) t
+    (λ act. chosen_then (list_any (λ (e : CacheEntry). not (is_trusted clock e)) all) (calls_again me c place act) (goes_on me c (λ ls. with_given place (looked me (map status_look all) ls)) (not_walked (with_statuses all act) (put_entries c.capacity all c.cache))) e))) t
 
 -- lines that were told before stand behind the one that names the message
 goes_telling_by : (me : Node) (c : ClientState) (place : ℕ) (told : List Line) (f : List Line → List Line) (w : Walked) (need : Need) → goes_by me c (λ ls. lines.Given place ∷ (told ++ f ls)) w need ≡ telling told (goes_by me c (λ ls. lines.Given place ∷ f ls) w need)
@@ -486,15 +486,15 @@ entry_taken me c clock place a before told going entry entries shown body run sa
 -- a status that can be used
 pub status_taken : (me : Node) (c : ClientState) (clock place : ℕ) (a : Asking) (before told : List Line) (going : Going) (all : List CacheEntry) (entry : CacheEntry) → Some a ≡ asking_of c.running c.gifts → told ≡ before ++ lines.Read me entry.fid entry.index Fetched (seen.Status entry.status) ∷ []
     → going ≡ with_read entry.fid (seen.Status entry.status) a.going → all ≡ entry ∷ [] → true ≡ is_trusted clock entry
-    → goes_on me c (λ ls. lines.Given place ∷ (told ++ ls)) (stays going (put_entries c.capacity all c.cache)) ≡ telling before (by_act c place (λ act. shows_status me c clock place act entry) c.running)
+    → goes_on me c (λ ls. lines.Given place ∷ (told ++ ls)) (not_walked going (put_entries c.capacity all c.cache)) ≡ telling before (by_act c place (λ act. shows_status me c clock place act entry) c.running)
 status_taken me c clock place a before told going all entry run t g e b =
-    goes_front me c (λ ls. lines.Given place ∷ (told ++ ls)) (λ ls. lines.Given place ∷ (before ++ (lines.Read me entry.fid entry.index Fetched (seen.Status entry.status) ∷ ls))) (stays going (put_entries c.capacity all c.cache))
+    goes_front me c (λ ls. lines.Given place ∷ (told ++ ls)) (λ ls. lines.Given place ∷ (before ++ (lines.Read me entry.fid entry.index Fetched (seen.Status entry.status) ∷ ls))) (not_walked going (put_entries c.capacity all c.cache))
     (λ ls. read_behind place told before (lines.Read me entry.fid entry.index Fetched (seen.Status entry.status) ∷ []) ls t)
-    ∙ (goes_telling me c place before (λ ls. lines.Read me entry.fid entry.index Fetched (seen.Status entry.status) ∷ ls) (stays going (put_entries c.capacity all c.cache))
+    ∙ (goes_telling me c place before (λ ls. lines.Read me entry.fid entry.index Fetched (seen.Status entry.status) ∷ ls) (not_walked going (put_entries c.capacity all c.cache))
     ∙ ap (telling before)
-    (ap (λ (x : Going). goes_on me c (read_lines me place (look_at Fetched entry (seen.Status entry.status))) (stays x (put_entries c.capacity all c.cache))) g
-    ∙ (ap (λ (es : List CacheEntry). goes_on me c (read_lines me place (look_at Fetched entry (seen.Status entry.status))) (stays (with_read entry.fid (seen.Status entry.status) a.going) (put_entries c.capacity es c.cache))) e
-    ∙ (chosen_then (is_trusted clock entry) (goes_on me c (read_lines me place (look_at Fetched entry (seen.Status entry.status))) (stays (with_read entry.fid (seen.Status entry.status) a.going) (put_entry c.capacity entry c.cache))) (calls_again me c place a.going) b
+    (ap (λ (x : Going). goes_on me c (read_lines me place (look_at Fetched entry (seen.Status entry.status))) (not_walked x (put_entries c.capacity all c.cache))) g
+    ∙ (ap (λ (es : List CacheEntry). goes_on me c (read_lines me place (look_at Fetched entry (seen.Status entry.status))) (not_walked (with_read entry.fid (seen.Status entry.status) a.going) (put_entries c.capacity es c.cache))) e
+    ∙ (chosen_then (is_trusted clock entry) (goes_on me c (read_lines me place (look_at Fetched entry (seen.Status entry.status))) (not_walked (with_read entry.fid (seen.Status entry.status) a.going) (put_entry c.capacity entry c.cache))) (calls_again me c place a.going) b
     ∙ with_act c place a (λ act. shows_status me c clock place act entry) run))))
 
 -- what is read of statuses is read by the same act
@@ -507,42 +507,42 @@ looked_told me looks rest = sym (looked_front me looks rest)
 
 -- statuses that can be used
 pub statuses_taken : (me : Node) (c : ClientState) (clock place : ℕ) (a : Asking) (before told : List Line) (going : Going) (all : List CacheEntry) → Some a ≡ asking_of c.running c.gifts → told ≡ before ++ looked me (map status_look all) [] → going ≡ with_statuses all a.going
-    → false ≡ list_any (λ (e : CacheEntry). not (is_trusted clock e)) all → goes_on me c (λ ls. lines.Given place ∷ (told ++ ls)) (stays going (put_entries c.capacity all c.cache)) ≡ telling before (by_act c place (λ act. shows_statuses me c clock place act all) c.running)
+    → false ≡ list_any (λ (e : CacheEntry). not (is_trusted clock e)) all → goes_on me c (λ ls. lines.Given place ∷ (told ++ ls)) (not_walked going (put_entries c.capacity all c.cache)) ≡ telling before (by_act c place (λ act. shows_statuses me c clock place act all) c.running)
 statuses_taken me c clock place a before told going all run t g b =
-    goes_front me c (λ ls. lines.Given place ∷ (told ++ ls)) (λ ls. lines.Given place ∷ (before ++ looked me (map status_look all) ls)) (stays going (put_entries c.capacity all c.cache))
+    goes_front me c (λ ls. lines.Given place ∷ (told ++ ls)) (λ ls. lines.Given place ∷ (before ++ looked me (map status_look all) ls)) (not_walked going (put_entries c.capacity all c.cache))
     (λ ls. read_behind place told before (looked me (map status_look all) []) ls t ∙ ap (λ (xs : List Line). lines.Given place ∷ (before ++ xs)) (looked_told me (map status_look all) ls))
-    ∙ (goes_telling me c place before (λ ls. looked me (map status_look all) ls) (stays going (put_entries c.capacity all c.cache))
+    ∙ (goes_telling me c place before (λ ls. looked me (map status_look all) ls) (not_walked going (put_entries c.capacity all c.cache))
     ∙ ap (telling before)
-    (ap (λ (x : Going). goes_on me c (λ ls. given place (looked me (map status_look all) ls)) (stays x (put_entries c.capacity all c.cache))) g
-    ∙ (chosen_else (list_any (λ (e : CacheEntry). not (is_trusted clock e)) all) (calls_again me c place a.going) (goes_on me c (λ ls. given place (looked me (map status_look all) ls)) (stays (with_statuses all a.going) (put_entries c.capacity all c.cache))) b
+    (ap (λ (x : Going). goes_on me c (λ ls. with_given place (looked me (map status_look all) ls)) (not_walked x (put_entries c.capacity all c.cache))) g
+    ∙ (chosen_else (list_any (λ (e : CacheEntry). not (is_trusted clock e)) all) (calls_again me c place a.going) (goes_on me c (λ ls. with_given place (looked me (map status_look all) ls)) (not_walked (with_statuses all a.going) (put_entries c.capacity all c.cache))) b
     ∙ with_act c place a (λ act. shows_statuses me c clock place act all) run)))
 
 -- rights
 pub rights_taken : (me : Node) (c : ClientState) (place : ℕ) (a : Asking) (before told : List Line) (going : Going) (fid : Fid) (index release : ℕ) (text : List ℕ) → Some a ≡ asking_of c.running c.gifts → told ≡ before ++ lines.Read me fid index Fetched (seen.AccessList text) ∷ []
     → going ≡ with_read fid (seen.AccessList text) a.going
-    → goes_on me c (λ ls. lines.Given place ∷ (told ++ dropped me (filter (is_older fid index release) c.cache) ls)) (stays going (filter (λ (x : CacheEntry). not (is_older fid index release x)) c.cache)) ≡ telling before (by_act c place (λ act. shows_rights me c place act fid index release text) c.running)
+    → goes_on me c (λ ls. lines.Given place ∷ (told ++ dropped me (filter (is_older fid index release) c.cache) ls)) (not_walked going (filter (λ (x : CacheEntry). not (is_older fid index release x)) c.cache)) ≡ telling before (by_act c place (λ act. shows_rights me c place act fid index release text) c.running)
 rights_taken me c place a before told going fid index release text run t g =
     let gone : List Line → List Line = λ ls. dropped me (filter (is_older fid index release) c.cache) ls in
-    let w : Walked = stays going (filter (λ (x : CacheEntry). not (is_older fid index release x)) c.cache) in
+    let w : Walked = not_walked going (filter (λ (x : CacheEntry). not (is_older fid index release x)) c.cache) in
     goes_front me c (λ ls. lines.Given place ∷ (told ++ gone ls)) (λ ls. lines.Given place ∷ (before ++ (lines.Read me fid index Fetched (seen.AccessList text) ∷ gone ls))) w
     (λ ls. read_behind place told before (lines.Read me fid index Fetched (seen.AccessList text) ∷ []) (gone ls) t)
     ∙ (goes_telling me c place before (λ ls. lines.Read me fid index Fetched (seen.AccessList text) ∷ gone ls) w
     ∙ ap (telling before)
-    (ap (λ (x : Going). goes_on me c (λ ls. lines.Given place ∷ lines.Read me fid index Fetched (seen.AccessList text) ∷ dropped me (filter (is_older fid index release) c.cache) ls) (stays x (filter (λ (y : CacheEntry). not (is_older fid index release y)) c.cache))) g
+    (ap (λ (x : Going). goes_on me c (λ ls. lines.Given place ∷ lines.Read me fid index Fetched (seen.AccessList text) ∷ dropped me (filter (is_older fid index release) c.cache) ls) (not_walked x (filter (λ (y : CacheEntry). not (is_older fid index release y)) c.cache))) g
     ∙ with_act c place a (λ act. shows_rights me c place act fid index release text) run))
 
 -- promises behind the batch that was given back
 pub rest_taken : (me : Node) (c : ClientState) (place : ℕ) (a : Asking) (told : List Line) (going : Going) (rest : List Gift) → Some a ≡ asking_of c.running c.gifts → told ≡ [] → going ≡ a.going → rest ≡ behind_batch a.gifts
-    → gives_by me c (λ ls. lines.Given place ∷ (told ++ ls)) going rest ≡ by_act c place (λ act. gives_by me c (given place) act (behind_batch c.gifts)) c.running
+    → gives_by me c (λ ls. lines.Given place ∷ (told ++ ls)) going rest ≡ by_act c place (λ act. gives_by me c (with_given place) act (behind_batch c.gifts)) c.running
 rest_taken me c place a told going rest run t g q =
     gives_alone me c place going rest told t
-    ∙ (ap (λ (x : Going). gives_by me c (given place) x rest) g
-    ∙ (ap (gives_by me c (given place) a.going) (q ∙ ap behind_batch (gifts_is c.running c.gifts a run)) ∙ with_act c place a (λ act. gives_by me c (given place) act (behind_batch c.gifts)) run))
+    ∙ (ap (λ (x : Going). gives_by me c (with_given place) x rest) g
+    ∙ (ap (gives_by me c (with_given place) a.going) (q ∙ ap behind_batch (gifts_is c.running c.gifts a run)) ∙ with_act c place a (λ act. gives_by me c (with_given place) act (behind_batch c.gifts)) run))
 
 -- ---- replies to changing calls
 
 -- the entries of what the call may have changed go
-pub plain_taken : (me : Node) (c : ClientState) (place : ℕ) (a : Asking) (told : List Line) (d : Drops) (call : FsCall) → Some a ≡ asking_of c.running c.gifts → ((e : CacheEntry) → drops_of d e ≡ is_in_scope call e.fid) → call ≡ call_by a.gifts (next a.going)
+pub plain_taken : (me : Node) (c : ClientState) (place : ℕ) (a : Asking) (told : List Line) (d : Drops) (call : FsCall) → Some a ≡ asking_of c.running c.gifts → ((e : CacheEntry) → drops_of d e ≡ may_change call e.fid) → call ≡ call_by a.gifts (next a.going)
     → ends_step me c (left d c.cache) (λ ls. lines.Given place ∷ (told ++ dropped me (filter (drops_of d) c.cache) ls)) zero_code ≡ telling told (by_call c place (λ act. takes_plain me c place) c.running)
 plain_taken me c place a told d call run h e =
     ap (telling told) (plain_as me c d call place zero_code h ∙ (ap (takes_plain me c place) e ∙ with_call c place a (λ act. takes_plain me c place) run))
@@ -653,7 +653,7 @@ pub later_as : (me : Node) (c : ClientState) (place : ℕ) (a : Asking) (told : 
     → calls_step me (record c { busy = c.busy + 1; gifts = a.gifts }) a.going (λ ls. lines.Given place ∷ (told ++ ls)) ≡ by_act c place (calls_again me (record c { busy = c.busy + 1 }) place) c.running
 later_as me c place a told e t =
     ap (λ (xs : List Line). calls_step me (record c { busy = c.busy + 1; gifts = a.gifts }) a.going (λ ls. lines.Given place ∷ (xs ++ ls))) t
-    ∙ (ap (λ (gs : List Gift). calls_step me (record c { busy = c.busy + 1; gifts = gs }) a.going (given place)) (gifts_is c.running c.gifts a e) ∙ with_act c place a (calls_again me (record c { busy = c.busy + 1 }) place) e)
+    ∙ (ap (λ (gs : List Gift). calls_step me (record c { busy = c.busy + 1; gifts = gs }) a.going (with_given place)) (gifts_is c.running c.gifts a e) ∙ with_act c place a (calls_again me (record c { busy = c.busy + 1 }) place) e)
 
 pub later_taken : {E : Type 0} (me : Node) (c : ClientState) (code : Code) (old new : NodeState CopyState) (r : Result Outs E) → true ≡ (is_busy_code code && nat_lt c.busy most_busy)
     → Takes (λ place. by_act c place (calls_again me (record c { busy = c.busy + 1 }) place) c.running) old new r → Takes (λ place. by_act c place (λ act. refuses me c place act code) c.running) old new r
@@ -671,7 +671,7 @@ refused_taken me c code old new r e t =
 
 -- ---- a notice
 
-pub resent_taken : (boot : ℕ) (a : Asking) (old new : NodeState CopyState) (outs : Outs) → Some a ≡ asking_of old.state.client.running old.state.client.gifts → new ≡ record old { state = with_client old.state (booted old.state.client boot) } → outs.lines ≡ []
+pub resent_taken : (boot : ℕ) (a : Asking) (old new : NodeState CopyState) (outs : Outs) → Some a ≡ asking_of old.state.client.running old.state.client.gifts → new ≡ record old { state = with_client old.state (knows_boot old.state.client boot) } → outs.lines ≡ []
     → parcels_read outs.parcels ≡ messages_spelled (sent_to old.node old.state.client old.state.client.last old.state.client.callee boot (call_by a.gifts (next a.going)) ∷ []) → TakesStill {E = AllocError} (λ place. by_act old.state.client place (λ act. resends_step old.node old.state.client place act boot) old.state.client.running) old new (Ok outs)
 resent_taken boot a old new outs run n l p =
     let me : Node = old.node in

@@ -5,13 +5,13 @@ use Rattle.std.specs.declared.alloc.AllocError.{AllocError}
 use Rattle.std.specs.List.{list_any}
 use Rattle.std.specs.Option.{option_map}
 use Rattle.std.specs.Prelude.{nat_lt, IfOk, IsSome, is_some, IfSome}
-use Rattle.afs_history.specs.declared.acts.Act.{Act}
-use Rattle.afs_history.specs.declared.lines.Line.{Line}
-use Rattle.afs_history.specs.declared.lines.Line.TheVariants as lines
-use Rattle.afs_history.specs.declared.lines.Outs.{Outs}
-use Rattle.afs_ideal.specs.Operations.{volume_changed}
-use Rattle.afs_ideal.specs.Tables.{set, Table}
-use Rattle.afs_model.specs.Steps.{NodeState}
+use Rattle.spec_history.specs.declared.acts.Act.{Act}
+use Rattle.spec_history.specs.declared.lines.Line.{Line}
+use Rattle.spec_history.specs.declared.lines.Line.TheVariants as lines
+use Rattle.spec_history.specs.declared.lines.Outs.{Outs}
+use Rattle.spec_ideal.specs.Operations.{volume_changed}
+use Rattle.spec_ideal.specs.Tables.{set, Table}
+use Rattle.spec_model.specs.Steps.{NodeState}
 use Rattle.afs_num.specs.Nodes.{same_node}
 use Rattle.afs_num.specs.declared.calls.AfsCallBack.{AfsCallBack}
 use Rattle.afs_num.specs.declared.calls.AfsFetchStatus.{AfsFetchStatus}
@@ -29,25 +29,25 @@ use Rattle.afs_num.specs.declared.types.Code.{Code}
 use Rattle.afs_num.specs.declared.types.Fid.{Fid}
 use Rattle.afs_num.specs.declared.types.Head.{Head}
 use Rattle.afs_num.specs.declared.types.Node.{Node}
-use Rattle.afs_model.specs.Calls.{is_sent_again, last_timeout}
-use Rattle.afs_model.specs.Messages.{messages_spelled, parcels_read, HasSpelling}
+use Rattle.spec_model.specs.Calls.{is_sent_again, last_timeout}
+use Rattle.spec_model.specs.Messages.{messages_spelled, parcels_read, HasSpelling}
 use Rattle.afs_num.specs.Messages.{file_reply}
 use Rattle.afs_num.specs.declared.calls.FsCall.{FsCall}
-use Rattle.afs_rows.specs.States.{CacheEntry, Gift, Location}
-use Rattle.afs_rows.specs.Going.{ClientState, Going, next, Seek, filled}
-use Rattle.afs_rows.specs.ClientRow.{awaits, begin_row, boot_of, call_by, call_of, calls_again, client_row, counts, drop_line, dropped, given_up_in, gives_up, guest_row, hears, ignores, is_awaited, is_busy_code, is_spent, left_in, sought_or, takes, takes_in, timeout_line, timeout_row, tries_again, has_location, is_sought, put_location}
-use Rattle.afs_rows.specs.Steps.{Step}
+use Rattle.spec_rows.specs.States.{CacheEntry, Gift, Location}
+use Rattle.spec_rows.specs.Going.{ClientState, Going, next, Seek, filled}
+use Rattle.spec_rows.specs.ClientRow.{awaits, begin_row, boot_of, call_by, call_of, calls_again, client_row, counts, drop_line, dropped, given_up_in, gives_up, guest_row, hears, ignores, is_awaited, is_busy_code, is_spent, left_in, sought_or, takes, takes_in, timeout_line, timeout_row, tries_again, has_location, is_sought, put_location}
+use Rattle.spec_rows.specs.Steps.{Step}
 use Rattle.afs_calling.specs.Stepping as stepping
 use Rattle.afs_calling.proofs.Stepping as stepped
 use Rattle.afs_entries.specs.Cached.{drops_of, left, unlisted}
 use Rattle.afs_entries.specs.declared.drops.Drops.{Drops}
 use Rattle.afs_entries.specs.declared.drops.Drops.TheVariants as drops
-use Rattle.afs_copyrows.specs.CopyRow as copy_rows
-use Rattle.afs_copyrows.specs.CopyRow.{answers_at, answers_in, answers_to, by_release, copy_begin_row, copy_row, copy_timeout_row, dies_at, dropping, entry_told as entry_carried, hears_by, is_below_release, is_over, offer_in, offers, Offer, refuses_at, renewing, tells_new, uses, uses_newer, without_older, forgotten, is_new_entry}
-use Rattle.afs_copyrows.specs.Sites.{as_it_is, behind_first, calls_round, leaves_site, round_of, seen_of, sited, with_client, CopyState, Round}
+use Rattle.spec_copyrows.specs.CopyRow as copy_rows
+use Rattle.spec_copyrows.specs.CopyRow.{answers_at, answers_in, answers_to, by_release, copy_begin_row, copy_row, copy_timeout_row, dies_at, dropping, entry_told as entry_carried, hears_by, is_below_release, is_over, offer_in, offers, Offer, refuses_at, renewing, tells_new, uses, uses_newer, without_older, forgotten, is_new_entry}
+use Rattle.spec_copyrows.specs.Sites.{as_it_is, behind_first, calls_round, leaves_site, round_of, seen_of, sited, with_client, CopyState, Round}
 use Rattle.afs_asking.specs.Asking.{Asking, asking_of}
 use Rattle.afs_cache.specs.Acting.{but_for, but_for_these, changed_in, followed, IsDropping, outs_of, PlansRound, sent_to}
-use Rattle.afs_cache.specs.Managing.{Answers, AnswersCopy, AnswersStill, by_call, copy_seek_times_out, copy_times_out, Makes, placed, seek_times_out, spent_by, Takes, TakesCopy, telling, given_up, sought_by_head}
+use Rattle.afs_cache.specs.Managing.{Answers, AnswersCopy, AnswersStill, by_call, copy_seek_times_out, copy_times_out, Makes, sent_to_site, seek_times_out, spent_by, Takes, TakesCopy, telling, given_up, sought_by_head}
 use Rattle.afs_cache.specs.Rounds.{dies_by, IsHeard, KeepsThen, keeping, OfAct, round_running}
 use Rattle.afs_cache.specs.Wanted.{awaited_by}
 use Rattle.afs_cache.specs.declared.acting.Dropping.{Dropping}
@@ -56,7 +56,7 @@ use Rattle.afs_cache.proofs.Answering.{given_is, left_is}
 use Rattle.afs_cache.proofs.Placing.{placed_is}
 use Rattle.afs_cache.proofs.Planning.{done_as, dropped_front, round_taken}
 use Rattle.afs_num.specs.declared.location_calls.LocEntry.{LocEntry}
-use Rattle.afs_shape.specs.Tables.{IsEntry}
+use Rattle.spec_shape.specs.Tables.{IsEntry}
 use Rattle.afs_acts.specs.Located.{Puts}
 use Rattle.afs_cache.specs.Locating.{entry_answered, renewed_by, renewed_in}
 use Rattle.afs_cache.proofs.Sought.{entry_fits}
@@ -69,7 +69,7 @@ use Rattle.afs_sites.specs.declared.offers.Offered.{Offered}
 -- as the client's row has it
 pub used_taken : {E : Type 0} (clock : ℕ) (m : Message) (old new : NodeState CopyState) (r : Result Outs E) → Takes (λ place. guest_row old.node old.state.client clock place (Whole m)) old new r → TakesCopy (λ place. uses old.node old.state clock place m) old new r
 used_taken clock m old new r h =
-    stepped.takes_same (λ place. placed old.node old.state (guest_row old.node old.state.client clock place (Whole m))) (λ place. uses old.node old.state clock place m) old new r
+    stepped.takes_same (λ place. sent_to_site old.node old.state (guest_row old.node old.state.client clock place (Whole m))) (λ place. uses old.node old.state clock place m) old new r
     (λ place. placed_is old.node old.state (guest_row old.node old.state.client clock place (Whole m))) h
 
 -- steps that are the same, in other words
@@ -169,12 +169,12 @@ telling_dropped me cache id n x s h =
 
 newer_as : (me : Node) (c : CopyState) (clock place : ℕ) (head : Head) (reply : FsReply) (act : Going) (id n : ℕ) (x : Dropping) → IsDropping me c.client.cache (drops.Below id n) [] x → c.client.seeking ≡ None → same_node head.to me ≡ true → c.client.running ≡ Some act
     → is_awaited c.client act head ≡ true → is_spent c.client act ≡ false
-    → placed me (without_older c id n) (telling x.lines (by_call (without_older c id n).client place (λ g call. takes me (without_older c id n).client clock place g call reply) c.client.running)) ≡ uses_newer me c clock place (record { head = head; carried = carried.Reply (tell.File reply) }) id n
+    → sent_to_site me (without_older c id n) (telling x.lines (by_call (without_older c id n).client place (λ g call. takes me (without_older c id n).client clock place g call reply) c.client.running)) ≡ uses_newer me c clock place (record { head = head; carried = carried.Reply (tell.File reply) }) id n
 newer_as me c clock place head reply act id n x d idle here run awaited used =
     let k : ClientState = (without_older c id n).client in
-    ap (λ (o : Option Going). placed me (without_older c id n) (telling x.lines (by_call k place (λ g call. takes me k clock place g call reply) o))) run
-    ∙ (ap (λ (s : Step ClientState). placed me (without_older c id n) (telling x.lines s)) (sym (guest_is me k clock place head reply act idle here run awaited used))
-    ∙ (ap (placed me (without_older c id n)) (telling_dropped me c.client.cache id n x (guest_row me k clock place (Whole (record { head = head; carried = carried.Reply (tell.File reply) }))) d)
+    ap (λ (o : Option Going). sent_to_site me (without_older c id n) (telling x.lines (by_call k place (λ g call. takes me k clock place g call reply) o))) run
+    ∙ (ap (λ (s : Step ClientState). sent_to_site me (without_older c id n) (telling x.lines s)) (sym (guest_is me k clock place head reply act idle here run awaited used))
+    ∙ (ap (sent_to_site me (without_older c id n)) (telling_dropped me c.client.cache id n x (guest_row me k clock place (Whole (record { head = head; carried = carried.Reply (tell.File reply) }))) d)
     ∙ placed_is me (without_older c id n) (dropping me (filter (is_below_release id n) c.client.cache) (guest_row me k clock place (Whole (record { head = head; carried = carried.Reply (tell.File reply) }))))))
 
 pub newer_taken : {E : Type 0} (clock : ℕ) (head : Head) (reply : FsReply) (id n : ℕ) (x : Dropping) (cache : List CacheEntry) (seen : Table ℕ) (old new : NodeState CopyState) (r : Result Outs E) → IsDropping old.node old.state.client.cache (drops.Below id n) [] x
@@ -186,7 +186,7 @@ newer_taken {E} clock head reply id n x cache seen old new r d e q heard used h 
     let step : ClientState → ℕ → Step ClientState = λ k place. telling x.lines (by_call k place (λ g call. takes old.node k clock place g call reply) k.running) in
     let same : KeepsThen (left (drops.Below id n) c.client.cache) (set id n c.seen) step old new r =
     subst (λ (t : Table ℕ). KeepsThen (left (drops.Below id n) c.client.cache) t step old new r) q (subst (λ (es : List CacheEntry). KeepsThen es seen step old new r) e h) in
-    copies_same (λ place. placed old.node (without_older c id n) (step (without_older c id n).client place)) (λ place. uses_newer old.node c clock place (record { head = head; carried = carried.Reply (tell.File reply) }) id n) old new r
+    copies_same (λ place. sent_to_site old.node (without_older c id n) (step (without_older c id n).client place)) (λ place. uses_newer old.node c clock place (record { head = head; carried = carried.Reply (tell.File reply) }) id n) old new r
     (λ place. newer_as old.node c clock place head reply act id n x d heard.idle heard.here run (sym (awaited_is c.client head act run) ∙ heard.awaited) (sym (spent_is c.client act run) ∙ used)) same
 
 -- where memory was wanting it keeps what it kept
@@ -317,7 +317,7 @@ dies_made x act call round left_round d told dx plan old new outs p a k q e t h 
 
 pub begun_anew : (clock : ℕ) (act : Act) (old mid new : NodeState CopyState) (outs : Outs) → mid ≡ record old { state = record old.state { round = None } } → Answers {E = AllocError} (begin_row mid.node mid.state.client clock act) mid new (Ok outs)
     → AnswersCopy {E = AllocError} (copy_begin_row old.node old.state clock act) old new (Ok outs)
-unfolding placed copy_begin_row
+unfolding sent_to_site copy_begin_row
 begun_anew clock act old mid new outs m h = subst (λ (s : NodeState CopyState). Answers {E = AllocError} (begin_row s.node s.state.client clock act) s new (Ok outs)) m h
 
 pub round_back : (old mid new last : NodeState CopyState) (known : Option Round) → mid ≡ record old { state = record old.state { round = None } } → known ≡ old.state.round → new ≡ mid → last ≡ record new { state = record new.state { round = known } } → last ≡ old
@@ -373,7 +373,7 @@ pub received_as : {E : Type 0} (clock : ℕ) (x received : Received) (old new : 
 received_as clock x received old new r e t = subst (λ (y : Received). TakesCopy (λ (place : ℕ). copy_row old.node old.state clock place y) old new r) e t
 
 placed_taken : {E : Type 0} (step : ℕ → Step ClientState) (old new : NodeState CopyState) (r : Result Outs E) → Takes step old new r → TakesCopy (λ place. sited old.node old.state (step place)) old new r
-placed_taken step old new r h = copies_same (λ place. placed old.node old.state (step place)) (λ place. sited old.node old.state (step place)) old new r (λ place. placed_is old.node old.state (step place)) h
+placed_taken step old new r h = copies_same (λ place. sent_to_site old.node old.state (step place)) (λ place. sited old.node old.state (step place)) old new r (λ place. placed_is old.node old.state (step place)) h
 
 pub nothing_heard : {E : Type 0} (clock : ℕ) (old new : NodeState CopyState) (r : Result Outs E) → Takes (λ place. guest_row old.node old.state.client clock place Nothing) old new r → TakesCopy (λ place. copy_row old.node old.state clock place Nothing) old new r
 unfolding copy_row
@@ -469,7 +469,7 @@ renewed_by_is me c clock place m k found false s t e = absurd cc
 
 renewed_heard : {E : Type 0} (clock : ℕ) (m : Message) (found : Seek) (o : Option Seek) (old new : NodeState CopyState) (r : Result Outs E) → old.state.client.seeking ≡ o → Some found ≡ renewed_by old.node old.state.client m o
     → Takes (λ place. guest_row old.node (record old.state.client { seeking = Some found }) clock place (Whole m)) old new r → TakesCopy (λ place. hears_by old.node old.state clock place m o) old new r
-unfolding placed
+unfolding sent_to_site
 renewed_heard clock m found None old new r q e h = absurd cc
 renewed_heard clock m found (Some k) old new r q e h =
     copies_same (λ place. uses old.node (with_client old.state (record old.state.client { seeking = Some found })) clock place m) (λ place. hears_by old.node old.state clock place m (Some k)) old new r

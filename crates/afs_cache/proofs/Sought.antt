@@ -16,28 +16,28 @@ use Rattle.afs_num.specs.declared.types.Code.{Code}
 use Rattle.afs_num.specs.declared.types.Head.{Head}
 use Rattle.afs_num.specs.declared.types.Node.{Node}
 use Rattle.afs_num.specs.declared.types.Node.TheVariants as nodes
-use Rattle.afs_history.specs.declared.acts.Operand.{Operand}
-use Rattle.afs_history.specs.declared.lines.Line.{Line}
-use Rattle.afs_history.specs.declared.lines.Line.TheVariants as lines
-use Rattle.afs_history.specs.declared.lines.Outs.{Outs}
-use Rattle.afs_model.specs.Messages.{HasSpelling, messages_spelled, parcels_read}
-use Rattle.afs_model.specs.Steps.{NodeState}
-use Rattle.afs_shape.specs.Tables.{IsEntry}
-use Rattle.afs_rows.specs.States.{Gift, Location}
-use Rattle.afs_rows.specs.Going.{ClientState, Going, Left, Seek, filled, next, operand_in, volume_at}
-use Rattle.afs_rows.specs.ClientRow.{act_sought, answers_step, asks_where, boot_of, call_of, calls_again, callee_of, client_row, dead_code, entry_in, given, guest_row, has_location, ignores, is_gone_code, is_sought, knows, located, located_by, located_on, most_moved, moved_on, no_entry_code, put_location, refuses_for_good, seek_timeout_row, seeks_again, seeks_on, seeks_step, sought_by, sought_ends, sought_or, takes_in, timeout_line, volume_asked, walks_on, with_boot, call_by, calls_step}
-use Rattle.afs_rows.specs.Steps.{Step}
+use Rattle.spec_history.specs.declared.acts.Operand.{Operand}
+use Rattle.spec_history.specs.declared.lines.Line.{Line}
+use Rattle.spec_history.specs.declared.lines.Line.TheVariants as lines
+use Rattle.spec_history.specs.declared.lines.Outs.{Outs}
+use Rattle.spec_model.specs.Messages.{HasSpelling, messages_spelled, parcels_read}
+use Rattle.spec_model.specs.Steps.{NodeState}
+use Rattle.spec_shape.specs.Tables.{IsEntry}
+use Rattle.spec_rows.specs.States.{Gift, Location}
+use Rattle.spec_rows.specs.Going.{ClientState, Going, Left, Seek, filled, next, operand_in, volume_at}
+use Rattle.spec_rows.specs.ClientRow.{act_sought, answers_step, asks_where, boot_of, call_of, calls_again, callee_of, client_row, dead_code, entry_in, with_given, guest_row, has_location, ignores, is_gone_code, is_sought, knows_place, located, located_by, located_on, most_moved, moved_on, no_entry_code, put_location, refuses_for_good, seek_timeout_row, seeks_again, seeks_on, seeks_step, sought_by, sought_ends, sought_or, takes_in, timeout_line, volume_asked, walks_on, with_boot, call_by, calls_step}
+use Rattle.spec_rows.specs.Steps.{Step}
 use Rattle.afs_acts.specs.Located.{Puts}
 use Rattle.std.specs.declared.alloc.AllocError.{AllocError}
 use Rattle.afs_cache.specs.Acting.{called_by, sought_from}
 use Rattle.afs_asking.specs.Asking.{Asking, asking_of, is_giving}
 use Rattle.afs_cache.specs.Locating.{IsAskedAnew, Sought, calls_elsewhere, entry_told, found_by, found_on, goes_as_before, goes_by_table, operand_called}
-use Rattle.afs_cache.specs.Managing.{Makes, Takes, by_act, number_limit, sought_by_head, placed, TakesStill}
+use Rattle.afs_cache.specs.Managing.{Makes, Takes, by_act, number_limit, sought_by_head, sent_to_site, TakesStill}
 use Rattle.afs_cache.proofs.Answering.{boot_told_is, takes_same}
 use Rattle.afs_cache.proofs.Planning.{called_as}
 use Rattle.afs_cache.proofs.Replying.{chosen_else, chosen_then, each_act, with_act}
 use Rattle.afs_cache.proofs.Placing.{still_taken}
-use Rattle.afs_copyrows.specs.Sites.{with_client, CopyState}
+use Rattle.spec_copyrows.specs.Sites.{with_client, CopyState}
 
 -- ---- a volume is gone
 
@@ -46,8 +46,8 @@ pub seeks_where : (me : Node) (c : ClientState) (place : ℕ) (a : Asking) (told
     → seeks_step me (record c { moved = c.moved + 1 }) (record { act = act; operand = o; left = Some left }) c.cache (λ ls. lines.Given place ∷ (told ++ ls)) ≡ by_act c place (λ g. asks_where me c place g code (Some o)) c.running
 seeks_where me c place a told act code o left run t e l =
     ap (λ (xs : List Line). seeks_step me (record c { moved = c.moved + 1 }) (record { act = act; operand = o; left = Some left }) c.cache (λ ls. lines.Given place ∷ (xs ++ ls))) t
-    ∙ (ap (λ (g : Going). seeks_step me (record c { moved = c.moved + 1 }) (record { act = g; operand = o; left = Some left }) c.cache (given place)) e
-    ∙ (ap (λ (x : Left). seeks_step me (record c { moved = c.moved + 1 }) (record { act = a.going; operand = o; left = Some x }) c.cache (given place)) l
+    ∙ (ap (λ (g : Going). seeks_step me (record c { moved = c.moved + 1 }) (record { act = g; operand = o; left = Some left }) c.cache (with_given place)) e
+    ∙ (ap (λ (x : Left). seeks_step me (record c { moved = c.moved + 1 }) (record { act = a.going; operand = o; left = Some x }) c.cache (with_given place)) l
     ∙ with_act c place a (λ g. asks_where me c place g code (Some o)) run))
 
 where_as : (me : Node) (c : ClientState) (place : ℕ) (code : Code) (x : Option Operand) (running : Option Going) → x ≡ operand_called c running
@@ -116,17 +116,17 @@ anew_going c k a h = ap (λ (x : Asking). x.going) h
 -- behind no other lines
 pub calls_alone : (me : Node) (c : ClientState) (place : ℕ) (a : Asking) (told : List Line) → a.gifts ≡ c.gifts → told ≡ [] → calls_step me (record c { gifts = a.gifts }) a.going (λ ls. lines.Given place ∷ (told ++ ls)) ≡ calls_again me c place a.going
 calls_alone me c place a told g t =
-    ap (λ (xs : List Line). calls_step me (record c { gifts = a.gifts }) a.going (λ ls. lines.Given place ∷ (xs ++ ls))) t ∙ ap (λ (gs : List Gift). calls_step me (record c { gifts = gs }) a.going (given place)) g
+    ap (λ (xs : List Line). calls_step me (record c { gifts = a.gifts }) a.going (λ ls. lines.Given place ∷ (xs ++ ls))) t ∙ ap (λ (gs : List Gift). calls_step me (record c { gifts = gs }) a.going (with_given place)) g
 
 -- the table names the server that was left, or another one
 pub stays_there : {E : Type 0} (me : Node) (c : ClientState) (act : Going) (left : Left) (old new : NodeState CopyState) (r : Result Outs E) → true ≡ same_node (callee_of c act) left.server
-    → Takes (λ place. sought_ends me c (given place) left.code) old new r → Takes (λ place. calls_elsewhere me c place act left) old new r
+    → Takes (λ place. sought_ends me c (with_given place) left.code) old new r → Takes (λ place. calls_elsewhere me c place act left) old new r
 stays_there me c act left old new r e h =
-    takes_same (λ place. sought_ends me c (given place) left.code) (λ place. calls_elsewhere me c place act left) old new r
-    (λ place. chosen_then (same_node (callee_of c act) left.server) (sought_ends me c (given place) left.code) (calls_again me c place act) e) h
+    takes_same (λ place. sought_ends me c (with_given place) left.code) (λ place. calls_elsewhere me c place act left) old new r
+    (λ place. chosen_then (same_node (callee_of c act) left.server) (sought_ends me c (with_given place) left.code) (calls_again me c place act) e) h
 
 pub goes_elsewhere : (me : Node) (c : ClientState) (act : Going) (left : Left) (place : ℕ) → false ≡ same_node (callee_of c act) left.server → calls_again me c place act ≡ calls_elsewhere me c place act left
-goes_elsewhere me c act left place e = chosen_else (same_node (callee_of c act) left.server) (sought_ends me c (given place) left.code) (calls_again me c place act) e
+goes_elsewhere me c act left place e = chosen_else (same_node (callee_of c act) left.server) (sought_ends me c (with_given place) left.code) (calls_again me c place act) e
 
 -- the table has the number, or hasn't
 pub found_taken : {E : Type 0} (me : Node) (c : ClientState) (clock : ℕ) (k : Seek) (id : ℕ) (old new : NodeState CopyState) (r : Result Outs E) → Some id ≡ volume_at c.table k.operand
@@ -134,8 +134,8 @@ pub found_taken : {E : Type 0} (me : Node) (c : ClientState) (clock : ℕ) (k : 
 found_taken me c clock k id old new r e h = takes_same (λ place. found_on me c clock place k k.left) (λ place. goes_by_table me c clock place k) old new r (λ place. ap (found_by me c clock place k) e) h
 
 pub missed_taken : {E : Type 0} (me : Node) (c : ClientState) (clock : ℕ) (k : Seek) (old new : NodeState CopyState) (r : Result Outs E) → None ≡ volume_at c.table k.operand
-    → Takes (λ place. sought_ends me c (given place) no_entry_code) old new r → Takes (λ place. goes_by_table me c clock place k) old new r
-missed_taken me c clock k old new r e h = takes_same (λ place. sought_ends me c (given place) no_entry_code) (λ place. goes_by_table me c clock place k) old new r (λ place. ap (found_by me c clock place k) e) h
+    → Takes (λ place. sought_ends me c (with_given place) no_entry_code) old new r → Takes (λ place. goes_by_table me c clock place k) old new r
+missed_taken me c clock k old new r e h = takes_same (λ place. sought_ends me c (with_given place) no_entry_code) (λ place. goes_by_table me c clock place k) old new r (λ place. ap (found_by me c clock place k) e) h
 
 -- what the row says of it
 on_as : (me : Node) (c : ClientState) (clock place : ℕ) (k : Seek) (o : Option ℕ) → k.left ≡ None → found_by me c clock place k o ≡ located_on me c clock place k.act o
@@ -147,11 +147,11 @@ moved_as me c clock place k left None e = refl
 moved_as me c clock place k left (Some id) e = ap (found_on me c clock place k) e
 
 -- the table that comes with the entry
-new_by : (me : Node) (c : ClientState) (clock place : ℕ) (k : Seek) (l : Location) (left : Option Left) → k.left ≡ left → has_location l c.table ≡ false → goes_by_table me (knows l c) clock place k ≡ located me c clock place k l left
-new_by me c clock place k l None e n = on_as me (knows l c) clock place k (volume_at (knows l c).table k.operand) e
+new_by : (me : Node) (c : ClientState) (clock place : ℕ) (k : Seek) (l : Location) (left : Option Left) → k.left ≡ left → has_location l c.table ≡ false → goes_by_table me (knows_place l c) clock place k ≡ located me c clock place k l left
+new_by me c clock place k l None e n = on_as me (knows_place l c) clock place k (volume_at (knows_place l c).table k.operand) e
 new_by me c clock place k l (Some left) e n =
-    moved_as me (knows l c) clock place k left (volume_at (knows l c).table k.operand) e
-    ∙ chosen_else (has_location l c.table) (sought_ends me c (given place) left.code) (moved_on me (knows l c) place k.act left (volume_at (knows l c).table k.operand)) (sym n)
+    moved_as me (knows_place l c) clock place k left (volume_at (knows_place l c).table k.operand) e
+    ∙ chosen_else (has_location l c.table) (sought_ends me c (with_given place) left.code) (moved_on me (knows_place l c) place k.act left (volume_at (knows_place l c).table k.operand)) (sym n)
 
 pub new_taken : {E : Type 0} (me : Node) (c : ClientState) (clock : ℕ) (k : Seek) (l : Location) (table : List Location) (old new : NodeState CopyState) (r : Result Outs E) → Puts l c.table (Some table)
     → Takes (λ place. goes_by_table me (record c { table = table }) clock place k) old new r → Takes (λ place. located me c clock place k l k.left) old new r
@@ -164,7 +164,7 @@ same_as : (me : Node) (c : ClientState) (clock place : ℕ) (k : Seek) (l : Loca
 same_as me c clock place k l None e n =
     on_as me c clock place k (volume_at c.table k.operand) e
     ∙ ap (λ (t : List Location). located_on me (record c { table = t }) clock place k.act (volume_at t k.operand)) (kept (has_location l c.table) c.table _ (sym n))
-same_as me c clock place k l (Some left) e n = chosen_then (has_location l c.table) (sought_ends me c (given place) left.code) _ (sym n)
+same_as me c clock place k l (Some left) e n = chosen_then (has_location l c.table) (sought_ends me c (with_given place) left.code) _ (sym n)
 
 pub same_taken : {E : Type 0} (me : Node) (c : ClientState) (clock : ℕ) (k : Seek) (l : Location) (old new : NodeState CopyState) (r : Result Outs E) → Puts l c.table None
     → Takes (λ place. goes_as_before me c clock place k k.left) old new r → Takes (λ place. located me c clock place k l k.left) old new r
@@ -252,7 +252,7 @@ back_again old mid new last table known m b n l =
 -- with another table its call goes where it would go
 pub table_taken : (step : ClientState → ℕ → Step ClientState) (old mid new : NodeState CopyState) (table : List Location) (outs : Outs) → mid ≡ record old { state = with_client old.state (record old.state.client { table = table }) }
     → Takes {E = AllocError} (λ place. step mid.state.client place) mid new (Ok outs) → Takes {E = AllocError} (λ place. step (record old.state.client { table = table }) place) old new (Ok outs)
-unfolding placed
+unfolding sent_to_site
 table_taken step old mid new table outs m h = subst (λ (s : NodeState CopyState). Takes {E = AllocError} (λ (place : ℕ). step s.state.client place) s new (Ok outs)) m h
 
 -- ---- the act that waits, renewed
@@ -264,5 +264,5 @@ seeking_back old mid new last seeking known m b n l =
 
 pub seeking_taken : (step : ClientState → ℕ → Step ClientState) (old mid new : NodeState CopyState) (seeking : Option Seek) (outs : Outs) → mid ≡ record old { state = with_client old.state (record old.state.client { seeking = seeking }) }
     → Takes {E = AllocError} (λ place. step mid.state.client place) mid new (Ok outs) → Takes {E = AllocError} (λ place. step (record old.state.client { seeking = seeking }) place) old new (Ok outs)
-unfolding placed
+unfolding sent_to_site
 seeking_taken step old mid new seeking outs m h = subst (λ (s : NodeState CopyState). Takes {E = AllocError} (λ (place : ℕ). step s.state.client place) s new (Ok outs)) m h

@@ -8,25 +8,25 @@ use Rattle.afs_num.specs.declared.types.Node.TheVariants as nodes
 use Rattle.afs_num.specs.declared.calls.FsCall.{FsCall}
 use Rattle.afs_num.specs.declared.messages.Call.TheVariants as ask
 use Rattle.afs_num.specs.declared.messages.Message.{Message}
-use Rattle.afs_history.specs.declared.acts.Operand.{Operand}
-use Rattle.afs_history.specs.declared.lines.Line.{Line}
-use Rattle.afs_history.specs.declared.lines.Outs.{Outs}
-use Rattle.afs_model.specs.CellRows as cell_rows
-use Rattle.afs_model.specs.FsRows.{call_number}
-use Rattle.afs_model.specs.Messages.{parcels_read, messages_spelled}
-use Rattle.afs_model.specs.Steps.{NodeState}
-use Rattle.afs_rows.specs.States.{CacheEntry, Gift, Location}
-use Rattle.afs_rows.specs.Going.{ClientState, Going, next, operand_in}
-use Rattle.afs_rows.specs.ClientRow.{Walked, boot_of, call_by, drop_line, first_server_of, goes_on, most_reads, question, server_for, volume_asked, walked}
-use Rattle.afs_rows.specs.Steps.{Step}
-use Rattle.afs_copyrows.specs.Sites.{calls_round, round_in, round_or, with_client, CopyState, Round}
+use Rattle.spec_history.specs.declared.acts.Operand.{Operand}
+use Rattle.spec_history.specs.declared.lines.Line.{Line}
+use Rattle.spec_history.specs.declared.lines.Outs.{Outs}
+use Rattle.spec_model.specs.CellRows as cell_rows
+use Rattle.spec_model.specs.FsRows.{call_number}
+use Rattle.spec_model.specs.Messages.{parcels_read, messages_spelled}
+use Rattle.spec_model.specs.Steps.{NodeState}
+use Rattle.spec_rows.specs.States.{CacheEntry, Gift, Location}
+use Rattle.spec_rows.specs.Going.{ClientState, Going, next, operand_in}
+use Rattle.spec_rows.specs.ClientRow.{Walked, boot_of, call_by, drop_line, first_server_of, goes_on, most_reads, question, server_for, volume_asked, walked}
+use Rattle.spec_rows.specs.Steps.{Step}
+use Rattle.spec_copyrows.specs.Sites.{calls_round, round_in, round_or, with_client, CopyState, Round}
 use Rattle.afs_entries.specs.Cached.{in_sight, left, listed, touched_all, unlisted}
 use Rattle.afs_entries.specs.declared.cache.Fresh.{Fresh}
 use Rattle.afs_entries.specs.declared.drops.Drops.{Drops}
 use Rattle.afs_entries.specs.declared.drops.Drops.TheVariants as drops
 use Rattle.afs_asking.specs.Asking.{calling, is_giving}
 use Rattle.afs_asking.specs.Asking.{Asking}
-use Rattle.afs_cache.specs.Managing.{Makes, number_limit, placed}
+use Rattle.afs_cache.specs.Managing.{Makes, number_limit, sent_to_site}
 use Rattle.afs_cache.specs.declared.acting.Asks.{Asks}
 use Rattle.afs_cache.specs.declared.acting.Dropping.{Dropping}
 use Rattle.afs_cache.specs.declared.acting.Plan.{Plan}
@@ -110,7 +110,7 @@ but_for_these c cache busy moved = with_client c (but_for c.client cache busy mo
 -- a plan for this step behind lines that were told before, whatever the cache is by then
 abbrev pub PlansFor : (ClientState → (List Line → List Line) → Step ClientState) → List Line → NodeState CopyState → Plan → Type 0
 PlansFor step told n plan = (cache : List CacheEntry) (busy moved : ℕ) (first : List Line) →
-    Makes (placed n.node n.state (step (but_for n.state.client cache busy moved) (λ ls. first ++ (told ++ ls)))) (followed (but_for_these n.state cache busy moved) plan) (λ ls. first ++ ls) (outs_of plan)
+    Makes (sent_to_site n.node n.state (step (but_for n.state.client cache busy moved) (λ ls. first ++ (told ++ ls)))) (followed (but_for_these n.state cache busy moved) plan) (λ ls. first ++ ls) (outs_of plan)
 
 -- a plan for a call in this round
 abbrev pub PlansRound : Asking → Round → List Line → NodeState CopyState → Plan → Type 0

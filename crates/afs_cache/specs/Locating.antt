@@ -8,15 +8,15 @@ use Rattle.afs_num.specs.declared.messages.Carried.{Carried}
 use Rattle.afs_num.specs.declared.messages.Message.{Message}
 use Rattle.afs_num.specs.declared.messages.Reply.{Reply}
 use Rattle.afs_num.specs.declared.messages.Reply.TheVariants as tell
-use Rattle.afs_history.specs.declared.acts.Operand.{Operand}
-use Rattle.afs_history.specs.declared.lines.Outs.{Outs}
-use Rattle.afs_model.specs.Steps.{NodeState}
-use Rattle.afs_copyrows.specs.CopyRow.{entry_told as entry_in_message, forgotten, renewing, tells_new}
-use Rattle.afs_copyrows.specs.Sites.{CopyState}
-use Rattle.afs_rows.specs.Going.{ClientState, Going, Left, Seek, filled, operand_in, volume_at}
-use Rattle.afs_rows.specs.States.{Location}
-use Rattle.afs_rows.specs.ClientRow.{call_of, callee_of, calls_again, entry_in, given, no_entry_code, sought_ends, volume_asked, walks_on}
-use Rattle.afs_rows.specs.Steps.{Step}
+use Rattle.spec_history.specs.declared.acts.Operand.{Operand}
+use Rattle.spec_history.specs.declared.lines.Outs.{Outs}
+use Rattle.spec_model.specs.Steps.{NodeState}
+use Rattle.spec_copyrows.specs.CopyRow.{entry_told as entry_in_message, forgotten, renewing, tells_new}
+use Rattle.spec_copyrows.specs.Sites.{CopyState}
+use Rattle.spec_rows.specs.Going.{ClientState, Going, Left, Seek, filled, operand_in, volume_at}
+use Rattle.spec_rows.specs.States.{Location}
+use Rattle.spec_rows.specs.ClientRow.{call_of, callee_of, calls_again, entry_in, with_given, no_entry_code, sought_ends, volume_asked, walks_on}
+use Rattle.spec_rows.specs.Steps.{Step}
 use Rattle.afs_cache.specs.Managing.{sought_by_head, Takes}
 use Rattle.afs_asking.specs.Asking.{Asking}
 
@@ -36,15 +36,15 @@ Sought step old new r = (k : Seek) → old.state.client.seeking ≡ Some k → T
 
 -- the call that was refused is made anew, unless the table names the server that was left
 abbrev pub calls_elsewhere : Node → ClientState → ℕ → Going → Left → Step ClientState
-calls_elsewhere me c place act left = if same_node (callee_of c act) left.server then sought_ends me c (given place) left.code else calls_again me c place act
+calls_elsewhere me c place act left = if same_node (callee_of c act) left.server then sought_ends me c (with_given place) left.code else calls_again me c place act
 
 -- where the table has the number
 abbrev pub found_on : Node → ClientState → ℕ → ℕ → Seek → Option Left → Step ClientState
-found_on me c clock place k None = walks_on me c clock (given place) (filled c.table k.act) c.cache
+found_on me c clock place k None = walks_on me c clock (with_given place) (filled c.table k.act) c.cache
 found_on me c clock place k (Some left) = calls_elsewhere me c place k.act left
 
 abbrev pub found_by : Node → ClientState → ℕ → ℕ → Seek → Option ℕ → Step ClientState
-found_by me c clock place k None = sought_ends me c (given place) no_entry_code
+found_by me c clock place k None = sought_ends me c (with_given place) no_entry_code
 found_by me c clock place k (Some id) = found_on me c clock place k k.left
 
 -- once the table has the entry
@@ -54,7 +54,7 @@ goes_by_table me c clock place k = found_by me c clock place k (volume_at c.tabl
 -- where it had just that entry before
 abbrev pub goes_as_before : Node → ClientState → ℕ → ℕ → Seek → Option Left → Step ClientState
 goes_as_before me c clock place k None = goes_by_table me c clock place k
-goes_as_before me c clock place k (Some left) = sought_ends me c (given place) left.code
+goes_as_before me c clock place k (Some left) = sought_ends me c (with_given place) left.code
 
 -- ---- of the act that waits for the database
 

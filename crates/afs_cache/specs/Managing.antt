@@ -1,7 +1,7 @@
 -- What the calls of a cache manager promise.
 use Rattle.std.specs.Prelude.{◌≡◌, ℕ, List, [], Bool, false, Option, Some, None, Result, if◌then◌else◌}
-use Rattle.afs_history.specs.declared.lines.Line.{Line}
-use Rattle.afs_history.specs.declared.lines.Outs.{Outs}
+use Rattle.spec_history.specs.declared.lines.Line.{Line}
+use Rattle.spec_history.specs.declared.lines.Outs.{Outs}
 use Rattle.afs_num.specs.declared.types.Node.{Node}
 use Rattle.afs_num.specs.declared.types.Key.{Key}
 use Rattle.afs_num.specs.declared.calls.FsCall.{FsCall}
@@ -9,33 +9,33 @@ use Rattle.afs_num.specs.declared.calls.FsReply.{FsReply}
 use Rattle.afs_num.specs.declared.types.Code.{Code}
 use Rattle.afs_num.specs.declared.types.Head.{Head}
 use Rattle.afs_num.specs.declared.messages.Carried.{Carried}
-use Rattle.afs_model.specs.Steps.{NodeState}
-use Rattle.afs_rows.specs.Going.{ClientState, Going, Seek}
-use Rattle.afs_rows.specs.ClientRow.{act_of, call_of, calls_again, gives_up, ignores, is_sought, is_spent, refuses, seek_timeout_row, takes, timeout_row}
-use Rattle.afs_rows.specs.Steps.{Step}
+use Rattle.spec_model.specs.Steps.{NodeState}
+use Rattle.spec_rows.specs.Going.{ClientState, Going, Seek}
+use Rattle.spec_rows.specs.ClientRow.{act_of, call_of, calls_again, gives_up, ignores, is_sought, is_spent, refuses, seek_timeout_row, takes, timeout_row}
+use Rattle.spec_rows.specs.Steps.{Step}
 use Rattle.afs_calling.specs.Stepping as stepping
-use Rattle.afs_copyrows.specs.CopyRow.{behind_given, copy_seek_row, copy_timeout_row}
-use Rattle.afs_copyrows.specs.Sites.{as_it_is, sited, CopyState}
+use Rattle.spec_copyrows.specs.CopyRow.{behind_given, copy_seek_row, copy_timeout_row}
+use Rattle.spec_copyrows.specs.Sites.{as_it_is, sited, CopyState}
 pub use Rattle.afs_calling.specs.Calls.{number_limit}
 pub use Rattle.afs_calling.specs.Stepping.{Makes}
 
 -- ---- what a call of the program has done
 
 -- A step of the client's row, whose call of a read-only volume goes to its site. Where that is no call, it is that step.
-unfoldable pub placed : Node → CopyState → Step ClientState → Step CopyState
-placed me c s = sited me c s
+unfoldable pub sent_to_site : Node → CopyState → Step ClientState → Step CopyState
+sent_to_site me c s = sited me c s
 
 -- the client made this step, and its call went to its site; or memory was wanting, and it is as before
 abbrev pub Answers : {E : Type 0} → Step ClientState → NodeState CopyState → NodeState CopyState → Result Outs E → Type 0
-Answers step old new r = stepping.Answers (placed old.node old.state step) old new r
+Answers step old new r = stepping.Answers (sent_to_site old.node old.state step) old new r
 
 -- the same with a message
 abbrev pub Takes : {E : Type 0} → (ℕ → Step ClientState) → NodeState CopyState → NodeState CopyState → Result Outs E → Type 0
-Takes step old new r = stepping.Takes (λ place. placed old.node old.state (step place)) old new r
+Takes step old new r = stepping.Takes (λ place. sent_to_site old.node old.state (step place)) old new r
 
 -- the same behind lines that were told before
 abbrev pub Goes : {E : Type 0} → ((List Line → List Line) → Step ClientState) → List Line → NodeState CopyState → NodeState CopyState → Result Outs E → Type 0
-Goes step told old new r = stepping.Goes (λ front. placed old.node old.state (step front)) told old new r
+Goes step told old new r = stepping.Goes (λ front. sent_to_site old.node old.state (step front)) told old new r
 
 -- steps that make no call
 abbrev pub AnswersStill : {E : Type 0} → Step ClientState → NodeState CopyState → NodeState CopyState → Result Outs E → Type 0

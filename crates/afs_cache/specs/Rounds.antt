@@ -1,19 +1,19 @@
 -- What an act does whose call is in a round.
 use Rattle.std.specs.Prelude.{◌≡◌, ℕ, List, true, Option, Some, None, Result}
-use Rattle.afs_history.specs.declared.lines.Outs.{Outs}
-use Rattle.afs_ideal.specs.Tables.{Table}
-use Rattle.afs_model.specs.Steps.{NodeState}
+use Rattle.spec_history.specs.declared.lines.Outs.{Outs}
+use Rattle.spec_ideal.specs.Tables.{Table}
+use Rattle.spec_model.specs.Steps.{NodeState}
 use Rattle.afs_num.specs.Nodes.{same_node}
 use Rattle.afs_num.specs.declared.types.Head.{Head}
 use Rattle.afs_num.specs.declared.types.Node.{Node}
-use Rattle.afs_rows.specs.States.{CacheEntry}
-use Rattle.afs_rows.specs.Going.{ClientState, Going}
-use Rattle.afs_rows.specs.ClientRow.{call_of, gives_up}
-use Rattle.afs_rows.specs.Steps.{Step}
+use Rattle.spec_rows.specs.States.{CacheEntry}
+use Rattle.spec_rows.specs.Going.{ClientState, Going}
+use Rattle.spec_rows.specs.ClientRow.{call_of, gives_up}
+use Rattle.spec_rows.specs.Steps.{Step}
 use Rattle.afs_calling.specs.Stepping as stepping
-use Rattle.afs_copyrows.specs.CopyRow.{dies_at}
-use Rattle.afs_copyrows.specs.Sites.{as_it_is, round_of, CopyState, Round}
-use Rattle.afs_cache.specs.Managing.{placed}
+use Rattle.spec_copyrows.specs.CopyRow.{dies_at}
+use Rattle.spec_copyrows.specs.Sites.{as_it_is, round_of, CopyState, Round}
+use Rattle.afs_cache.specs.Managing.{sent_to_site}
 use Rattle.afs_cache.specs.Wanted.{awaited_by}
 
 -- the act that runs makes this step with a message
@@ -46,4 +46,4 @@ keeping c cache seen = record c { client = record c.client { cache = cache }; se
 
 -- it makes a step of the client's row once it keeps these
 abbrev pub KeepsThen : {E : Type 0} → List CacheEntry → Table ℕ → (ClientState → ℕ → Step ClientState) → NodeState CopyState → NodeState CopyState → Result Outs E → Type 0
-KeepsThen cache seen step old new r = stepping.Takes (λ place. placed old.node (keeping old.state cache seen) (step (keeping old.state cache seen).client place)) old new r
+KeepsThen cache seen step old new r = stepping.Takes (λ place. sent_to_site old.node (keeping old.state cache seen) (step (keeping old.state cache seen).client place)) old new r

@@ -6,15 +6,15 @@ use Rattle.afs_num.specs.declared.messages.Call.{Call}
 use Rattle.afs_num.specs.declared.messages.Call.TheVariants as ask
 use Rattle.afs_num.specs.declared.messages.Message.{Message}
 use Rattle.afs_num.specs.declared.messages.Carried.TheVariants as carried
-use Rattle.afs_model.specs.Calls.{Admitted, admitted}
+use Rattle.spec_model.specs.Calls.{Admitted, admitted}
 use Rattle.afs_num.specs.Nodes.{same_node}
-use Rattle.afs_model.specs.CellRows.{call_number}
-use Rattle.afs_model.specs.Heads.{is_zero}
-use Rattle.afs_model.specs.Calls as pairs
-use Rattle.afs_rows.specs.Going.{ClientState}
-use Rattle.afs_rows.specs.ClientRow.{breaks, ignores, refused_with, replies_step, told_step}
-use Rattle.afs_rows.specs.ServerRow.{boot_told, not_served}
-use Rattle.afs_rows.specs.Steps.{Step}
+use Rattle.spec_model.specs.CellRows.{call_number}
+use Rattle.spec_model.specs.Heads.{is_zero}
+use Rattle.spec_model.specs.Calls as pairs
+use Rattle.spec_rows.specs.Going.{ClientState}
+use Rattle.spec_rows.specs.ClientRow.{breaks, ignores, refused_with, replies_step, told_step}
+use Rattle.spec_rows.specs.ServerRow.{boot_told, not_served}
+use Rattle.spec_rows.specs.Steps.{Step}
 use Rattle.afs_cache.specs.declared.serving.Asking.{Asking}
 use Rattle.afs_cache.specs.declared.serving.Asking.TheVariants as askings
 

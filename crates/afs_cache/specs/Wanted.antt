@@ -10,10 +10,10 @@ use Rattle.afs_num.specs.declared.calls.AfsFetchStatus.{AfsFetchStatus}
 use Rattle.afs_num.specs.declared.calls.FsCall.{FsCall}
 use Rattle.afs_num.specs.declared.histories.ReadBody.TheVariants as seen
 use Rattle.afs_num.specs.declared.histories.ReadSource.TheVariants.{Fetched}
-use Rattle.afs_rows.specs.States.{CacheEntry}
-use Rattle.afs_rows.specs.Going.{ClientState, Going, with_read}
-use Rattle.afs_rows.specs.ClientRow.{call_of, calls_again, dropped, given, goes_on, ignores, is_awaited, is_older, is_trusted, look_at, looked, put_entries, put_entry, read_lines, status_look, stays, takes_plain, takes_status, with_statuses}
-use Rattle.afs_rows.specs.Steps.{Step}
+use Rattle.spec_rows.specs.States.{CacheEntry}
+use Rattle.spec_rows.specs.Going.{ClientState, Going, with_read}
+use Rattle.spec_rows.specs.ClientRow.{call_of, calls_again, dropped, with_given, goes_on, ignores, is_awaited, is_older, is_trusted, look_at, looked, put_entries, put_entry, read_lines, status_look, not_walked, takes_plain, takes_status, with_statuses}
+use Rattle.spec_rows.specs.Steps.{Step}
 use Rattle.afs_cache.specs.Managing.{hears_reply}
 pub use Rattle.afs_asking.specs.Wanted.{body_wanted, bytes_stored, fields_stored, is_gift, rights_wanted, status_wanted, statuses_wanted}
 
@@ -57,15 +57,15 @@ takes_fields me c clock place status call = fields_by me c clock place status ca
 
 abbrev pub shows_status : Node → ClientState → ℕ → ℕ → Going → CacheEntry → Step ClientState
 shows_status me c clock place act entry =
-    if is_trusted clock entry then goes_on me c (read_lines me place (look_at Fetched entry (seen.Status entry.status))) (stays (with_read entry.fid (seen.Status entry.status) act) (put_entry c.capacity entry c.cache))
+    if is_trusted clock entry then goes_on me c (read_lines me place (look_at Fetched entry (seen.Status entry.status))) (not_walked (with_read entry.fid (seen.Status entry.status) act) (put_entry c.capacity entry c.cache))
     else calls_again me c place act
 
 abbrev pub shows_statuses : Node → ClientState → ℕ → ℕ → Going → List CacheEntry → Step ClientState
 shows_statuses me c clock place act entries =
     if list_any (λ e. not (is_trusted clock e)) entries then calls_again me c place act
-    else goes_on me c (λ ls. given place (looked me (map status_look entries) ls)) (stays (with_statuses entries act) (put_entries c.capacity entries c.cache))
+    else goes_on me c (λ ls. with_given place (looked me (map status_look entries) ls)) (not_walked (with_statuses entries act) (put_entries c.capacity entries c.cache))
 
 abbrev pub shows_rights : Node → ClientState → ℕ → Going → Fid → ℕ → ℕ → List ℕ → Step ClientState
 shows_rights me c place act fid index release text =
     goes_on me c (λ ls. read_lines me place (record { fid = fid; index = index; source = Fetched; body = seen.AccessList text }) (dropped me (filter (is_older fid index release) c.cache) ls))
-    (stays (with_read fid (seen.AccessList text) act) (filter (λ e. not (is_older fid index release e)) c.cache))
+    (not_walked (with_read fid (seen.AccessList text) act) (filter (λ e. not (is_older fid index release e)) c.cache))

@@ -7,13 +7,13 @@ ghost use Rattle.std.specs.List.{All};
 ghost use Rattle.std.specs.Option.{option_copied};
 ghost use Rattle.afs_num.specs.Nodes.{IsNode};
 ghost use Rattle.afs_num.specs.declared.types.Node.TheVariants.{Server};
-ghost use Rattle.afs_copyrows.specs.CopyRow.{copy_begin_row};
-ghost use Rattle.afs_copyrows.specs.Sites.{round_or, with_client};
-ghost use Rattle.afs_model.specs.Messages.{messages_spelled, parcels_read};
-ghost use Rattle.afs_rows.specs.Going.{began, next};
-ghost use Rattle.afs_rows.specs.ClientRow.{begin_row, begins_by, boot_of, call_by, calls_step, drop_line, ends_step, gift_of, gives_all, gives_by, goes_on, in_order, put_entries, put_entry, stays, trusted_in, walks_on};
-ghost use Rattle.afs_history.specs.declared.lines.Line.TheVariants as told;
-ghost use Rattle.afs_acts.specs.Acts.{IsShortAct};
+ghost use Rattle.spec_copyrows.specs.CopyRow.{copy_begin_row};
+ghost use Rattle.spec_copyrows.specs.Sites.{round_or, with_client};
+ghost use Rattle.spec_model.specs.Messages.{messages_spelled, parcels_read};
+ghost use Rattle.spec_rows.specs.Going.{began, next};
+ghost use Rattle.spec_rows.specs.ClientRow.{begin_row, begins_by, boot_of, call_by, calls_step, drop_line, ends_step, gift_of, gives_all, gives_by, goes_on, in_order, put_entries, put_entry, not_walked, trusted_in, walks_on};
+ghost use Rattle.spec_history.specs.declared.lines.Line.TheVariants as told;
+ghost use Rattle.afs_acts.specs.Acts.{FitsCalls};
 ghost use Rattle.afs_acts.specs.Walks.{need_of};
 ghost use Rattle.afs_entries.specs.Cached.{entry_of, HasBody, touched_all};
 ghost use Rattle.afs_asking.specs.Asking.{asking_of, code_of, IsGift, is_giving};
@@ -27,11 +27,11 @@ use afs_calling::boots::boot_of;
 use afs_calling::messages::{outs_calling, quiet};
 use afs_calling::opcodes::file_opcode;
 use afs_entries::{Drops, Fresh, Gift, Sight, first_server_of, in_order};
-use afs_history::acts::{Act, SharedAct};
-use afs_history::lines::{Line, Lines, Outs};
 use afs_num::sequences::Sequence;
 use afs_num::types::{Code, Fid, Half, Head, Mem, Node};
 use afs_sites::Round;
+use spec_history::acts::{Act, SharedAct};
+use spec_history::lines::{Line, Lines, Outs};
 use std::alloc::Global;
 use std::mem::replace;
 
@@ -240,7 +240,7 @@ impl CacheManager {
 
     /// Behind these lines an act asks for this need.
     fn plan_call(&self, going: Going, need: Need, gifts: Vec<Gift>, lines: Lines) -> Mem<Plan>
-        requires short { IsShortAct going.act }
+        requires short { FitsCalls going.act }
         requires need { need_of need ≡ next going }
         requires nodes { All IsGift gifts.items }
         requires last { self.now.state.client.last < number_limit }
@@ -253,7 +253,7 @@ impl CacheManager {
 
     /// The same, where it hasn't been found yet what the act needs.
     fn plan_asking(&self, going: Going, gifts: Vec<Gift>, lines: Lines) -> Mem<Plan>
-        requires short { IsShortAct going.act }
+        requires short { FitsCalls going.act }
         requires nodes { All IsGift gifts.items }
         requires last { self.now.state.client.last < number_limit }
         ensures plan { IfOk result (λ p. PlansFor (λ d front. calls_step self.now.node (record d { gifts = gifts.items }) going front) lines self.now p) }
@@ -289,7 +289,7 @@ impl CacheManager {
 
     /// Behind these lines an act asks, and what it gives back still stays.
     fn plan_next(&self, going: Going, need: Need, lines: Lines) -> Mem<Plan>
-        requires short { IsShortAct going.act }
+        requires short { FitsCalls going.act }
         requires need { need_of need ≡ next going }
         requires last { self.now.state.client.last < number_limit }
         ensures plan { IfOk result (λ p. PlansFor (λ d front. calls_step self.now.node (record d { gifts = self.now.state.client.gifts }) going front) lines self.now p) }
@@ -301,11 +301,11 @@ impl CacheManager {
 
     /// Behind these lines an act asks, or asks where a volume is.
     fn plan_on(&self, going: Going, need: Need, lines: Lines) -> Mem<Plan>
-        requires short { IsShortAct going.act }
+        requires short { FitsCalls going.act }
         requires need { need_of need ≡ next going }
         requires none { code_of (need_of need) ≡ None }
         requires last { self.now.state.client.last < number_limit }
-        ensures plan { IfOk result (λ p. PlansFor (λ d front. goes_on self.now.node d front (stays going d.cache)) lines self.now p) }
+        ensures plan { IfOk result (λ p. PlansFor (λ d front. goes_on self.now.node d front (not_walked going d.cache)) lines self.now p) }
         ensures follows { IfOk result (CanFollow self.now.state.client.last) }
     {
         match into_operand(need) {
@@ -316,10 +316,10 @@ impl CacheManager {
 
     /// Behind these lines an act has come so far: it is answered, or asks, or asks where a volume is.
     fn plan_by(&self, going: Going, need: Need, lines: Lines) -> Mem<Plan>
-        requires short { IsShortAct going.act }
+        requires short { FitsCalls going.act }
         requires need { need_of need ≡ next going }
         requires last { self.now.state.client.last < number_limit }
-        ensures plan { IfOk result (λ p. PlansFor (λ d front. goes_on self.now.node d front (stays going d.cache)) lines self.now p) }
+        ensures plan { IfOk result (λ p. PlansFor (λ d front. goes_on self.now.node d front (not_walked going d.cache)) lines self.now p) }
         ensures follows { IfOk result (CanFollow self.now.state.client.last) }
     {
         match code_in(&need) {
@@ -330,9 +330,9 @@ impl CacheManager {
 
     /// The same, where it hasn't been found yet what the act needs.
     pub(crate) fn plan(&self, going: Going, lines: Lines) -> Mem<Plan>
-        requires short { IsShortAct going.act }
+        requires short { FitsCalls going.act }
         requires last { self.now.state.client.last < number_limit }
-        ensures plan { IfOk result (λ p. PlansFor (λ d front. goes_on self.now.node d front (stays going d.cache)) lines self.now p) }
+        ensures plan { IfOk result (λ p. PlansFor (λ d front. goes_on self.now.node d front (not_walked going d.cache)) lines self.now p) }
         ensures follows { IfOk result (CanFollow self.now.state.client.last) }
     {
         let need = next(self.alloc, &going)?;
@@ -361,7 +361,7 @@ impl CacheManager {
 
     /// Behind these lines these promises are given back, or all of them were.
     pub(crate) fn plan_giving(&self, going: Going, gifts: Vec<Gift>, lines: Lines) -> Mem<Plan>
-        requires short { IsShortAct going.act }
+        requires short { FitsCalls going.act }
         requires nodes { All IsGift gifts.items }
         requires last { self.now.state.client.last < number_limit }
         ensures plan { IfOk result (λ p. PlansFor (λ d front. gives_by self.now.node d front going gifts.items) lines self.now p) }
@@ -449,7 +449,7 @@ impl CacheManager {
         now: u32,
     ) -> Mem<Way>
         requires body { HasBody (option_copied fresh) }
-        requires short { IsShortAct going.act }
+        requires short { FitsCalls going.act }
         requires need { need_of need ≡ next going }
         requires last { self.now.state.client.last < number_limit }
         ensures { IfOk result (λ w. IsWay self.now (whole_walk now going (seen_with self.now.state.client (option_copied fresh.entry))) (seen_with self.now.state.client (option_copied fresh.entry)) lines w) }
@@ -468,7 +468,7 @@ impl CacheManager {
 
     /// An act begins to walk, behind these lines.
     fn begin_walking(&mut self, going: Going, need: Need, lines: Lines, now: u32) -> Mem<Outs>
-        requires short { IsShortAct going.act }
+        requires short { FitsCalls going.act }
         requires need { need_of need ≡ next going }
         requires last { self.old.state.client.last < number_limit }
         ensures { Goes (λ front. walks_on self.old.node (record self.old.state.client { busy = 0; moved = 0 }) now front going self.old.state.client.cache) lines self.old self.new result }
@@ -482,7 +482,7 @@ impl CacheManager {
 
     /// An act walks on, behind these lines.
     pub(crate) fn walk_on(&mut self, going: Going, need: Need, lines: Lines, now: u32) -> Mem<Outs>
-        requires short { IsShortAct going.act }
+        requires short { FitsCalls going.act }
         requires need { need_of need ≡ next going }
         requires last { self.old.state.client.last < number_limit }
         ensures { Goes (λ front. walks_on self.old.node self.old.state.client now front going self.old.state.client.cache) lines self.old self.new result }
@@ -520,7 +520,7 @@ impl CacheManager {
         now: u32,
     ) -> Mem<Outs>
         requires body { HasBody (Some fresh) }
-        requires short { IsShortAct going.act }
+        requires short { FitsCalls going.act }
         requires last { self.old.state.client.last < number_limit }
         ensures { Goes (λ front. walks_on self.old.node self.old.state.client now front going (put_entry self.old.state.client.capacity (entry_of fresh) self.old.state.client.cache)) lines self.old self.new result }
     {
@@ -532,9 +532,9 @@ impl CacheManager {
 
     /// The same, where a reply brought entries that show statuses: the act needs nothing more from the cache.
     pub(crate) fn go_with(&mut self, fresh: Vec<Fresh>, going: Going, lines: Lines) -> Mem<Outs>
-        requires short { IsShortAct going.act }
+        requires short { FitsCalls going.act }
         requires last { self.old.state.client.last < number_limit }
-        ensures { Goes (λ front. goes_on self.old.node self.old.state.client front (stays going (put_entries self.old.state.client.capacity (map entry_of fresh.items) self.old.state.client.cache))) lines self.old self.new result }
+        ensures { Goes (λ front. goes_on self.old.node self.old.state.client front (not_walked going (put_entries self.old.state.client.capacity (map entry_of fresh.items) self.old.state.client.cache))) lines self.old self.new result }
     {
         let plan = self.plan(going, lines)?;
         self.cache.put_all(fresh)?;
@@ -575,7 +575,7 @@ impl CacheManager {
 
     /// All entries that are trusted go, and then their servers are told.
     fn begin_giving(&mut self, going: Going, lines: Lines, now: u32) -> Mem<Outs>
-        requires short { IsShortAct going.act }
+        requires short { FitsCalls going.act }
         requires last { self.old.state.client.last < number_limit }
         ensures { Goes (λ front. gives_all self.old.node (record self.old.state.client { busy = 0; moved = 0 }) now going front) lines self.old self.new result }
     {
@@ -602,16 +602,16 @@ impl CacheManager {
 
     /// An act that has read nothing yet.
     fn began(&self, act: &SharedAct) -> Mem<Going>
-        requires { IsShortAct act.now }
+        requires { FitsCalls act.now }
         ensures value { IfOk result (λ g. g ≡ began self.now.state.client.table act.now) }
-        ensures short { IfOk result (λ g. IsShortAct g.act) }
+        ensures short { IfOk result (λ g. FitsCalls g.act) }
     {
         Going::began(self.alloc, &self.table, act)
     }
 
     /// What an act does first, behind the line of its begin.
     fn begin_going(&mut self, going: Going, lines: Lines, now: u32) -> Mem<Outs>
-        requires short { IsShortAct going.act }
+        requires short { FitsCalls going.act }
         requires last { self.old.state.client.last < number_limit }
         ensures { Goes (λ front. begins_by self.old.node (record self.old.state.client { busy = 0; moved = 0 }) now front going (next going)) lines self.old self.new result }
     {
@@ -626,7 +626,7 @@ impl CacheManager {
 
     /// An act begins at a client that is in no round.
     fn begin_act(&mut self, act: &Act, now: u32) -> Mem<Outs>
-        requires short { IsShortAct act.now }
+        requires short { FitsCalls act.now }
         requires last { self.old.state.client.last < number_limit }
         ensures { Answers (begin_row self.old.node self.old.state.client now act.now) self.old self.new result }
     {
@@ -646,7 +646,7 @@ impl CacheManager {
 
     /// An act begins, in no round; where memory is wanting the client is in the one that it was in.
     pub(crate) fn begin(&mut self, act: &Act, now: u32) -> Mem<Outs>
-        requires short { IsShortAct act.now }
+        requires short { FitsCalls act.now }
         requires last { self.old.state.client.last < number_limit }
         ensures { AnswersCopy (copy_begin_row self.old.node self.old.state now act.now) self.old self.new result }
     {

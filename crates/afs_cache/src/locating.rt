@@ -3,17 +3,17 @@
 ghost use Rattle.std.specs.Prelude.{◌≡◌, ◌+◌, ◌<◌, [], ◌∷◌, ◌&&◌, Some, IsSome, IsTrue, IfOk, IfSome, OnErr, OnOk, nat_lt};
 ghost use Rattle.std.specs.Option.{option_copied, option_map};
 ghost use Rattle.afs_acts.specs.Located.{Puts};
-ghost use Rattle.afs_model.specs.Calls.{last_timeout};
-ghost use Rattle.afs_model.specs.Messages.{HasSpelling, messages_spelled, parcels_read};
+ghost use Rattle.spec_model.specs.Calls.{last_timeout};
+ghost use Rattle.spec_model.specs.Messages.{HasSpelling, messages_spelled, parcels_read};
 ghost use Rattle.afs_num.specs.declared.messages.Received.TheVariants.{Whole};
 ghost use Rattle.afs_num.specs.declared.types.Node.TheVariants.{Loc as Database};
-ghost use Rattle.afs_rows.specs.Going.{filled, operand_in};
-ghost use Rattle.afs_rows.specs.ClientRow.{act_sought, asks_where, boot_of, call_of, calls_again, dead_code, entry_in, given, guest_row, is_answer, is_gone_code, located, located_by, most_moved, refuses_for_good, seeks_again, seeks_step, sought_by, sought_ends, timeout_line, volume_asked, walks_on, with_boot};
-ghost use Rattle.afs_shape.specs.Tables.{IsEntry};
-ghost use Rattle.afs_acts.specs.Acts.{IsShortAct, IsShortIfAny, IsShortOperand};
+ghost use Rattle.spec_rows.specs.Going.{filled, operand_in};
+ghost use Rattle.spec_rows.specs.ClientRow.{act_sought, asks_where, boot_of, call_of, calls_again, dead_code, entry_in, with_given, guest_row, is_answer, is_gone_code, located, located_by, most_moved, refuses_for_good, seeks_again, seeks_step, sought_by, sought_ends, timeout_line, volume_asked, walks_on, with_boot};
+ghost use Rattle.spec_shape.specs.Tables.{IsEntry};
+ghost use Rattle.afs_acts.specs.Acts.{FitsCalls, IsShortIfAny, IsShortOperand};
 ghost use Rattle.afs_cache.specs.Acting.{CanFollow, PlansFor, question_head, sought_from};
-ghost use Rattle.afs_copyrows.specs.CopyRow.{entry_told as entry_in_message, hears_by};
-ghost use Rattle.afs_copyrows.specs.Sites.{with_client};
+ghost use Rattle.spec_copyrows.specs.CopyRow.{entry_told as entry_in_message, hears_by};
+ghost use Rattle.spec_copyrows.specs.Sites.{with_client};
 ghost use Rattle.afs_cache.specs.Locating.{IsAskedAnew, Sought, calls_elsewhere, entry_answered, entry_told, filled_from, found_on, goes_as_before, goes_by_table, left_sought, operand_called, renewed_by, renewed_in, volume_sought};
 ghost use Rattle.afs_cache.specs.Managing.{AnswersStill, by_act, GoesStill, number_limit, seek_times_out, sought_by_head, Takes, TakesCopy};
 
@@ -25,11 +25,11 @@ use afs_asking::{Asked, Left, Seeking};
 use afs_call::{LAST_TIMEOUT, Timeout, timed_out};
 use afs_calling::boots::{boot_of, note_boot};
 use afs_calling::messages::{outs_calling, quiet};
-use afs_history::acts::Operand;
-use afs_history::lines::{Line, Lines, Outs};
 use afs_num::location_calls::{LocEntry, LocReply};
 use afs_num::messages::{Carried, Reply};
 use afs_num::types::{Code, Half, Head, Mem, Node};
+use spec_history::acts::Operand;
+use spec_history::lines::{Line, Lines, Outs};
 use std::mem::replace;
 
 /// No such volume is known (VL_NOENT).
@@ -135,7 +135,7 @@ impl CacheManager {
         left: Option<Left>,
         lines: Lines,
     ) -> Mem<Plan>
-        requires short { IsShortAct going.act }
+        requires short { FitsCalls going.act }
         requires operand { IsShortOperand operand }
         requires last { self.now.state.client.last < number_limit }
         ensures plan { IfOk result (λ p. PlansFor (λ d front. seeks_step self.now.node d (record { act = going; operand = operand; left = left }) d.cache front) lines self.now p) }
@@ -249,7 +249,7 @@ impl CacheManager {
 
     /// The act that waits for the database is answered.
     fn answer_seeking(&mut self, code: Code) -> Mem<Outs>
-        ensures { Takes (λ place. sought_ends self.old.node self.old.state.client (given place) code) self.old self.new result }
+        ensures { Takes (λ place. sought_ends self.old.node self.old.state.client (with_given place) code) self.old self.new result }
     {
         let lines = self.no_lines();
         self.end_seeking(code, lines)
@@ -270,7 +270,7 @@ impl CacheManager {
     fn copy_sought(&self) -> Mem<Going>
         requires { IsSome self.now.state.client.seeking }
         ensures value { IfOk result (λ g. Some g ≡ act_sought self.now.state.client.seeking) }
-        ensures short { IfOk result (λ g. IsShortAct g.act) }
+        ensures short { IfOk result (λ g. FitsCalls g.act) }
     {
         self.sought().copy_going(self.alloc)
     }
@@ -279,7 +279,7 @@ impl CacheManager {
     fn filled(&self) -> Mem<Going>
         requires { IsSome self.now.state.client.seeking }
         ensures value { IfOk result (λ g. Some g ≡ filled_from self.now.state.client.table self.now.state.client.seeking) }
-        ensures short { IfOk result (λ g. IsShortAct g.act) }
+        ensures short { IfOk result (λ g. FitsCalls g.act) }
     {
         let mut going = self.copy_sought()?;
         going.fill(&self.table);
@@ -309,7 +309,7 @@ impl CacheManager {
     fn go_located(&mut self, now: u32) -> Mem<Outs>
         requires seeks { IsSome self.old.state.client.seeking }
         requires last { self.old.state.client.last < number_limit }
-        ensures { Sought (λ place k. walks_on self.old.node self.old.state.client now (given place) (filled self.old.state.client.table k.act) self.old.state.client.cache) self.old self.new result }
+        ensures { Sought (λ place k. walks_on self.old.node self.old.state.client now (with_given place) (filled self.old.state.client.table k.act) self.old.state.client.cache) self.old self.new result }
     {
         let going = self.filled()?;
         let need = next(self.alloc, &going)?;

@@ -3,15 +3,15 @@
 ghost use Rattle.std.specs.Prelude.{◌≡◌, ◌≤◌, ◌<◌, ◌+◌, None, length, IfOk, IsSome, OnOk};
 ghost use Rattle.std.specs.List.{All};
 ghost use Rattle.afs_num.specs.Nodes.{IsNode};
-ghost use Rattle.afs_model.specs.CellRows.{client_calls};
-ghost use Rattle.afs_model.specs.Heads.{user_limit};
-ghost use Rattle.afs_model.specs.Messages.{received_by};
-ghost use Rattle.afs_rows.specs.ClientRow.{act_of, new_client};
+ghost use Rattle.spec_model.specs.CellRows.{client_calls};
+ghost use Rattle.spec_model.specs.Heads.{user_limit};
+ghost use Rattle.spec_model.specs.Messages.{received_by};
+ghost use Rattle.spec_rows.specs.ClientRow.{act_of, new_client};
 ghost use Rattle.afs_calling.specs.Stepping.{Answers, Takes};
-ghost use Rattle.afs_copyrows.specs.CopyRow.{copy_begin_row, copy_row};
-ghost use Rattle.afs_copyrows.specs.Sites.{new_copies};
-ghost use Rattle.afs_rows.specs.Runs.{locations_in};
-ghost use Rattle.afs_acts.specs.Acts.{HasServer, IsShortAct};
+ghost use Rattle.spec_copyrows.specs.CopyRow.{copy_begin_row, copy_row};
+ghost use Rattle.spec_copyrows.specs.Sites.{new_copies};
+ghost use Rattle.spec_rows.specs.Runs.{locations_in};
+ghost use Rattle.afs_acts.specs.Acts.{HasServer, FitsCalls};
 ghost use Rattle.afs_cache.specs.Managing.{copy_times_out, number_limit, waits};
 ghost use Rattle.afs_cache.specs.Lasting.{lasting};
 
@@ -20,14 +20,14 @@ use afs_asking::{Asked, Seeking};
 use afs_call::{CallTable, Caller};
 use afs_calling::boots::KnownBoot;
 use afs_entries::Cache;
-use afs_history::acts::Act;
-use afs_history::lines::Outs;
-use afs_history::scripts::VolumeLines;
 use afs_message::messages::read_message;
 use afs_message::spelled::SpelledMessage;
 use afs_num::sequences::Octets;
 use afs_num::types::{Key, Mem, Node};
 use afs_sites::{Releases, Round};
+use spec_history::acts::Act;
+use spec_history::lines::Outs;
+use spec_history::scripts::VolumeLines;
 use std::alloc::Global;
 use std::marker::Model;
 
@@ -61,8 +61,8 @@ pub struct CacheManager {
 }
 
 impl Model for CacheManager {
-    ghost use Rattle.afs_model.specs.Steps.{NodeState};
-    ghost use Rattle.afs_copyrows.specs.Sites.{CopyState};
+    ghost use Rattle.spec_model.specs.Steps.{NodeState};
+    ghost use Rattle.spec_copyrows.specs.Sites.{CopyState};
     ghost use Rattle.afs_asking.specs.Asking.{FitsClient, gifts_of, running_of};
 
     ghost Value = { NodeState CopyState };
@@ -114,7 +114,7 @@ impl CacheManager {
     pub fn act(&mut self, act: &Act, now: u32) -> Mem<Outs>
         requires idle { act_of self.old.state.client ≡ None }
         requires last { self.old.state.client.last < number_limit }
-        requires short { IsShortAct act.now }
+        requires short { FitsCalls act.now }
         ensures step { Answers (copy_begin_row self.old.node self.old.state now act.now) self.old self.new result }
         // It makes one call at most.
         ensures last { OnOk result (self.new.state.client.last ≤ self.old.state.client.last + 1) }

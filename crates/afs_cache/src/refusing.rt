@@ -1,13 +1,13 @@
 //! A call that has waited too long.
 
 ghost use Rattle.std.specs.Prelude.{◌≡◌, ◌<◌, [], ◌∷◌, IfOk};
-ghost use Rattle.afs_model.specs.Messages.{messages_spelled, parcels_read};
-ghost use Rattle.afs_rows.specs.Going.{next};
-ghost use Rattle.afs_rows.specs.ClientRow.{boot_of, call_by, timeout_line};
-ghost use Rattle.afs_ideal.specs.Operations.{volume_changed};
+ghost use Rattle.spec_model.specs.Messages.{messages_spelled, parcels_read};
+ghost use Rattle.spec_rows.specs.Going.{next};
+ghost use Rattle.spec_rows.specs.ClientRow.{boot_of, call_by, timeout_line};
+ghost use Rattle.spec_ideal.specs.Operations.{volume_changed};
 ghost use Rattle.afs_cache.specs.Acting.{changed_in, sent_to};
-ghost use Rattle.afs_copyrows.specs.CopyRow.{dies_at};
-ghost use Rattle.afs_copyrows.specs.Sites.{round_of, with_client};
+ghost use Rattle.spec_copyrows.specs.CopyRow.{dies_at};
+ghost use Rattle.spec_copyrows.specs.Sites.{round_of, with_client};
 ghost use Rattle.afs_cache.specs.Managing.{AnswersCopy, AnswersStill, copy_times_out, given_up, number_limit};
 ghost use Rattle.afs_cache.specs.Rounds.{ActAnswers, dies_by};
 
@@ -18,11 +18,11 @@ use afs_asking::Asked;
 use afs_call::{LAST_TIMEOUT, Timeout, timed_out};
 use afs_calling::boots::boot_of;
 use afs_entries::Drops;
-use afs_history::lines::{Line, Lines, Outs};
 use afs_num::calls::FsCall;
 use afs_num::sequences::Sequence;
 use afs_num::types::{Code, Mem};
 use afs_sites::Round;
+use spec_history::lines::{Line, Lines, Outs};
 
 /// The call was given up.
 pub const DEAD: Code = Code(-1);

@@ -1,17 +1,17 @@
 //! What the first site of a round answers.
 
 ghost use Rattle.std.specs.Prelude.{◌≡◌, ◌<◌, ◌||◌, ◌&&◌, [], ◌∷◌, false, nat_lt, is_some, IfOk, IsSome, None, Some};
-ghost use Rattle.afs_history.specs.declared.lines.Line.TheVariants.{Given};
-ghost use Rattle.afs_model.specs.Messages.{HasSpelling};
+ghost use Rattle.spec_history.specs.declared.lines.Line.TheVariants.{Given};
+ghost use Rattle.spec_model.specs.Messages.{HasSpelling};
 ghost use Rattle.afs_num.specs.declared.messages.Carried.TheVariants as told;
 ghost use Rattle.afs_num.specs.declared.messages.Reply.TheVariants as answered;
 ghost use Rattle.afs_entries.specs.Cached.{left};
 ghost use Rattle.afs_num.specs.Messages.{file_reply};
 ghost use Rattle.afs_num.specs.Nodes.{same_node};
-ghost use Rattle.afs_rows.specs.ClientRow.{is_busy_code, takes};
-ghost use Rattle.afs_copyrows.specs.CopyRow.{answers_at, answers_in, answers_to, by_release, offer_in, offers, refuses_at, uses_newer};
-ghost use Rattle.afs_copyrows.specs.Sites.{calls_round, leaves_site, round_of, seen_of};
-ghost use Rattle.afs_ideal.specs.Tables.{set};
+ghost use Rattle.spec_rows.specs.ClientRow.{is_busy_code, takes};
+ghost use Rattle.spec_copyrows.specs.CopyRow.{answers_at, answers_in, answers_to, by_release, offer_in, offers, refuses_at, uses_newer};
+ghost use Rattle.spec_copyrows.specs.Sites.{calls_round, leaves_site, round_of, seen_of};
+ghost use Rattle.spec_ideal.specs.Tables.{set};
 ghost use Rattle.afs_cache.specs.Wanted.{awaited_by};
 ghost use Rattle.afs_cache.specs.Managing.{by_call, number_limit, spent_by, TakesCopy, telling};
 ghost use Rattle.afs_cache.specs.Rounds.{IsHeard, KeepsThen, keeping, OfAct, round_running};
@@ -22,11 +22,11 @@ use crate::acting::Dropping;
 use crate::node::CacheManager;
 use afs_asking::is_busy;
 use afs_entries::{Cache, Drops};
-use afs_history::lines::{Lines, Outs};
 use afs_num::calls::FsReply;
 use afs_num::messages::{Carried, Reply};
 use afs_num::types::{Code, Head, Mem};
 use afs_sites::{Offered, Releases, Round, offer_in};
+use spec_history::lines::{Lines, Outs};
 use std::mem::replace;
 
 /// What a client keeps of read-only volumes once it uses a reply of a newer release: the entries that stay, and what it has seen.

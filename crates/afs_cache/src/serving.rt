@@ -2,18 +2,18 @@
 
 ghost use Rattle.std.specs.Prelude.{◌≡◌, ◌<◌, ◌||◌, [], ◌∷◌, false, map, IfOk, OnErr, OnOk, if◌then◌else◌, is_some};
 ghost use Rattle.afs_call.specs.Admitting.{means};
-ghost use Rattle.afs_model.specs.Calls.{admitted, call_seated, runs};
-ghost use Rattle.afs_model.specs.FsRows.{call_number};
-ghost use Rattle.afs_model.specs.Heads.{is_zero, IsSoundHead};
-ghost use Rattle.afs_model.specs.Messages.{HasSpelling, IsSoundReceived};
-ghost use Rattle.afs_rows.specs.ClientRow.{breaks, drop_line, guest_row, hears, is_waiting, names_act, replies_step, takes_in, told_step, without_fids};
-ghost use Rattle.afs_rows.specs.ClientRow.{done as done_by};
-ghost use Rattle.afs_rows.specs.ServerRow.{bad_fields, boot_told, not_served, replied, seat_for};
-ghost use Rattle.afs_shape.specs.Tables.{is_among};
-ghost use Rattle.afs_model.specs.CellRows.{client_calls};
+ghost use Rattle.spec_model.specs.Calls.{admitted, call_seated, runs};
+ghost use Rattle.spec_model.specs.FsRows.{call_number};
+ghost use Rattle.spec_model.specs.Heads.{is_zero, IsSoundHead};
+ghost use Rattle.spec_model.specs.Messages.{HasSpelling, IsSoundReceived};
+ghost use Rattle.spec_rows.specs.ClientRow.{breaks, drop_line, guest_row, hears, is_waiting, names_act, replies_step, takes_in, told_step, without_fids};
+ghost use Rattle.spec_rows.specs.ClientRow.{reply_carried as done_by};
+ghost use Rattle.spec_rows.specs.ServerRow.{bad_fields, boot_told, not_served, replied, seat_for};
+ghost use Rattle.spec_shape.specs.Tables.{is_among};
+ghost use Rattle.spec_model.specs.CellRows.{client_calls};
 ghost use Rattle.afs_entries.specs.Cached.{left, unlisted};
-ghost use Rattle.afs_copyrows.specs.CopyRow.{copy_row};
-ghost use Rattle.afs_copyrows.specs.Sites.{with_client};
+ghost use Rattle.spec_copyrows.specs.CopyRow.{copy_row};
+ghost use Rattle.spec_copyrows.specs.Sites.{with_client};
 ghost use Rattle.afs_cache.specs.Managing.{number_limit, Takes, TakesCopy, TakesStill};
 ghost use Rattle.afs_cache.specs.Serving.{admits_asking, IsSoundAsking, runs_asking, takes_asking};
 
@@ -22,12 +22,12 @@ use afs_asking::{is_spoiled_by_all, names_call};
 use afs_call::Admit;
 use afs_calling::messages::{boot_told, outs_with, replied};
 use afs_entries::Drops;
-use afs_history::lines::{Line, Lines, Outs};
 use afs_message::spelled::SpelledMessage;
 use afs_num::calls::{FsCall, FsReply};
 use afs_num::messages::{Call, Carried, Received, Reply};
 use afs_num::sequences::Sequence;
 use afs_num::types::{Code, Fid, Head, Mem, Node};
+use spec_history::lines::{Line, Lines, Outs};
 
 /// No such call is served here.
 const NOT_SERVED: Code = Code(-455);

@@ -1,7 +1,7 @@
 //! What answers to changing calls do to the cache.
 
 ghost use Rattle.std.specs.Prelude.{◌≡◌, ◌&&◌, filter, not, IfOk};
-ghost use Rattle.afs_rows.specs.ClientRow.{dropped, ends_step, find_cached, is_below, status_told, takes_bytes, takes_plain, takes_set, takes_status, takes_stored};
+ghost use Rattle.spec_rows.specs.ClientRow.{dropped, ends_step, find_cached, stands_below, status_told, takes_bytes, takes_plain, takes_set, takes_status, takes_stored};
 ghost use Rattle.afs_entries.specs.Cached.{drops_of, left, made_of};
 ghost use Rattle.afs_cache.specs.Managing.{by_call, Goes, Takes, telling};
 ghost use Rattle.afs_cache.specs.Wanted.{bytes_stored, call_asked, fields_stored, takes_fields, wanted_of};
@@ -11,10 +11,10 @@ use crate::acting::Dropping;
 use crate::node::CacheManager;
 use afs_asking::{bytes_stored, fields_stored, is_below, scope_of, status_told};
 use afs_entries::Drops;
-use afs_history::lines::{Lines, Outs};
 use afs_num::calls::AfsFetchStatus;
 use afs_num::sequences::Octets;
 use afs_num::types::{Code, Fid, Mem};
+use spec_history::lines::{Lines, Outs};
 
 /// Bytes that were stored, and of what.
 #[derive(Drop)]
@@ -77,7 +77,7 @@ impl CacheManager {
 
     /// Whether the body that is cached of this fid is the one that stands under this index now.
     fn keeps_body(&self, fid: &Fid, index: u32, now: u32) -> bool
-        ensures { result ≡ (not self.now.state.client.spoiled && is_below now index (find_cached fid.now self.now.state.client.cache)) }
+        ensures { result ≡ (not self.now.state.client.spoiled && stands_below now index (find_cached fid.now self.now.state.client.cache)) }
     {
         !self.spoiled && is_below(now, index, self.cache.find(fid))
     }

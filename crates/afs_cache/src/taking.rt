@@ -2,21 +2,21 @@
 
 ghost use Rattle.std.specs.Prelude.{◌≡◌, ◌+◌, ◌<◌, ℕ, [], ◌++◌, ◌∷◌, ◌&&◌, filter, map, nat_eq, nat_lt, not, Some, None, IsSome, IsTrue, IfOk, OnErr, OnOk};
 ghost use Rattle.std.specs.List.{All, list_any};
-ghost use Rattle.afs_ideal.specs.Operations.{volume_changed};
+ghost use Rattle.spec_ideal.specs.Operations.{volume_changed};
 ghost use Rattle.afs_num.specs.Nodes.{same_node};
 ghost use Rattle.afs_num.specs.declared.histories.ReadSource.TheVariants.{Fetched as WasFetched};
-ghost use Rattle.afs_history.specs.declared.lines.Line.TheVariants as told;
-ghost use Rattle.afs_model.specs.FsRows.{call_number};
-ghost use Rattle.afs_model.specs.Messages.{messages_spelled, parcels_read};
-ghost use Rattle.afs_rows.specs.Going.{next, with_read};
-ghost use Rattle.afs_rows.specs.ClientRow.{answers_step, awaits, behind_batch, body_told, booted, call_by, calls_again, counts, dropped, entries_told, entry_told, given, gives_by, goes_on, ignores, is_busy_code, is_trusted, looked, most_busy, refuses, resends_step, stays, status_look, takes, takes_bulk, takes_data, takes_entry, takes_given, takes_list, takes_shown, with_statuses};
-ghost use Rattle.afs_acts.specs.Acts.{IsShortAct};
+ghost use Rattle.spec_history.specs.declared.lines.Line.TheVariants as told;
+ghost use Rattle.spec_model.specs.FsRows.{call_number};
+ghost use Rattle.spec_model.specs.Messages.{messages_spelled, parcels_read};
+ghost use Rattle.spec_rows.specs.Going.{next, with_read};
+ghost use Rattle.spec_rows.specs.ClientRow.{answers_step, awaits, behind_batch, body_told, knows_boot, call_by, calls_again, counts, dropped, entries_told, cache_entry_told, with_given, gives_by, goes_on, ignores, is_busy_code, is_trusted, looked, most_busy, refuses, resends_step, not_walked, status_look, takes, takes_bulk, takes_data, takes_entry, takes_given, takes_list, takes_shown, with_statuses};
+ghost use Rattle.afs_acts.specs.Acts.{FitsCalls};
 ghost use Rattle.afs_entries.specs.Cached.{drops_of, entry_of, HasBody, left};
 ghost use Rattle.afs_cache.specs.Acting.{sent_to};
 ghost use Rattle.afs_cache.specs.Wanted.{awaited_by, body_wanted, call_asked, counts_reply, holds_of, is_gift, rights_wanted, shows_rights, shows_status, shows_statuses, status_wanted, statuses_wanted, wanted_of};
 ghost use Rattle.std.specs.Option.{option_copied, option_map};
-ghost use Rattle.afs_copyrows.specs.CopyRow.{offer_in};
-ghost use Rattle.afs_copyrows.specs.Sites.{with_client};
+ghost use Rattle.spec_copyrows.specs.CopyRow.{offer_in};
+ghost use Rattle.spec_copyrows.specs.Sites.{with_client};
 ghost use Rattle.afs_cache.specs.Managing.{AnswersStill, by_act, by_call, Goes, hears_refusal, hears_reply, number_limit, rests, spent_by, Takes, TakesStill, telling};
 
 use crate::acting::Dropping;
@@ -30,7 +30,6 @@ use afs_calling::boots::note_boot;
 use afs_calling::messages::quiet;
 use afs_calling::opcodes::file_opcode;
 use afs_entries::{Drops, Fresh};
-use afs_history::lines::{Line, Lines, Outs};
 use afs_num::calls::{
     AfsCallBack, AfsFetchStatus, AfsVolSync, CallBacks, FsCall, FsReply, Statuses,
 };
@@ -38,6 +37,7 @@ use afs_num::histories::{Body, ReadBody, ReadSource};
 use afs_num::messages::{Carried, Reply};
 use afs_num::sequences::{Octets, Sequence};
 use afs_num::types::{Code, Fid, Head, Mem};
+use spec_history::lines::{Line, Lines, Outs};
 
 /// So often an act asks again that was told to wait.
 const MOST_BUSY: u32 = 8;
@@ -185,7 +185,7 @@ impl CacheManager {
     /// What an act has read behind this.
     fn read_on(&self, asked: &Asked, fid: Fid, body: ReadBody) -> Mem<Going>
         ensures value { IfOk result (λ g. g ≡ with_read fid body asked.now.going) }
-        ensures short { IfOk result (λ g. IsShortAct g.act) }
+        ensures short { IfOk result (λ g. FitsCalls g.act) }
     {
         let mut going = asked.copy_going(self.alloc)?;
         going.add(fid, body)?;
@@ -203,7 +203,7 @@ impl CacheManager {
     ) -> Mem<Seen>
         ensures going { IfOk result (λ s. s.going ≡ with_read fid body asked.now.going) }
         ensures lines { IfOk result (λ s. s.lines ≡ lines ++ told.Read self.now.node fid index WasFetched body ∷ []) }
-        ensures short { IfOk result (λ s. IsShortAct s.going.act) }
+        ensures short { IfOk result (λ s. FitsCalls s.going.act) }
     {
         let mut lines = lines;
         let shown = copy_read(self.alloc, &body)?;
@@ -221,7 +221,7 @@ impl CacheManager {
         sync: &AfsVolSync,
         body: Option<Body>,
     ) -> Fresh
-        ensures value { entry_of result ≡ entry_told self.now.state.client.callee fid status.now callback.now sync.now body }
+        ensures value { entry_of result ≡ cache_entry_told self.now.state.client.callee fid status.now callback.now sync.now body }
         ensures body { IsSome body → HasBody (Some result) }
     {
         Fresh {
@@ -242,7 +242,7 @@ impl CacheManager {
         now: u32,
     ) -> Mem<Outs>
         requires last { self.old.state.client.last < number_limit }
-        ensures { Takes (λ place. telling lines (by_act self.old.state.client place (λ act. takes_entry self.old.node self.old.state.client now place act (entry_told self.old.state.client.callee fid status.now callback.now sync.now (Some (body_told status.now.file_type contents))) (ReadBody.Contents (body_told status.now.file_type contents))) self.old.state.client.running)) self.old self.new result }
+        ensures { Takes (λ place. telling lines (by_act self.old.state.client place (λ act. takes_entry self.old.node self.old.state.client now place act (cache_entry_told self.old.state.client.callee fid status.now callback.now sync.now (Some (body_told status.now.file_type contents))) (ReadBody.Contents (body_told status.now.file_type contents))) self.old.state.client.running)) self.old self.new result }
     {
         let alloc = self.alloc;
         let Some(asked) = self.running() else {
@@ -304,7 +304,7 @@ impl CacheManager {
         now: u32,
     ) -> Mem<Outs>
         requires last { self.old.state.client.last < number_limit }
-        ensures { Takes (λ place. telling lines (by_act self.old.state.client place (λ act. shows_status self.old.node self.old.state.client now place act (entry_told self.old.state.client.callee fid status.now callback.now sync.now None)) self.old.state.client.running)) self.old self.new result }
+        ensures { Takes (λ place. telling lines (by_act self.old.state.client place (λ act. shows_status self.old.node self.old.state.client now place act (cache_entry_told self.old.state.client.callee fid status.now callback.now sync.now None)) self.old.state.client.running)) self.old self.new result }
     {
         let Some(asked) = self.running() else {
             return self.ignore_behind(lines);
@@ -359,7 +359,7 @@ impl CacheManager {
     fn with_all(&self, asked: &Asked, all: &[Fresh], lines: Lines) -> Mem<Seen>
         ensures going { IfOk result (λ s. s.going ≡ with_statuses (map entry_of all.now) asked.now.going) }
         ensures lines { IfOk result (λ s. s.lines ≡ lines ++ looked self.now.node (map status_look (map entry_of all.now)) []) }
-        ensures short { IfOk result (λ s. IsShortAct s.going.act) }
+        ensures short { IfOk result (λ s. FitsCalls s.going.act) }
     {
         let mut going = asked.copy_going(self.alloc)?;
         let mut lines = lines;
@@ -428,9 +428,9 @@ impl CacheManager {
 
     /// Behind a read entries go, and the act goes on.
     fn go_dropping(&mut self, drops: &Drops, seen: Seen) -> Mem<Outs>
-        requires short { IsShortAct seen.going.act }
+        requires short { FitsCalls seen.going.act }
         requires last { self.old.state.client.last < number_limit }
-        ensures { Goes (λ front. goes_on self.old.node self.old.state.client (λ ls. front (dropped self.old.node (filter (drops_of drops.now) self.old.state.client.cache) ls)) (stays seen.going (left drops.now self.old.state.client.cache))) seen.lines self.old self.new result }
+        ensures { Goes (λ front. goes_on self.old.node self.old.state.client (λ ls. front (dropped self.old.node (filter (drops_of drops.now) self.old.state.client.cache) ls)) (not_walked seen.going (left drops.now self.old.state.client.cache))) seen.lines self.old self.new result }
     {
         let Seen { going, lines } = seen;
         let Dropping { fids, lines } = self.dropping(drops, lines)?;
@@ -485,7 +485,7 @@ impl CacheManager {
     /// What is given back behind the batch that was goes next.
     fn give_on(&mut self) -> Mem<Outs>
         requires last { self.old.state.client.last < number_limit }
-        ensures { Takes (λ place. by_act self.old.state.client place (λ act. gives_by self.old.node self.old.state.client (given place) act (behind_batch self.old.state.client.gifts)) self.old.state.client.running) self.old self.new result }
+        ensures { Takes (λ place. by_act self.old.state.client place (λ act. gives_by self.old.node self.old.state.client (with_given place) act (behind_batch self.old.state.client.gifts)) self.old.state.client.running) self.old self.new result }
     {
         let alloc = self.alloc;
         let Some(asked) = self.running() else {
@@ -643,7 +643,7 @@ impl CacheManager {
 
     /// A boot number is noted for the callee.
     fn note(&mut self, boot: u32) -> Mem<()>
-        ensures ok { OnOk result (self.new ≡ record self.old { state = with_client self.old.state (booted self.old.state.client boot) }) }
+        ensures ok { OnOk result (self.new ≡ record self.old { state = with_client self.old.state (knows_boot self.old.state.client boot) }) }
         ensures err { OnErr result (self.new ≡ self.old) }
     {
         note_boot(&mut self.boots, self.calls.callee, boot)

@@ -3,7 +3,7 @@ use Rattle.std.proofs.Common.{◌≡◌, ◌≤◌, ℕ, Bool, true, false, cond
 use Rattle.std.specs.Prelude.{nat_eq}
 use Rattle.afs_num.specs.Keyed.{HasRoom}
 use Rattle.afs_num.specs.declared.types.Head.{Head}
-use Rattle.afs_model.specs.Calls.{admitted, call_seat, paired, runs, wrong_boot, Admitted, CallSeat}
+use Rattle.spec_model.specs.Calls.{admitted, call_seat, paired, runs, wrong_boot, Admitted, CallSeat}
 
 runs_by : {R : Type 0} (b : Bool) (a : Admitted R) (boot : ℕ) → cond b a (wrong_boot boot) ≡ runs → a ≡ runs
 runs_by {R} true a boot e = e

@@ -1,5 +1,5 @@
 -- What a table of calls answers, in the words of the rules of calls.
-use Rattle.afs_model.specs.Calls.{Admitted, runs, kept, in_progress, older, wrong_boot}
+use Rattle.spec_model.specs.Calls.{Admitted, runs, kept, in_progress, older, wrong_boot}
 use Rattle.afs_call.specs.declared.seat.Admit.{Admit}
 use Rattle.afs_call.specs.declared.seat.Admit.TheVariants.{Run, Kept, InProgress, Old, WrongBoot}
 

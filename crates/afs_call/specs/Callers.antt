@@ -1,6 +1,6 @@
 -- What a caller does where its call has waited too long.
 use Rattle.std.specs.Prelude.{◌≡◌, ℕ, ◌+◌, true, false}
-use Rattle.afs_model.specs.Calls.{is_sent_again}
+use Rattle.spec_model.specs.Calls.{is_sent_again}
 use Rattle.afs_call.specs.declared.caller.Timeout.{Timeout}
 use Rattle.afs_call.specs.declared.caller.Timeout.TheVariants.{Again, Dead}
 

@@ -1,6 +1,6 @@
 ghost use Rattle.std.specs.Prelude.{◌≡◌, Some, None, nat_eq, ◌&&◌};
 ghost use Rattle.afs_num.specs.Nodes.{same_node};
-ghost use Rattle.afs_model.specs.Calls.{call_seat, compared, is_last_call, key_of, pair_below, repeated};
+ghost use Rattle.spec_model.specs.Calls.{call_seat, compared, is_last_call, key_of, pair_below, repeated};
 ghost use Rattle.afs_call.specs.Admitting.{means};
 
 use afs_num::keyed::{Keyed, find_keyed};
@@ -32,7 +32,7 @@ pub struct Seat<R: Drop> {
 }
 
 impl<R: Drop> Model for Seat<R> {
-    ghost use Rattle.afs_model.specs.Calls.{CallSeat};
+    ghost use Rattle.spec_model.specs.Calls.{CallSeat};
 
     ghost Value = { CallSeat R };
 

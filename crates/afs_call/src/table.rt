@@ -1,6 +1,6 @@
 ghost use Rattle.std.specs.Prelude.{◌≡◌, ◌+◌, ◌≤◌, [], length, Some, OnOk, OnErr};
 ghost use Rattle.afs_num.specs.Keyed.{HasRoom, KeepsRoom};
-ghost use Rattle.afs_model.specs.Calls.{Calls, runs, call_seat, call_seated, paired, admitted, started, finished};
+ghost use Rattle.spec_model.specs.Calls.{Calls, runs, call_seat, call_seated, paired, admitted, started, finished};
 ghost use Rattle.afs_call.specs.Admitting.{means};
 
 use crate::seat::{Admit, Seat, is_last, key_of};
@@ -19,7 +19,7 @@ pub struct CallTable<R: Drop> {
 impl<R: Drop> Model for CallTable<R> {
     ghost use Rattle.std.specs.Prelude.{◌-◌, length};
     ghost use Rattle.std.specs.Vec.{vec_capacity};
-    ghost use Rattle.afs_model.specs.Calls.{Calls};
+    ghost use Rattle.spec_model.specs.Calls.{Calls};
 
     ghost Value = { Calls R };
 

@@ -6,11 +6,11 @@ use Rattle.std.proofs.lemmas.List.Elements.{All-head, All-tail}
 use Rattle.afs_num.specs.Nodes.{is_between, node_number, same_node, IsNode}
 use Rattle.afs_num.specs.declared.types.Node.{Node}
 use Rattle.afs_num.specs.declared.types.Node.TheVariants.{Loc, Server, Client, Admin}
-use Rattle.afs_breaks.specs.declared.types.OwedBreak.{OwedBreak}
-use Rattle.afs_model.proofs.Basics.{both, same_node-refl}
-use Rattle.afs_rows.specs.Callbacks as row
-use Rattle.afs_rows.specs.Callbacks.{given_out, held_after, pumped, put_at, started_call, starts, starts_by, Started}
-use Rattle.afs_rows.specs.States.{BackCall}
+use Rattle.spec_breaks.specs.declared.types.OwedBreak.{OwedBreak}
+use Rattle.spec_model.proofs.Basics.{both, same_node-refl}
+use Rattle.spec_rows.specs.Callbacks as row
+use Rattle.spec_rows.specs.Callbacks.{given_out, held_after, pumped, put_at, started_call, starts, starts_by, Started}
+use Rattle.spec_rows.specs.States.{BackCall}
 use Rattle.afs_server_parts.specs.Turning.{IsBreakToNode}
 
 -- ---- nodes without an unanswered call
@@ -151,12 +151,12 @@ starts_lists me boot [] t = refl
 starts_lists me boot (o ∷ os) t = starts_lists me boot os (starts_by me boot t o (t.backs.calls o.client)) ∙ start_lists me boot t o (t.backs.calls o.client)
 
 -- the last number of a call after a step, where what it owes is to nodes
-pub pumped_draws : (me : Node) (boot : ℕ) (t : row.Turn) → All IsBreakToNode t.backs.lists.owed → (pumped me boot t).backs.last_call ≤ t.backs.last_call + 29
+pub pumped_draws : (me : Node) (boot : ℕ) (t : row.CallbackStep) → All IsBreakToNode t.backs.lists.owed → (pumped me boot t).backs.last_call ≤ t.backs.last_call + 29
 pumped_draws me boot t to =
     let drawn = starts_draw me boot t.backs.lists.owed (record { backs = held_after t; sent = given_out t }) to in
     let most = few t.backs.calls in
     omega (arith, drawn, most)
 
 -- what is promised and owed is as before its end
-pub pumped_lists : (me : Node) (boot : ℕ) (t : row.Turn) → (pumped me boot t).backs.lists ≡ t.backs.lists
+pub pumped_lists : (me : Node) (boot : ℕ) (t : row.CallbackStep) → (pumped me boot t).backs.lists ≡ t.backs.lists
 pumped_lists me boot t = starts_lists me boot t.backs.lists.owed (record { backs = held_after t; sent = given_out t })

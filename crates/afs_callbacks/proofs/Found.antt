@@ -6,10 +6,10 @@ use Rattle.afs_num.specs.Fids.{same_fid}
 use Rattle.afs_num.specs.Nodes.{same_node}
 use Rattle.afs_num.specs.declared.types.Fid.{Fid}
 use Rattle.afs_num.specs.declared.types.Node.{Node}
-use Rattle.afs_ideal.proofs.Basics.{same_fid-refl, same_fid-true}
-use Rattle.afs_model.proofs.Basics.{same_node-refl, same_node-true}
-use Rattle.afs_breaks.specs.Promises.{expired, grants_all, hits, is_hit, is_promise, lasting, left, with_promises, withdrawn, withdraws, without_promise, Lists}
-use Rattle.afs_breaks.specs.declared.types.Promise.{Promise}
+use Rattle.spec_ideal.proofs.Basics.{same_fid-refl, same_fid-true}
+use Rattle.spec_model.proofs.Basics.{same_node-refl, same_node-true}
+use Rattle.spec_breaks.specs.Promises.{expired, grants_all, hits, is_hit, is_promise, lasting, left, with_promises, withdrawn, withdraws, without_promise, Lists}
+use Rattle.spec_breaks.specs.declared.types.Promise.{Promise}
 use Rattle.afs_promise.specs.Found.{without_found}
 use Rattle.afs_callbacks.specs.Saving.{hits_each, withdraws_each}
 use Rattle.afs_callbacks.proofs.Granting.{filters_swap, grants_last}

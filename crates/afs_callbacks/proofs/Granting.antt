@@ -7,13 +7,13 @@ use Rattle.std.proofs.lemmas.List.Elements.{filter-append, All-filter, All-push}
 use Rattle.afs_num.specs.Nodes.{IsNode}
 use Rattle.afs_num.specs.declared.types.Fid.{Fid}
 use Rattle.afs_num.specs.declared.types.Node.{Node}
-use Rattle.afs_breaks.specs.Promises.{expired, gives_up, grants_all, is_promise, lasting, with_promise, with_promises, without_promise, Lists}
-use Rattle.afs_breaks.specs.declared.types.Promise.{Promise}
-use Rattle.afs_history.specs.declared.lines.Line.{Line}
-use Rattle.afs_ideal.specs.Operations.{Found}
-use Rattle.afs_rows.specs.Callbacks.{fids_found, gives_up_all, grants_found}
-use Rattle.afs_rows.specs.ServerRow as row
-use Rattle.afs_rows.specs.ServerRow.{granted}
+use Rattle.spec_breaks.specs.Promises.{expired, gives_up, grants_all, is_promise, lasting, with_promise, with_promises, without_promise, Lists}
+use Rattle.spec_breaks.specs.declared.types.Promise.{Promise}
+use Rattle.spec_history.specs.declared.lines.Line.{Line}
+use Rattle.spec_ideal.specs.Operations.{Found}
+use Rattle.spec_rows.specs.Callbacks.{fids_found, gives_up_all, grants_found}
+use Rattle.spec_rows.specs.ServerRow as row
+use Rattle.spec_rows.specs.ServerRow.{granted}
 use Rattle.afs_callees.specs.Telling.{grant_line, grants_seen}
 use Rattle.afs_callees.specs.declared.telling.Grant.{Grant}
 use Rattle.afs_callbacks.specs.States.{IsPromiseToNode}

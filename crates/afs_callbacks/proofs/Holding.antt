@@ -5,11 +5,11 @@ use Rattle.std.proofs.lemmas.List.{length-append}
 use Rattle.afs_num.specs.declared.messages.Message.{Message}
 use Rattle.afs_num.specs.declared.types.Fid.{Fid}
 use Rattle.afs_num.specs.declared.types.Node.{Node}
-use Rattle.afs_breaks.specs.Promises.{expired, grants_all, is_promise, with_promise, with_promises, without_promise, Lists}
-use Rattle.afs_breaks.specs.declared.types.OwedBreak.{OwedBreak}
-use Rattle.afs_breaks.specs.declared.types.Promise.{Promise}
-use Rattle.afs_rows.specs.Callbacks.{alls, no_turn, numbers}
-use Rattle.afs_rows.specs.States.{Backs}
+use Rattle.spec_breaks.specs.Promises.{expired, grants_all, is_promise, with_promise, with_promises, without_promise, Lists}
+use Rattle.spec_breaks.specs.declared.types.OwedBreak.{OwedBreak}
+use Rattle.spec_breaks.specs.declared.types.Promise.{Promise}
+use Rattle.spec_rows.specs.Callbacks.{alls, no_turn, break_numbers}
+use Rattle.spec_rows.specs.States.{Backs}
 use Rattle.afs_server_parts.specs.Turning.{backs_with, IsTurn, answer_turn}
 use Rattle.afs_server_parts.specs.declared.turns.Turn.{Turn}
 use Rattle.afs_server_parts.proofs.Turning.{backs_of}
@@ -18,15 +18,15 @@ use Rattle.afs_callbacks.proofs.Withdrawn.{filter_few}
 
 -- the turn of a reply that is held, as the code makes it: with any promises that owe the breaks
 abbrev pub Holds : Message → List OwedBreak → Turn → Turn → Type 0
-Holds reply os t u = (l : Lists) → l.owed ≡ t.owed.items ++ os → IsTurn (answer_turn reply (numbers os ++ alls t.owed.items) false (backs_with l t.held t.calls)) u
+Holds reply os t u = (l : Lists) → l.owed ≡ t.owed.items ++ os → IsTurn (answer_turn reply (break_numbers os ++ alls t.owed.items) false (backs_with l t.held t.calls)) u
 
 pub held_with : (reply : Message) (os : List OwedBreak) (b : Backs) (l : Lists) (t u : Turn) → IsTurn (no_turn b) t → l.owed ≡ b.lists.owed ++ os → Holds reply os t u →
-    IsTurn (answer_turn reply (numbers os ++ alls b.lists.owed) false (with_lists l b)) u
+    IsTurn (answer_turn reply (break_numbers os ++ alls b.lists.owed) false (with_lists l b)) u
 held_with reply os b l t u is e holds =
     let owed : b.lists.owed ≡ t.owed.items = is.owed in
     let first = holds l (e ∙ ap (λ (xs : List OwedBreak). xs ++ os) owed) in
-    let second = subst (λ (x : Backs). IsTurn (answer_turn reply (numbers os ++ alls t.owed.items) false x) u) (ap (with_lists l) (backs_of b t is)) first in
-    subst (λ (xs : List OwedBreak). IsTurn (answer_turn reply (numbers os ++ alls xs) false (with_lists l b)) u) (sym owed) second
+    let second = subst (λ (x : Backs). IsTurn (answer_turn reply (break_numbers os ++ alls t.owed.items) false x) u) (ap (with_lists l) (backs_of b t is)) first in
+    subst (λ (xs : List OwedBreak). IsTurn (answer_turn reply (break_numbers os ++ alls xs) false (with_lists l b)) u) (sym owed) second
 
 -- ---- the numbers of breaks
 

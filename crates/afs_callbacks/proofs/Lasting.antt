@@ -2,11 +2,11 @@
 use Rattle.std.proofs.Common.{◌≡◌, ℕ, Bool, true, false, cond, not, List, [], ◌∷◌, nat_lt, nat_eq, refl, sym, subst}
 use Rattle.std.specs.List.{All}
 use Rattle.std.proofs.lemmas.List.Elements.{All-filter}
-use Rattle.afs_breaks.specs.Promises.{ends, lasting, lasting_breaks, without_break, Lists}
-use Rattle.afs_breaks.specs.declared.types.OwedBreak.{OwedBreak}
-use Rattle.afs_breaks.specs.declared.types.Promise.{Promise}
-use Rattle.afs_rows.specs.Callbacks.{ends_all}
-use Rattle.afs_rows.specs.States.{BackCall}
+use Rattle.spec_breaks.specs.Promises.{break_ended, lasting, lasting_breaks, without_break, Lists}
+use Rattle.spec_breaks.specs.declared.types.OwedBreak.{OwedBreak}
+use Rattle.spec_breaks.specs.declared.types.Promise.{Promise}
+use Rattle.spec_rows.specs.Callbacks.{ends_all}
+use Rattle.spec_rows.specs.States.{BackCall}
 use Rattle.afs_server_parts.specs.Turning.{breaks_left, IsBreakToNode}
 use Rattle.afs_server_parts.proofs.Turning.{ends_owed}
 use Rattle.afs_callbacks.specs.Waiting.{lists_timed}
@@ -22,7 +22,7 @@ left_to_nodes (b ∷ bs) os h = left_to_nodes bs (without_break b.number os) (Al
 -- breaks that end take no promise away
 pub ended_promises : (bs : List OwedBreak) (l : Lists) → (ends_all bs l).promises ≡ l.promises
 ended_promises [] l = refl
-ended_promises (b ∷ bs) l = ended_promises bs (ends b.number l)
+ended_promises (b ∷ bs) l = ended_promises bs (break_ended b.number l)
 
 pub ended_to_nodes : (bs : List OwedBreak) (l : Lists) → All IsBreakToNode l.owed → All IsBreakToNode (ends_all bs l).owed
 ended_to_nodes bs l h = subst (All IsBreakToNode) (sym (ends_owed bs l)) (left_to_nodes bs l.owed h)

@@ -3,8 +3,8 @@ use Rattle.std.proofs.Common.{◌≡◌, ◌<◌, ◌+◌, ◌-◌, ℕ, suc, Op
 use Rattle.std.proofs.lemmas.Bool.{lt-leb}
 use Rattle.afs_num.specs.Nodes.{IsNode}
 use Rattle.afs_num.specs.declared.types.Node.TheVariants.{Client}
-use Rattle.afs_breaks.specs.Promises.{owes_all, Lists}
-use Rattle.afs_rows.specs.Callbacks.{owed_to_clients}
+use Rattle.spec_breaks.specs.Promises.{owes_all, Lists}
+use Rattle.spec_rows.specs.Callbacks.{owed_to_clients}
 
 abbrev some : {A : Type 0} → A → Option A
 some x = Some x

@@ -1,19 +1,20 @@
 -- A change has a record.
+use Rattle.spec_model.specs.Calls.{key_of}
 use Rattle.std.proofs.Common.{◌≡◌, ◌<◌, ◌^◌, ℕ, true, List, [], ◌∷◌, length, Some, refl, arith, lit<, ne_eqb}
 use Rattle.std.specs.List.{AllByRecursion}
-use Rattle.afs_ideal.specs.Images.{Image}
-use Rattle.afs_ideal.specs.VnodeImage.{image_words, FitsImage}
+use Rattle.spec_ideal.specs.Images.{Image}
+use Rattle.spec_ideal.specs.VnodeImage.{image_words, FitsImage}
 use Rattle.afs_num.specs.Nodes.{node_number, IsNode}
 use Rattle.afs_num.specs.declared.records.RecordBody.TheVariants as bodies
 use Rattle.afs_num.specs.declared.types.Head.{Head}
 use Rattle.afs_num.specs.declared.types.Node.{Node}
 use Rattle.afs_num.specs.declared.types.Node.TheVariants.{Admin, Client, Loc, Server}
 use Rattle.afs_xdr.specs.Words.{AreWords}
-use Rattle.afs_rows.specs.ServerRow.{is_client, key_of}
-use Rattle.afs_records.specs.Changes.{keeping}
-use Rattle.afs_records.specs.Forms.{HasImageForm}
-use Rattle.afs_records.specs.Records.{caller_form, head_form, FitsRecord}
-use Rattle.afs_records.proofs.Callers.{caller_fits}
+use Rattle.spec_rows.specs.ServerRow.{is_client}
+use Rattle.spec_records.specs.Changes.{keeping}
+use Rattle.spec_records.specs.Forms.{HasImageForm}
+use Rattle.spec_records.specs.Records.{caller_form, head_form, FitsRecord}
+use Rattle.spec_records.proofs.Callers.{caller_fits}
 use Rattle.afs_callbacks.specs.Saving.{HasKind}
 
 formed : (vs : List Image) → AllByRecursion FitsImage vs → AllByRecursion (λ (v : Image). AreWords (image_words v)) vs → AllByRecursion HasKind vs → AllByRecursion HasImageForm vs

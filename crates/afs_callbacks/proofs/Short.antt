@@ -10,12 +10,12 @@ use Rattle.afs_num.specs.declared.messages.Carried.TheVariants as carried
 use Rattle.afs_num.specs.declared.messages.Reply.TheVariants as tell
 use Rattle.afs_num.specs.declared.types.Head.{Head}
 use Rattle.afs_xdr.specs.Words.{word, words}
-use Rattle.afs_shape.specs.Spelling.{callback_words, field_spelled, fields_spelled, fid_words, status_words, sync_words}
-use Rattle.afs_shape.specs.declared.kinds.Field.{Field}
-use Rattle.afs_shape.specs.declared.kinds.Field.TheVariants as fields
-use Rattle.afs_model.specs.Heads.{head_words, signed}
-use Rattle.afs_model.specs.Messages.{spelled}
-use Rattle.afs_rows.specs.ServerRow.{promise_until, promised_in, replied, reply_head}
+use Rattle.spec_shape.specs.Spelling.{callback_words, field_spelled, fields_spelled, fid_words, status_words, sync_words}
+use Rattle.spec_shape.specs.declared.kinds.Field.{Field}
+use Rattle.spec_shape.specs.declared.kinds.Field.TheVariants as fields
+use Rattle.spec_model.specs.Heads.{head_words, signed_word}
+use Rattle.spec_model.specs.Messages.{spelled}
+use Rattle.spec_rows.specs.ServerRow.{promise_until, promised_in, replied, reply_head}
 use Rattle.afs_callbacks.specs.Saving.{IsChanged}
 
 words_long : (ns : List ℕ) → length (words ns) ≡ 4 * length ns
@@ -74,19 +74,19 @@ short_by ns n fs eight five small =
 
 pub reply_short : (boot : ℕ) (head : Head) (expiry : ℕ) (reply : FsReply) → IsChanged reply → length (spelled (replied boot head (carried.Reply (tell.File (promised_in expiry reply))))) < 2 ^ 32
 unfolding spelled
-reply_short boot head expiry (replies.StoreData status sync) is = short_by (head_words (reply_head boot head)) (signed (pos 0)) (fields.FetchStatus status ∷ fields.VolSync sync ∷ []) (omega arith) (omega arith) (tt, (tt, tt))
-reply_short boot head expiry (replies.StoreAcl status sync) is = short_by (head_words (reply_head boot head)) (signed (pos 0)) (fields.FetchStatus status ∷ fields.VolSync sync ∷ []) (omega arith) (omega arith) (tt, (tt, tt))
-reply_short boot head expiry (replies.StoreStatus status sync) is = short_by (head_words (reply_head boot head)) (signed (pos 0)) (fields.FetchStatus status ∷ fields.VolSync sync ∷ []) (omega arith) (omega arith) (tt, (tt, tt))
-reply_short boot head expiry (replies.RemoveFile directory sync) is = short_by (head_words (reply_head boot head)) (signed (pos 0)) (fields.FetchStatus directory ∷ fields.VolSync sync ∷ []) (omega arith) (omega arith) (tt, (tt, tt))
+reply_short boot head expiry (replies.StoreData status sync) is = short_by (head_words (reply_head boot head)) (signed_word (pos 0)) (fields.FetchStatus status ∷ fields.VolSync sync ∷ []) (omega arith) (omega arith) (tt, (tt, tt))
+reply_short boot head expiry (replies.StoreAcl status sync) is = short_by (head_words (reply_head boot head)) (signed_word (pos 0)) (fields.FetchStatus status ∷ fields.VolSync sync ∷ []) (omega arith) (omega arith) (tt, (tt, tt))
+reply_short boot head expiry (replies.StoreStatus status sync) is = short_by (head_words (reply_head boot head)) (signed_word (pos 0)) (fields.FetchStatus status ∷ fields.VolSync sync ∷ []) (omega arith) (omega arith) (tt, (tt, tt))
+reply_short boot head expiry (replies.RemoveFile directory sync) is = short_by (head_words (reply_head boot head)) (signed_word (pos 0)) (fields.FetchStatus directory ∷ fields.VolSync sync ∷ []) (omega arith) (omega arith) (tt, (tt, tt))
 reply_short boot head expiry (replies.CreateFile fid status directory callback sync) is =
-    short_by (head_words (reply_head boot head)) (signed (pos 0)) (fields.Fid fid ∷ fields.FetchStatus status ∷ fields.FetchStatus directory ∷ fields.CallBack (promise_until expiry) ∷ fields.VolSync sync ∷ []) (omega arith) (omega arith) (tt, (tt, (tt, (tt, (tt, tt)))))
-reply_short boot head expiry (replies.Rename old new sync) is = short_by (head_words (reply_head boot head)) (signed (pos 0)) (fields.FetchStatus old ∷ fields.FetchStatus new ∷ fields.VolSync sync ∷ []) (omega arith) (omega arith) (tt, (tt, (tt, tt)))
+    short_by (head_words (reply_head boot head)) (signed_word (pos 0)) (fields.Fid fid ∷ fields.FetchStatus status ∷ fields.FetchStatus directory ∷ fields.CallBack (promise_until expiry) ∷ fields.VolSync sync ∷ []) (omega arith) (omega arith) (tt, (tt, (tt, (tt, (tt, tt)))))
+reply_short boot head expiry (replies.Rename old new sync) is = short_by (head_words (reply_head boot head)) (signed_word (pos 0)) (fields.FetchStatus old ∷ fields.FetchStatus new ∷ fields.VolSync sync ∷ []) (omega arith) (omega arith) (tt, (tt, (tt, tt)))
 reply_short boot head expiry (replies.Symlink fid status directory sync) is =
-    short_by (head_words (reply_head boot head)) (signed (pos 0)) (fields.Fid fid ∷ fields.FetchStatus status ∷ fields.FetchStatus directory ∷ fields.VolSync sync ∷ []) (omega arith) (omega arith) (tt, (tt, (tt, (tt, tt))))
-reply_short boot head expiry (replies.Link status directory sync) is = short_by (head_words (reply_head boot head)) (signed (pos 0)) (fields.FetchStatus status ∷ fields.FetchStatus directory ∷ fields.VolSync sync ∷ []) (omega arith) (omega arith) (tt, (tt, (tt, tt)))
+    short_by (head_words (reply_head boot head)) (signed_word (pos 0)) (fields.Fid fid ∷ fields.FetchStatus status ∷ fields.FetchStatus directory ∷ fields.VolSync sync ∷ []) (omega arith) (omega arith) (tt, (tt, (tt, (tt, tt))))
+reply_short boot head expiry (replies.Link status directory sync) is = short_by (head_words (reply_head boot head)) (signed_word (pos 0)) (fields.FetchStatus status ∷ fields.FetchStatus directory ∷ fields.VolSync sync ∷ []) (omega arith) (omega arith) (tt, (tt, (tt, tt)))
 reply_short boot head expiry (replies.MakeDir fid status directory callback sync) is =
-    short_by (head_words (reply_head boot head)) (signed (pos 0)) (fields.Fid fid ∷ fields.FetchStatus status ∷ fields.FetchStatus directory ∷ fields.CallBack (promise_until expiry) ∷ fields.VolSync sync ∷ []) (omega arith) (omega arith) (tt, (tt, (tt, (tt, (tt, tt)))))
-reply_short boot head expiry (replies.RemoveDir directory sync) is = short_by (head_words (reply_head boot head)) (signed (pos 0)) (fields.FetchStatus directory ∷ fields.VolSync sync ∷ []) (omega arith) (omega arith) (tt, (tt, tt))
+    short_by (head_words (reply_head boot head)) (signed_word (pos 0)) (fields.Fid fid ∷ fields.FetchStatus status ∷ fields.FetchStatus directory ∷ fields.CallBack (promise_until expiry) ∷ fields.VolSync sync ∷ []) (omega arith) (omega arith) (tt, (tt, (tt, (tt, (tt, tt)))))
+reply_short boot head expiry (replies.RemoveDir directory sync) is = short_by (head_words (reply_head boot head)) (signed_word (pos 0)) (fields.FetchStatus directory ∷ fields.VolSync sync ∷ []) (omega arith) (omega arith) (tt, (tt, tt))
 reply_short boot head expiry (replies.FetchData contents status callback sync) is = absurd is
 reply_short boot head expiry (replies.FetchAcl acl status sync) is = absurd is
 reply_short boot head expiry (replies.FetchStatus status callback sync) is = absurd is

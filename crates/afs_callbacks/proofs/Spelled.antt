@@ -8,12 +8,12 @@ use Rattle.afs_num.specs.declared.calls.FsReply.TheVariants as replies
 use Rattle.afs_num.specs.declared.messages.Carried.TheVariants as carried
 use Rattle.afs_num.specs.declared.messages.Reply.TheVariants as tell
 use Rattle.afs_num.specs.declared.types.Head.{Head}
-use Rattle.afs_shape.specs.Rows.{IsWithin}
-use Rattle.afs_shape.specs.Tables.{IsCount}
-use Rattle.afs_model.specs.CellRows.{cell_replies, reply_number}
-use Rattle.afs_model.specs.Heads.{is_zero, IsSoundHead}
-use Rattle.afs_model.specs.Messages.{HasSpelling}
-use Rattle.afs_rows.specs.ServerRow.{boot_told, promised_in, promise_until, refusal, replied}
+use Rattle.spec_shape.specs.Rows.{IsWithin}
+use Rattle.spec_shape.specs.Tables.{IsCount}
+use Rattle.spec_model.specs.CellRows.{cell_replies, reply_number}
+use Rattle.spec_model.specs.Heads.{is_zero, IsSoundHead}
+use Rattle.spec_model.specs.Messages.{HasSpelling}
+use Rattle.spec_rows.specs.ServerRow.{boot_told, promised_in, promise_until, refusal, replied}
 
 pub told_spelled : (boot : ℕ) (head : Head) → IsSoundHead head → HasSpelling (boot_told boot head)
 told_spelled boot head h = ((h.1, h.0), refl)

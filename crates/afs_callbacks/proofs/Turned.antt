@@ -1,17 +1,17 @@
 -- Turns in which a message goes out or a reply is given, and what they leave of the promises.
 use Rattle.std.proofs.Common.{◌≡◌, ℕ, Bool, true, false, cond, ◌&&◌, List, [], Option, Some, None, refl, ap, subst, ◌∙◌}
 use Rattle.afs_num.specs.declared.messages.Message.{Message}
-use Rattle.afs_breaks.specs.Promises.{Lists}
-use Rattle.afs_rows.specs.Callbacks as row
-use Rattle.afs_rows.specs.Callbacks.{asked_again, is_ready, no_turn, repeats_by}
-use Rattle.afs_rows.specs.States.{Backs, Held}
+use Rattle.spec_breaks.specs.Promises.{Lists}
+use Rattle.spec_rows.specs.Callbacks as row
+use Rattle.spec_rows.specs.Callbacks.{asked_again, is_ready, no_turn, repeats_by}
+use Rattle.spec_rows.specs.States.{Backs, Held}
 use Rattle.afs_server_parts.specs.Turning.{backs_with, IsTurn}
 use Rattle.afs_server_parts.specs.declared.turns.Turn.{Turn}
 use Rattle.afs_server_parts.proofs.Turning.{backs_of}
 use Rattle.afs_callbacks.specs.Answering.{with_lists}
 
 -- with any promises that owe what lasts
-pub answered_with : (f : Backs → row.Turn) (b : Backs) (l : Lists) (t u : Turn) → IsTurn (no_turn b) t → l.owed ≡ b.lists.owed → ((k : Lists) → k.owed ≡ t.owed.items → IsTurn (f (backs_with k t.held t.calls)) u) →
+pub answered_with : (f : Backs → row.CallbackStep) (b : Backs) (l : Lists) (t u : Turn) → IsTurn (no_turn b) t → l.owed ≡ b.lists.owed → ((k : Lists) → k.owed ≡ t.owed.items → IsTurn (f (backs_with k t.held t.calls)) u) →
     IsTurn (f (with_lists l b)) u
 answered_with f b l t u is e h = subst (λ (x : Backs). IsTurn (f x) u) (ap (with_lists l) (backs_of b t is)) (h l (e ∙ is.owed))
 

@@ -6,12 +6,12 @@ use Rattle.std.specs.Ordering.{is_lt}
 use Rattle.std.proofs.lemmas.List.Elements.{All-cons, All-filter, All-head, All-nil, All-tail}
 use Rattle.afs_num.specs.Fids.{fid_order}
 use Rattle.afs_num.specs.declared.messages.Message.{Message}
-use Rattle.afs_breaks.specs.Promises.{by_fid, expired, hits_on, is_on, lasting, owes_from, placed, Lists}
-use Rattle.afs_breaks.specs.declared.types.OwedBreak.{OwedBreak}
-use Rattle.afs_breaks.specs.declared.types.Promise.{Promise}
-use Rattle.afs_rows.specs.Callbacks.{no_turn}
-use Rattle.afs_rows.specs.States.{Backs}
-use Rattle.afs_volrows.specs.VolSteps.{owes_of}
+use Rattle.spec_breaks.specs.Promises.{by_fid, expired, hits_on, promise_on_volume, lasting, owes_from, promise_put, Lists}
+use Rattle.spec_breaks.specs.declared.types.OwedBreak.{OwedBreak}
+use Rattle.spec_breaks.specs.declared.types.Promise.{Promise}
+use Rattle.spec_rows.specs.Callbacks.{no_turn}
+use Rattle.spec_rows.specs.States.{Backs}
+use Rattle.spec_volrows.specs.VolSteps.{owes_of}
 use Rattle.afs_server_parts.specs.Turning.{backs_with, sent_turns, IsTurn}
 use Rattle.afs_server_parts.specs.declared.turns.Turn.{Turn}
 use Rattle.afs_server_parts.proofs.Turning.{backs_of}
@@ -31,7 +31,7 @@ on_few : (volume : Option ℕ) (ps : List Promise) → length (promises_on volum
 on_few None ps = omega arith
 on_few (Some id) ps =
     let all = by_fid_long (hits_on id ps) in
-    let few = filter_few (is_on id) ps in
+    let few = filter_few (promise_on_volume id) ps in
     omega (arith, all, few)
 
 pub on_draws : (volume : Option ℕ) (now : ℕ) (l : Lists) (ps : List Promise) → ps ≡ promises_on volume (lasting now l.promises) → l.last_owed + length l.promises < 4000000000 → l.last_owed + length ps < 4000000000
@@ -52,9 +52,9 @@ placed_by : (t : Bool) (p q : Promise) (qs rest : List Promise) → IsPromiseToN
 placed_by true p q qs rest one all later = All-cons IsPromiseToNode q rest (All-head IsPromiseToNode q qs all) later
 placed_by false p q qs rest one all later = All-cons IsPromiseToNode p (q ∷ qs) one all
 
-placed_to_nodes : (p : Promise) (qs : List Promise) → IsPromiseToNode p → All IsPromiseToNode qs → All IsPromiseToNode (placed p qs)
+placed_to_nodes : (p : Promise) (qs : List Promise) → IsPromiseToNode p → All IsPromiseToNode qs → All IsPromiseToNode (promise_put p qs)
 placed_to_nodes p [] one all = All-cons IsPromiseToNode p [] one all
-placed_to_nodes p (q ∷ qs) one all = placed_by (is_lt (fid_order q.fid p.fid)) p q qs (placed p qs) one all (placed_to_nodes p qs one (All-tail IsPromiseToNode q qs all))
+placed_to_nodes p (q ∷ qs) one all = placed_by (is_lt (fid_order q.fid p.fid)) p q qs (promise_put p qs) one all (placed_to_nodes p qs one (All-tail IsPromiseToNode q qs all))
 
 by_fid_to_nodes : (ps : List Promise) → All IsPromiseToNode ps → All IsPromiseToNode (by_fid ps)
 by_fid_to_nodes [] all = all
@@ -62,7 +62,7 @@ by_fid_to_nodes (p ∷ ps) all = placed_to_nodes p (by_fid ps) (All-head IsPromi
 
 on_to_nodes : (volume : Option ℕ) (ps : List Promise) → All IsPromiseToNode ps → All IsPromiseToNode (promises_on volume ps)
 on_to_nodes None ps all = All-nil IsPromiseToNode
-on_to_nodes (Some id) ps all = by_fid_to_nodes (hits_on id ps) (All-filter (is_on id) IsPromiseToNode ps all)
+on_to_nodes (Some id) ps all = by_fid_to_nodes (hits_on id ps) (All-filter (promise_on_volume id) IsPromiseToNode ps all)
 
 pub found_to_nodes : (volume : Option ℕ) (now : ℕ) (ps : List Promise) → All IsPromiseToNode ps → All IsPromiseToNode (promises_on volume (lasting now ps))
 found_to_nodes volume now ps all = on_to_nodes volume (lasting now ps) (All-filter (λ (p : Promise). nat_lt now p.expiry) IsPromiseToNode ps all)

@@ -14,16 +14,16 @@ use Rattle.afs_num.specs.declared.calls.FsReply.TheVariants as replies
 use Rattle.afs_num.specs.declared.histories.Version.{Version}
 use Rattle.afs_num.specs.declared.types.Fid.{Fid}
 use Rattle.afs_num.specs.declared.types.Node.{Node}
-use Rattle.afs_ideal.specs.Operations.{Caller}
-use Rattle.afs_ideal.specs.Replies.{change_reply}
-use Rattle.afs_ideal.specs.Volumes.{Volume}
-use Rattle.afs_ideal.proofs.Basics.{same_fid-refl, same_fid-true}
-use Rattle.afs_model.proofs.Basics.{same_node-refl, same_node-true}
-use Rattle.afs_breaks.specs.Promises.{expired, grants_all, hits, is_hit, is_promise, left, lasting, owes_from, with_promise, with_promises, withdraws, without_promise, Lists}
-use Rattle.afs_breaks.specs.declared.types.OwedBreak.{OwedBreak}
-use Rattle.afs_breaks.specs.declared.types.Promise.{Promise}
-use Rattle.afs_rows.specs.Callbacks.{fids_found, new_owes, withdraws_all}
-use Rattle.afs_rows.specs.ServerRow.{granted_new}
+use Rattle.spec_ideal.specs.Operations.{Caller}
+use Rattle.spec_ideal.specs.Replies.{change_reply}
+use Rattle.spec_ideal.specs.Volumes.{Volume}
+use Rattle.spec_ideal.proofs.Basics.{same_fid-refl, same_fid-true}
+use Rattle.spec_model.proofs.Basics.{same_node-refl, same_node-true}
+use Rattle.spec_breaks.specs.Promises.{expired, grants_all, hits, is_hit, is_promise, left, lasting, owes_from, with_promise, with_promises, withdraws, without_promise, Lists}
+use Rattle.spec_breaks.specs.declared.types.OwedBreak.{OwedBreak}
+use Rattle.spec_breaks.specs.declared.types.Promise.{Promise}
+use Rattle.spec_rows.specs.Callbacks.{fids_found, new_owes, withdraws_all}
+use Rattle.spec_rows.specs.ServerRow.{granted_new}
 use Rattle.afs_callees.specs.Telling.{grants_seen}
 use Rattle.afs_server_parts.specs.Turning.{IsBreakToNode}
 use Rattle.afs_callbacks.specs.Saving.{breaks_new, fids_changed, fids_granted, has_fid, hits_each, hits_fresh, new_grants, withdraws_each}

@@ -5,22 +5,22 @@ use Rattle.afs_num.specs.declared.messages.Carried.TheVariants as carried
 use Rattle.afs_num.specs.declared.messages.Message.{Message}
 use Rattle.afs_num.specs.declared.messages.Reply.TheVariants as tell
 use Rattle.afs_num.specs.declared.types.Head.{Head}
-use Rattle.afs_history.specs.declared.lines.Line.{Line}
-use Rattle.afs_breaks.specs.Promises.{lasting_breaks, Lists}
-use Rattle.afs_breaks.specs.declared.types.OwedBreak.{OwedBreak}
+use Rattle.spec_history.specs.declared.lines.Line.{Line}
+use Rattle.spec_breaks.specs.Promises.{lasting_breaks, Lists}
+use Rattle.spec_breaks.specs.declared.types.OwedBreak.{OwedBreak}
 use Rattle.afs_message.specs.Spelled.{Spells}
-use Rattle.afs_rows.specs.Callbacks as row
-use Rattle.afs_rows.specs.Callbacks.{alls, no_turn, numbers}
-use Rattle.afs_rows.specs.ServerRow.{promised_in, replied}
-use Rattle.afs_rows.specs.States.{Backs}
+use Rattle.spec_rows.specs.Callbacks as row
+use Rattle.spec_rows.specs.Callbacks.{alls, no_turn, break_numbers}
+use Rattle.spec_rows.specs.ServerRow.{promised_in, replied}
+use Rattle.spec_rows.specs.States.{Backs}
 use Rattle.afs_server_parts.specs.Ending.{IsPlan}
 use Rattle.afs_server_parts.specs.declared.ending.Ended.{Ended}
 use Rattle.afs_server_parts.specs.declared.turns.Stand.{Stand}
 use Rattle.afs_server_parts.specs.Turning.{answer_turn}
 use Rattle.afs_callbacks.specs.States.{backs_at, CallbackState}
-use Rattle.afs_shape.specs.Rows.{IsWithin}
-use Rattle.afs_model.specs.CellRows.{cell_replies, reply_number}
-use Rattle.afs_model.specs.Heads.{IsSoundHead}
+use Rattle.spec_shape.specs.Rows.{IsWithin}
+use Rattle.spec_model.specs.CellRows.{cell_replies, reply_number}
+use Rattle.spec_model.specs.Heads.{IsSoundHead}
 
 -- with these promises and owed breaks
 abbrev pub with_lists : Lists → Backs → Backs
@@ -54,4 +54,4 @@ IsRepliedNow s k now reply ls e bytes = IsReplied s k reply (lasting_breaks now 
 -- it waits for these breaks, which are owed from now on, and for those on all
 abbrev pub IsRepliedAfter : Stand → CallbackState → ℕ → Message → List OwedBreak → List Line → Ended → List ℕ → Type 0
 IsRepliedAfter s k now reply breaks ls e bytes =
-    IsReplied s k reply (lasting_breaks now k.lists.owed ++ breaks) (numbers breaks ++ alls (lasting_breaks now k.lists.owed)) ls e bytes
+    IsReplied s k reply (lasting_breaks now k.lists.owed ++ breaks) (break_numbers breaks ++ alls (lasting_breaks now k.lists.owed)) ls e bytes

@@ -3,8 +3,8 @@ use Rattle.std.specs.Prelude.{ℕ, Bool, ◌&&◌, Option, Some, None, if◌then
 use Rattle.afs_num.specs.Nodes.{same_node}
 use Rattle.afs_num.specs.declared.types.Head.{Head}
 use Rattle.afs_num.specs.declared.types.Node.{Node}
-use Rattle.afs_rows.specs.Callbacks.{is_back_awaited}
-use Rattle.afs_rows.specs.States.{BackCall}
+use Rattle.spec_rows.specs.Callbacks.{is_back_awaited}
+use Rattle.spec_rows.specs.States.{BackCall}
 
 -- the message is for this server, and is to this call
 abbrev pub is_heard : Node → ℕ → Head → BackCall → Bool

@@ -1,4 +1,5 @@
 -- What a change withdraws and grants, and what it comes to.
+use Rattle.spec_model.specs.Calls.{key_of}
 use Rattle.std.specs.Prelude.{◌≡◌, ℕ, ◌+◌, List, [], ◌∷◌, ◌++◌, length, map, true, Bool, if◌then◌else◌, ◌<◌, ◌^◌}
 use Rattle.std.specs.List.{list_any, AllByRecursion}
 use Rattle.afs_num.specs.Fids.{same_fid}
@@ -11,15 +12,15 @@ use Rattle.afs_num.specs.declared.types.Fid.{Fid}
 use Rattle.afs_num.specs.declared.types.Head.{Head}
 use Rattle.afs_num.specs.declared.types.Node.{Node}
 use Rattle.afs_num.specs.declared.volumes.Change.{Change}
-use Rattle.afs_history.specs.declared.lines.Line.{Line}
-use Rattle.afs_history.specs.declared.lines.Line.TheVariants as lines
-use Rattle.afs_breaks.specs.Promises.{hits, lasting, left, owes_from, withdraws, Lists}
-use Rattle.afs_breaks.specs.declared.types.OwedBreak.{OwedBreak}
-use Rattle.afs_breaks.specs.declared.types.Promise.{Promise}
-use Rattle.afs_records.specs.Changes.{keeping}
-use Rattle.afs_records.specs.Records.{FitsRecord}
-use Rattle.afs_rows.specs.Callbacks.{owe_line}
-use Rattle.afs_rows.specs.ServerRow.{key_of, versioned}
+use Rattle.spec_history.specs.declared.lines.Line.{Line}
+use Rattle.spec_history.specs.declared.lines.Line.TheVariants as lines
+use Rattle.spec_breaks.specs.Promises.{hits, lasting, left, owes_from, withdraws, Lists}
+use Rattle.spec_breaks.specs.declared.types.OwedBreak.{OwedBreak}
+use Rattle.spec_breaks.specs.declared.types.Promise.{Promise}
+use Rattle.spec_records.specs.Changes.{keeping}
+use Rattle.spec_records.specs.Records.{FitsRecord}
+use Rattle.spec_rows.specs.Callbacks.{owe_line}
+use Rattle.spec_rows.specs.ServerRow.{versioned}
 use Rattle.afs_callees.specs.Telling.{grant_line}
 use Rattle.afs_callees.specs.declared.telling.Grant.{Grant}
 use Rattle.afs_server_parts.specs.declared.turns.Stand.{Stand}
@@ -28,7 +29,7 @@ use Rattle.afs_callbacks.specs.declared.saving.Planned.{Planned}
 use Rattle.afs_num.specs.declared.calls.AfsFetchStatus.{AfsFetchStatus}
 use Rattle.afs_num.specs.declared.vnodes.Vnode as image
 use Rattle.afs_num.specs.declared.volumes.Change as made
-use Rattle.afs_ideal.specs.VnodeImage.{kind_fits, FitsImage}
+use Rattle.spec_ideal.specs.VnodeImage.{kind_fits, FitsImage}
 use Rattle.afs_callbacks.specs.States.{CallbackState}
 
 -- ---- what a change is, so that it has a record

@@ -3,12 +3,12 @@ use Rattle.std.specs.Prelude.{ℕ, List, [], map}
 use Rattle.std.specs.List.{All}
 use Rattle.afs_num.specs.Nodes.{IsNode}
 use Rattle.afs_num.specs.declared.types.Node.{Node}
-use Rattle.afs_breaks.specs.declared.types.OwedBreak.{OwedBreak}
-use Rattle.afs_breaks.specs.declared.types.Promise.{Promise}
-use Rattle.afs_breaks.specs.Promises.{Lists, no_lists}
-use Rattle.afs_rows.specs.Callbacks as row
-use Rattle.afs_rows.specs.Callbacks.{first_backs, owe_line}
-use Rattle.afs_rows.specs.States.{Backs, Held}
+use Rattle.spec_breaks.specs.declared.types.OwedBreak.{OwedBreak}
+use Rattle.spec_breaks.specs.declared.types.Promise.{Promise}
+use Rattle.spec_breaks.specs.Promises.{Lists, no_lists}
+use Rattle.spec_rows.specs.Callbacks as row
+use Rattle.spec_rows.specs.Callbacks.{first_backs, owe_line}
+use Rattle.spec_rows.specs.States.{Backs, Held}
 use Rattle.afs_callees.specs.Called.{call_to, known_to, AreGoodCalls, Callee}
 use Rattle.afs_server_parts.specs.Turning.{IsBreakToNode}
 use Rattle.afs_server_parts.specs.declared.turns.Stand.{Stand}
@@ -33,7 +33,7 @@ backs_by k s now = row.expired now (backs_at k s.last)
 -- ---- a server that begins again
 
 -- with these breaks on all
-abbrev pub risen_with : Node → Lists → row.Turn
+abbrev pub risen_with : Node → Lists → row.CallbackStep
 risen_with me l = record { backs = record first_backs { lists = l }; lines = map (owe_line me) l.owed; sent = []; outs = [] }
 
 -- ---- whose they are

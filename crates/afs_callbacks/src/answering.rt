@@ -1,10 +1,10 @@
 //! What comes of answers to calls that change nothing on the disk.
 
 ghost use Rattle.std.specs.Prelude.{◌≡◌, [], false, IfOk, OnOk};
-ghost use Rattle.afs_model.specs.Heads.{is_zero, IsSoundHead};
-ghost use Rattle.afs_breaks.specs.Promises.{expired, lasting_breaks, Lists};
-ghost use Rattle.afs_rows.specs.Callbacks.{gives_up_all, held_under, key_answered, repeats_by};
-ghost use Rattle.afs_rows.specs.ServerRow.{boot_told, given_up_read, read_reply_to, refusal};
+ghost use Rattle.spec_model.specs.Heads.{is_zero, IsSoundHead};
+ghost use Rattle.spec_breaks.specs.Promises.{expired, lasting_breaks, Lists};
+ghost use Rattle.spec_rows.specs.Callbacks.{gives_up_all, held_under, key_answered, repeats_by};
+ghost use Rattle.spec_rows.specs.ServerRow.{boot_told, given_up_read, read_reply_to, refusal};
 ghost use Rattle.afs_server_parts.specs.Ending.{IsPlanOf};
 ghost use Rattle.afs_server_parts.specs.Turning.{IsFresh, IsReady, answer_turn, sent_turn, Goes};
 ghost use Rattle.afs_callbacks.specs.Answering.{reply_told, IsAnswer, IsRepliedNow, CanTell};

@@ -2,9 +2,9 @@
 
 ghost use Rattle.std.specs.Prelude.{◌≡◌, ◌++◌, ◌<◌, ◌+◌, [], length, IfOk, OnOk};
 ghost use Rattle.std.specs.List.{All};
-ghost use Rattle.afs_breaks.specs.Promises.{expired, lasting, lasting_breaks, withdraws_volume, Lists};
-ghost use Rattle.afs_rows.specs.Callbacks.{alls, numbers};
-ghost use Rattle.afs_volrows.specs.VolSteps.{owes_of, withdraws_from};
+ghost use Rattle.spec_breaks.specs.Promises.{expired, lasting, lasting_breaks, withdraws_volume, Lists};
+ghost use Rattle.spec_rows.specs.Callbacks.{alls, break_numbers};
+ghost use Rattle.spec_volrows.specs.VolSteps.{owes_of, withdraws_from};
 ghost use Rattle.afs_server_parts.specs.Ending.{IsPlan};
 ghost use Rattle.afs_server_parts.specs.Turning.{backs_with, sent_turns, IsBreakToNode, IsFresh, IsReady, IsTurn};
 ghost use Rattle.afs_callbacks.specs.Answering.{with_lists};
@@ -13,13 +13,13 @@ ghost use Rattle.afs_callbacks.specs.States.{backs_at, IsPromiseToNode, IsToNode
 
 use crate::callbacks::{Callbacks, lasting_breaks};
 use crate::saving::{new_breaks, waits_for};
-use afs_breaks::types::{OwedBreak, Promise};
 use afs_message::spelled::Sent;
 use afs_num::sequences::Sequence;
 use afs_num::types::Mem;
 use afs_promise::Promises;
 use afs_server_parts::ending::Ended;
 use afs_server_parts::turns::{Stand, Turn};
+use spec_breaks::types::{OwedBreak, Promise};
 use std::alloc::Global;
 
 /// The promises that go where those on this volume are withdrawn, or those on none.
@@ -92,7 +92,7 @@ impl Callbacks {
 
     /// What a reply waits for that owes these breaks: these, and those on all.
     pub fn waits_for(&self, breaks: &[OwedBreak], now: u32) -> Mem<Sequence<u32>>
-        ensures { IfOk result (λ ws. ws ≡ numbers breaks.now ++ alls (lasting_breaks now self.now.lists.owed)) }
+        ensures { IfOk result (λ ws. ws ≡ break_numbers breaks.now ++ alls (lasting_breaks now self.now.lists.owed)) }
     {
         let owed = self.owed_at(now)?;
         let waits = waits_for(self.alloc, breaks, &owed)?;

@@ -1,14 +1,13 @@
 //! A file server's callbacks: what it promised, owes, calls and holds back.
 
 ghost use Rattle.std.specs.Prelude.{◌≡◌, ◌≤◌, IfOk, []};
-ghost use Rattle.afs_breaks.specs.Promises.{lasting_breaks, expired};
-ghost use Rattle.afs_rows.specs.Callbacks.{no_turn};
+ghost use Rattle.spec_breaks.specs.Promises.{lasting_breaks, expired};
+ghost use Rattle.spec_rows.specs.Callbacks.{no_turn};
 ghost use Rattle.afs_server_parts.specs.Turning.{IsFresh, IsReady, IsTurn};
 ghost use Rattle.afs_callbacks.specs.States.{backs_by, no_callbacks, IsToNodes};
 ghost use Rattle.std.specs.Option.{option_copied};
 ghost use Rattle.afs_callees.specs.Called.{call_to};
 
-use afs_breaks::types::OwedBreak;
 use afs_callees::callees::find_call;
 use afs_num::sequences::Sequence;
 use afs_num::types::{Mem, Node};
@@ -16,6 +15,7 @@ use afs_promise::Promises;
 use afs_server_parts::calling::{BreakCall, BreakCallee};
 use afs_server_parts::held::HeldReply;
 use afs_server_parts::turns::{Stand, Turn};
+use spec_breaks::types::OwedBreak;
 use std::alloc::Global;
 use std::marker::Model;
 

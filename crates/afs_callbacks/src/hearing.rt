@@ -1,21 +1,21 @@
 //! What comes of replies and notices to a server's own calls.
 
 ghost use Rattle.std.specs.Prelude.{◌≡◌, IfOk};
-ghost use Rattle.afs_breaks.specs.Promises.{expired};
-ghost use Rattle.afs_rows.specs.Callbacks.{ends_all, is_back_awaited, renews, settles};
+ghost use Rattle.spec_breaks.specs.Promises.{expired};
+ghost use Rattle.spec_rows.specs.Callbacks.{ends_all, is_back_awaited, renews, settles};
 ghost use Rattle.afs_callees.specs.Called.{call_to, IsGoodCall};
 ghost use Rattle.afs_server_parts.specs.Ending.{IsPlanOf};
 ghost use Rattle.afs_callbacks.specs.Hearing.{heard_by, is_heard};
 ghost use Rattle.afs_callbacks.specs.States.{backs_by, IsToNodes};
 
 use crate::callbacks::Callbacks;
-use afs_breaks::types::OwedBreak;
 use afs_callees::callees::find_call;
 use afs_num::types::{Head, Mem, Node};
 use afs_promise::Promises;
 use afs_server_parts::calling::{BreakCall, breaks_opcode};
 use afs_server_parts::ending::Ended;
 use afs_server_parts::turns::Stand;
+use spec_breaks::types::OwedBreak;
 
 /// Whether a reply or a notice of this header is to this call of a server in this boot.
 fn is_awaited(boot: u32, call: &BreakCall, head: &Head) -> bool

@@ -3,18 +3,18 @@
 ghost use Rattle.std.specs.Prelude.{◌≡◌, ◌≤◌, ◌+◌, [], IfOk};
 ghost use Rattle.std.specs.List.{All};
 ghost use Rattle.afs_num.specs.Nodes.{IsNode};
-ghost use Rattle.afs_breaks.specs.Promises.{no_lists};
-ghost use Rattle.afs_rows.specs.Callbacks.{owed_to_clients};
+ghost use Rattle.spec_breaks.specs.Promises.{no_lists};
+ghost use Rattle.spec_rows.specs.Callbacks.{owed_to_clients};
 ghost use Rattle.afs_server_parts.specs.Ending.{IsPlanOf};
 ghost use Rattle.afs_server_parts.specs.Turning.{IsBreakToNode};
 ghost use Rattle.afs_callbacks.specs.States.{risen_with};
 
-use afs_breaks::types::OwedBreak;
 use afs_callees::telling::tell_owed;
 use afs_num::types::{Mem, Node};
 use afs_promise::Promises;
 use afs_server_parts::ending::Ended;
 use afs_server_parts::turns::{Stand, Turn};
+use spec_breaks::types::OwedBreak;
 use std::alloc::Global;
 
 /// Each client of the cell, of which there are so many, is owed a break on all until this time.

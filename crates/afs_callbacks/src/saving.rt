@@ -1,18 +1,19 @@
 //! What a change comes to before the disk is touched: its record, and what it withdraws, grants and owes.
 
+ghost use Rattle.spec_model.specs.Calls.{key_of};
 ghost use Rattle.std.specs.Prelude.{◌≡◌, ◌≤◌, ◌<◌, ◌+◌, ◌^◌, ◌∷◌, ◌++◌, [], Some, false, true, length, IfOk, OnOk, OnErr};
 ghost use Rattle.std.specs.List.{All, AllByRecursion};
 ghost use Rattle.afs_num.specs.Nodes.{IsNode};
 ghost use Rattle.afs_num.specs.declared.records.RecordBody.TheVariants as bodies;
-ghost use Rattle.afs_ideal.specs.VnodeImage.{image_words, FitsImage};
+ghost use Rattle.spec_ideal.specs.VnodeImage.{image_words, FitsImage};
 ghost use Rattle.afs_xdr.specs.Words.{AreWords};
-ghost use Rattle.afs_history.specs.declared.lines.Line.TheVariants as lines;
-ghost use Rattle.afs_breaks.specs.Promises.{expired, lasting, lasting_breaks, owes_from, withdrawn, Lists, grants_all};
-ghost use Rattle.afs_records.specs.Changes.{keeping};
-ghost use Rattle.afs_records.specs.Records.{FitsRecord};
+ghost use Rattle.spec_history.specs.declared.lines.Line.TheVariants as lines;
+ghost use Rattle.spec_breaks.specs.Promises.{expired, lasting, lasting_breaks, owes_from, withdrawn, Lists, grants_all};
+ghost use Rattle.spec_records.specs.Changes.{keeping};
+ghost use Rattle.spec_records.specs.Records.{FitsRecord};
 ghost use Rattle.afs_promise.specs.Found.{without_found};
-ghost use Rattle.afs_rows.specs.Callbacks.{alls, numbers};
-ghost use Rattle.afs_rows.specs.ServerRow.{is_client, key_of, versioned};
+ghost use Rattle.spec_rows.specs.Callbacks.{alls, break_numbers};
+ghost use Rattle.spec_rows.specs.ServerRow.{is_client, versioned};
 ghost use Rattle.afs_server_parts.specs.Turning.{backs_with, IsBreakToNode, IsFresh, IsReady, IsTurn, answer_turn};
 ghost use Rattle.afs_callbacks.specs.Answering.{reply_told, IsAnswer, IsRepliedAfter, CanTell};
 ghost use Rattle.afs_callbacks.specs.Saving.{CanBeWritten, HasKind, breaks_new, fids_changed, fids_granted, has_fid, hits_each, hits_fresh, hits_new, new_grants, saved_lines, IsPlanned};
@@ -20,10 +21,8 @@ ghost use Rattle.afs_callbacks.specs.States.{IsPromiseToNode, IsToNodes};
 
 use crate::answering::{Replied, reply_told};
 use crate::callbacks::Callbacks;
-use afs_breaks::types::{OwedBreak, Promise};
 use afs_callees::replies::key;
 use afs_callees::telling::{Grant, tell_grants, tell_owed};
-use afs_history::lines::{Line, Lines};
 use afs_message::spelled::SpelledMessage;
 use afs_num::calls::{AfsFetchStatus, FsReply};
 use afs_num::histories::{Version, Versions};
@@ -36,6 +35,8 @@ use afs_promise::Promises;
 use afs_server_parts::ending::Ended;
 use afs_server_parts::turns::{Stand, Turn};
 use afs_server_parts::words::are_words;
+use spec_breaks::types::{OwedBreak, Promise};
+use spec_history::lines::{Line, Lines};
 use std::alloc::Global;
 
 /// A promise lasts so many ticks.
@@ -254,7 +255,7 @@ pub(crate) fn new_breaks(
 
 /// Adds the numbers of breaks.
 fn add_numbers(waits: &mut Sequence<u32>, breaks: &[OwedBreak]) -> Mem<()>
-    ensures { OnOk result (waits.new ≡ waits.old ++ numbers breaks.now) }
+    ensures { OnOk result (waits.new ≡ waits.old ++ break_numbers breaks.now) }
 {
     for one in breaks {
         waits.push(one.number)?;
@@ -280,7 +281,7 @@ pub(crate) fn waits_for(
     breaks: &[OwedBreak],
     owed: &[OwedBreak],
 ) -> Mem<Sequence<u32>>
-    ensures { IfOk result (λ ws. ws ≡ numbers breaks.now ++ alls owed.now) }
+    ensures { IfOk result (λ ws. ws ≡ break_numbers breaks.now ++ alls owed.now) }
 {
     let mut waits = Sequence::new(alloc);
     add_numbers(&mut waits, breaks)?;
@@ -419,7 +420,7 @@ fn change_record(
 /// A reply waits for these breaks, which are then owed, and for those on all that are owed before.
 fn hold(alloc: Global, turn: &mut Turn, reply: SpelledMessage, breaks: &[OwedBreak]) -> Mem<()>
     requires fresh { IsFresh turn.old }
-    ensures turn { OnOk result ((l : Lists) → l.owed ≡ turn.old.owed.items ++ breaks.now → IsTurn (answer_turn reply (numbers breaks.now ++ alls turn.old.owed.items) false (backs_with l turn.old.held turn.old.calls)) turn.new) }
+    ensures turn { OnOk result ((l : Lists) → l.owed ≡ turn.old.owed.items ++ breaks.now → IsTurn (answer_turn reply (break_numbers breaks.now ++ alls turn.old.owed.items) false (backs_with l turn.old.held turn.old.calls)) turn.new) }
     ensures stand { turn.new.stand ≡ turn.old.stand }
     ensures ready { OnOk result (IsReady turn.old → All IsBreakToNode breaks.now → IsReady turn.new) }
 {
@@ -440,7 +441,7 @@ impl Callbacks {
     ) -> Mem<Ended>
         requires nodes { IsToNodes stand.node self.now }
         requires clients { All IsBreakToNode breaks.now }
-        ensures { IfOk result (IsAnswer stand self.now reply (lasting_breaks now self.now.lists.owed ++ breaks.now) (numbers breaks.now ++ alls (lasting_breaks now self.now.lists.owed)) []) }
+        ensures { IfOk result (IsAnswer stand self.now reply (lasting_breaks now self.now.lists.owed ++ breaks.now) (break_numbers breaks.now ++ alls (lasting_breaks now self.now.lists.owed)) []) }
     {
         let mut turn = self.turn(stand, now)?;
         hold(self.alloc, &mut turn, reply, breaks)?;

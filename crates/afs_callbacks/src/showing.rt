@@ -1,8 +1,8 @@
 //! What comes of it that a reading call is told what it asked, and what is promised with that.
 
 ghost use Rattle.std.specs.Prelude.{◌≡◌, map, IfOk, OnErr, OnOk};
-ghost use Rattle.afs_breaks.specs.Promises.{grants_all};
-ghost use Rattle.afs_rows.specs.ServerRow.{granted, replied};
+ghost use Rattle.spec_breaks.specs.Promises.{grants_all};
+ghost use Rattle.spec_rows.specs.ServerRow.{granted, replied};
 ghost use Rattle.afs_callees.specs.Telling.{grant_line};
 ghost use Rattle.afs_callees.specs.declared.telling.Grant as told;
 ghost use Rattle.afs_callbacks.specs.Answering.{reply_told, IsRepliedNow, CanTell};
@@ -12,11 +12,11 @@ use crate::answering::{Replied, reply_told};
 use crate::callbacks::Callbacks;
 use crate::saving::fids_granted;
 use afs_callees::telling::{Grant, tell_grants};
-use afs_history::lines::Lines;
 use afs_num::calls::FsReply;
 use afs_num::types::{Head, Mem, Node};
 use afs_promise::Promises;
 use afs_server_parts::turns::Stand;
+use spec_history::lines::Lines;
 use std::alloc::Global;
 use std::slice::from_ref;
 

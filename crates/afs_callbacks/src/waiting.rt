@@ -1,21 +1,21 @@
 //! What comes of it that a server's own call waits too long, and that time passes.
 
 ghost use Rattle.std.specs.Prelude.{◌≡◌, IfOk};
-ghost use Rattle.afs_breaks.specs.Promises.{expired};
-ghost use Rattle.afs_rows.specs.Callbacks.{ends_all, no_turn, timed};
+ghost use Rattle.spec_breaks.specs.Promises.{expired};
+ghost use Rattle.spec_rows.specs.Callbacks.{ends_all, no_turn, call_timed_out};
 ghost use Rattle.afs_callees.specs.Called.{IsGoodCall};
 ghost use Rattle.afs_server_parts.specs.Ending.{IsPlanOf};
 ghost use Rattle.afs_callbacks.specs.States.{backs_by, IsToNodes};
 ghost use Rattle.afs_callbacks.specs.Waiting.{lists_timed};
 
 use crate::callbacks::Callbacks;
-use afs_breaks::types::OwedBreak;
 use afs_call::{Timeout, timed_out};
 use afs_num::types::{Mem, Node};
 use afs_promise::Promises;
 use afs_server_parts::calling::BreakCall;
 use afs_server_parts::ending::Ended;
 use afs_server_parts::turns::Stand;
+use spec_breaks::types::OwedBreak;
 
 /// These breaks are given up.
 fn quit_all(promises: &mut Promises, breaks: &[OwedBreak])
@@ -52,7 +52,7 @@ impl Callbacks {
     pub fn plan_timeout(&self, stand: Stand, callee: Node, call: &BreakCall, now: u32) -> Mem<Ended>
         requires nodes { IsToNodes stand.node self.now }
         requires good { IsGoodCall callee call.now }
-        ensures { IfOk result (IsPlanOf stand (timed stand.node stand.boot callee call.now (backs_by self.now stand now))) }
+        ensures { IfOk result (IsPlanOf stand (call_timed_out stand.node stand.boot callee call.now (backs_by self.now stand now))) }
     {
         let mut turn = self.turn(stand, now)?;
         turn.time_out(self.alloc, callee, call)?;

@@ -3,10 +3,10 @@ use Rattle.std.proofs.Common.{◌≡◌, ℕ, Bool, true, false, cond, not, List
 use Rattle.afs_num.specs.Keyed.{other_keyed, put_last}
 use Rattle.afs_num.specs.Nodes.{same_node}
 use Rattle.afs_num.specs.declared.types.Node.{Node}
-use Rattle.afs_model.proofs.Basics.{exact_node, node_apart, same_node-refl, same_node-true}
-use Rattle.afs_model.proofs.Keyed.{at_last, found_left}
-use Rattle.afs_rows.specs.Callbacks.{put_at}
-use Rattle.afs_rows.specs.States.{BackCall, Unanswered}
+use Rattle.spec_model.proofs.Basics.{exact_node, node_apart, same_node-refl, same_node-true}
+use Rattle.spec_model.proofs.Keyed.{at_last, found_left}
+use Rattle.spec_rows.specs.Callbacks.{put_at}
+use Rattle.spec_rows.specs.States.{BackCall, Unanswered}
 use Rattle.afs_callees.specs.Called.{call_by, call_to, callee_at, Callee, known_by, known_to, node_called, AreGood, IsGoodOrNone}
 
 fun_ext : {A B : Type 0} (f g : A → B) → ((x : A) → f x ≡ g x) → f ≡ g

@@ -3,9 +3,9 @@ use Rattle.std.specs.Prelude.{◌≤◌, ℕ, List, length, Option, Some, None}
 use Rattle.afs_num.specs.Nodes.{same_node, IsNode}
 use Rattle.afs_num.specs.Keyed.{keyed}
 use Rattle.afs_num.specs.declared.types.Node.{Node}
-use Rattle.afs_breaks.specs.declared.types.OwedBreak.{OwedBreak}
-use Rattle.afs_rows.specs.Callbacks.{most_breaks}
-use Rattle.afs_rows.specs.States.{BackCall, Unanswered}
+use Rattle.spec_breaks.specs.declared.types.OwedBreak.{OwedBreak}
+use Rattle.spec_rows.specs.Callbacks.{most_breaks}
+use Rattle.spec_rows.specs.States.{BackCall, Unanswered}
 
 -- a node that was called: its boot number as known, and the unanswered call
 pub record Callee (C : Type 0) : Type 0 where

@@ -1,9 +1,9 @@
 -- The lines of what a reply grants.
 use Rattle.std.specs.Prelude.{ℕ, List, map}
 use Rattle.afs_num.specs.declared.types.Node.{Node}
-use Rattle.afs_history.specs.declared.lines.Line.{Line}
-use Rattle.afs_history.specs.declared.lines.Line.TheVariants as lines
-use Rattle.afs_ideal.specs.Operations.{Found}
+use Rattle.spec_history.specs.declared.lines.Line.{Line}
+use Rattle.spec_history.specs.declared.lines.Line.TheVariants as lines
+use Rattle.spec_ideal.specs.Operations.{Found}
 use Rattle.afs_callees.specs.declared.telling.Grant.{Grant}
 
 abbrev pub grant_line : Node → Node → ℕ → Grant → Line

@@ -6,7 +6,7 @@ ghost use Rattle.std.specs.Vec.{vec_capacity};
 ghost use Rattle.afs_num.specs.Keyed.{other_keyed, put_last, HasRoom};
 ghost use Rattle.afs_num.specs.Nodes.{same_node};
 ghost use Rattle.afs_num.specs.declared.types.Node.{Node};
-ghost use Rattle.afs_rows.specs.Callbacks.{put_at};
+ghost use Rattle.spec_rows.specs.Callbacks.{put_at};
 ghost use Rattle.afs_callees.specs.Called.{call_to, callee_at, known_to, node_called};
 
 use afs_num::keyed::{Keyed, find_keyed, put_last};
@@ -32,7 +32,7 @@ pub struct BackCall<C: Copies> {
 }
 
 impl<C: Copies> Model for BackCall<C> {
-    ghost use Rattle.afs_rows.specs.States.{Unanswered};
+    ghost use Rattle.spec_rows.specs.States.{Unanswered};
 
     ghost Value = { Unanswered C };
 

@@ -1,8 +1,9 @@
 //! What a server's replies say.
 
+ghost use Rattle.spec_model.specs.Calls.{key_of};
 ghost use Rattle.std.specs.Prelude.{◌≡◌, map, IfOk};
 ghost use Rattle.afs_num.specs.declared.calls.AfsCallBack.{AfsCallBack};
-ghost use Rattle.afs_rows.specs.ServerRow.{boot_told, key_of, promise_until, promised_in, read_reply_to, refusal, replied, reply_head};
+ghost use Rattle.spec_rows.specs.ServerRow.{boot_told, promise_until, promised_in, read_reply_to, refusal, replied, reply_head};
 ghost use Rattle.afs_num.specs.declared.messages.Carried.TheVariants as carried;
 ghost use Rattle.afs_num.specs.declared.messages.Reply.TheVariants as tell;
 

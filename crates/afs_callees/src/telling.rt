@@ -1,13 +1,13 @@
 //! The lines of a server's steps.
 
 ghost use Rattle.std.specs.Prelude.{◌≡◌, ◌++◌, [], ◌∷◌, map, OnOk};
-ghost use Rattle.afs_history.specs.declared.lines.Line.TheVariants as lines;
-ghost use Rattle.afs_rows.specs.Callbacks.{owe_line, quit_line, settle_line, timeout_line};
+ghost use Rattle.spec_history.specs.declared.lines.Line.TheVariants as lines;
+ghost use Rattle.spec_rows.specs.Callbacks.{owe_line, quit_line, settle_line, timeout_line};
 ghost use Rattle.afs_callees.specs.Telling.{grant_line};
 
-use afs_breaks::types::OwedBreak;
-use afs_history::lines::{Line, Lines};
 use afs_num::types::{Fid, Mem, Node};
+use spec_breaks::types::OwedBreak;
+use spec_history::lines::{Line, Lines};
 
 /// A promise that a reply grants: on this fid, under the index of what the reply tells.
 #[derive(Clone, Copy)]

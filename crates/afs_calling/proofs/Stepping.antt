@@ -4,13 +4,13 @@ use Rattle.std.proofs.lemmas.Bool.{eq-eqb}
 use Rattle.afs_num.specs.Nodes.{same_node}
 use Rattle.afs_num.specs.declared.types.Node.{Node}
 use Rattle.afs_num.specs.declared.types.Node.TheVariants as nodes
-use Rattle.afs_history.specs.declared.lines.Line.{Line}
-use Rattle.afs_history.specs.declared.lines.Line.TheVariants as lines
-use Rattle.afs_history.specs.declared.lines.Outs.{Outs}
-use Rattle.afs_model.specs.Steps.{NodeState}
-use Rattle.afs_rows.specs.States.{KnownBoot}
-use Rattle.afs_rows.specs.ClientRow.{boot_of, with_boot}
-use Rattle.afs_rows.specs.Steps.{Step}
+use Rattle.spec_history.specs.declared.lines.Line.{Line}
+use Rattle.spec_history.specs.declared.lines.Line.TheVariants as lines
+use Rattle.spec_history.specs.declared.lines.Outs.{Outs}
+use Rattle.spec_model.specs.Steps.{NodeState}
+use Rattle.spec_rows.specs.States.{KnownBoot}
+use Rattle.spec_rows.specs.ClientRow.{boot_of, with_boot}
+use Rattle.spec_rows.specs.Steps.{Step}
 use Rattle.afs_calling.specs.Stepping.{Answers, Goes, Makes, Takes}
 
 pub takes_same : {S E : Type 0} (step other : ℕ → Step S) (old new : NodeState S) (r : Result Outs E) → ((place : ℕ) → step place ≡ other place) → Takes step old new r → Takes other old new r

@@ -2,7 +2,7 @@
 
 ghost use Rattle.std.specs.Prelude.{◌≡◌, OnErr, OnOk};
 ghost use Rattle.afs_num.specs.Nodes.{same_node};
-ghost use Rattle.afs_rows.specs.ClientRow.{boot_of, with_boot};
+ghost use Rattle.spec_rows.specs.ClientRow.{boot_of, with_boot};
 
 use afs_num::keyed::{Keyed, find_keyed, put_first};
 use afs_num::types::{Mem, Node};
@@ -16,7 +16,7 @@ pub struct KnownBoot {
 }
 
 impl Model for KnownBoot {
-    ghost use Rattle.afs_rows.specs.States.{KnownBoot};
+    ghost use Rattle.spec_rows.specs.States.{KnownBoot};
 
     ghost Value = { KnownBoot };
 

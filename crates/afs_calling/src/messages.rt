@@ -1,18 +1,18 @@
 //! What a step gives out.
 
 ghost use Rattle.std.specs.Prelude.{◌≡◌, [], ◌∷◌, IfOk, OnOk};
-ghost use Rattle.afs_model.specs.Messages.{FitsMessage, HasSpelling, messages_spelled, parcels_read, received, spelled};
+ghost use Rattle.spec_model.specs.Messages.{FitsMessage, HasSpelling, messages_spelled, parcels_read, received, spelled};
 ghost use Rattle.afs_num.specs.declared.messages.Received.TheVariants.{Whole};
-ghost use Rattle.afs_rows.specs.ServerRow.{boot_told, replied};
+ghost use Rattle.spec_rows.specs.ServerRow.{boot_told, replied};
 ghost use Rattle.afs_calling.specs.Calls.{calling};
 
-use afs_history::lines::{Lines, Outs};
 use afs_message::cell::CellCalls;
 use afs_message::spelled::SpelledMessage;
 use afs_num::messages::{Call, Carried, Message};
 use afs_num::sequences::{Octets, Sequence};
 use afs_num::types::{Half, Head, Mem, Parcel};
 use afs_rpc::calls::spell_call;
+use spec_history::lines::{Lines, Outs};
 use std::alloc::Global;
 
 fn outs_of(alloc: Global, lines: Lines, head: Head, bytes: Octets) -> Mem<Outs>
@@ -34,7 +34,7 @@ pub fn outs_with(alloc: Global, lines: Lines, message: SpelledMessage) -> Mem<Ou
     Ok(Outs { parcels, lines })
 }
 
-#[tactic(auto, unfolding(afs_model::specs::Messages::spelled))]
+#[tactic(auto, unfolding(spec_model::specs::Messages::spelled))]
 fn spell(alloc: Global, head: &Head, user: &[u8], call: &Call) -> Mem<Octets>
     requires { HasSpelling (calling head.now user.now call.now) }
     ensures spelled { IfOk result (λ bytes. bytes ≡ spelled (calling head.now user.now call.now)) }

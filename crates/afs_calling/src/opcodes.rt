@@ -1,10 +1,10 @@
 //! The numbers of calls.
 
 ghost use Rattle.std.specs.Prelude.{◌≡◌};
-ghost use Rattle.afs_model.specs.CellRows.{call_number};
-ghost use Rattle.afs_model.specs.FsRows.{call_number as file_number};
-ghost use Rattle.afs_model.specs.LocRows.{loc_calls};
-ghost use Rattle.afs_model.specs.VolRows.{vol_calls};
+ghost use Rattle.spec_model.specs.CellRows.{call_number};
+ghost use Rattle.spec_model.specs.FsRows.{call_number as file_number};
+ghost use Rattle.spec_model.specs.LocRows.{loc_calls};
+ghost use Rattle.spec_model.specs.VolRows.{vol_calls};
 
 use afs_num::calls::FsCall;
 use afs_num::location_calls::LocCall;

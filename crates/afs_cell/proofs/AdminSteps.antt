@@ -7,24 +7,24 @@ use Rattle.afs_num.specs.declared.messages.Received.TheVariants.{Whole}
 use Rattle.afs_num.specs.declared.types.Node.{Node}
 use Rattle.afs_num.specs.declared.types.Node.TheVariants.{Admin, Client, Server}
 use Rattle.afs_num.specs.declared.types.Parcel.{Parcel}
-use Rattle.afs_history.specs.declared.lines.Line.{Line}
-use Rattle.afs_history.specs.declared.lines.Line.TheVariants as lines
-use Rattle.afs_history.specs.declared.lines.Outs.{Outs}
-use Rattle.afs_history.specs.declared.scripts.AdminAct.{AdminAct}
-use Rattle.afs_history.specs.declared.scripts.Event.TheVariants as events
-use Rattle.afs_history.specs.declared.scripts.Task.{Task}
-use Rattle.afs_model.specs.Messages.{messages_spelled, parcels_read}
-use Rattle.afs_copyrows.specs.Sites.{CopyState}
-use Rattle.afs_rows.specs.Hosts.{steady}
-use Rattle.afs_rows.specs.LocSteps.{LocHost}
-use Rattle.afs_rows.specs.Runs.{gives, has_client, message_at, nothing, Entry}
-use Rattle.afs_rows.specs.Steps.{Step}
-use Rattle.afs_volrows.specs.NodeHosts.{NodeHost}
-use Rattle.afs_adminrows.specs.AdminRow.{admin_begin_row, admin_reborn, admin_row, admin_timeout_row, waiting_on, AdminState}
-use Rattle.afs_adminrows.specs.declared.turns.Running.{Running}
-use Rattle.afs_runs.specs.NodeRuns.{admin_begins, admin_begun, admin_falls, admin_moves, admin_rises, admin_starts, admin_stops, admin_turned, admin_waited, admin_waits, bare_entry, given_at, given_to, is_gone, node_moved, usual, usually_moved, voided, CellInput, NodeCell, NodeMoved}
-use Rattle.afs_schedule.specs.Schedules.{admin_act, admin_act_input, admin_timeout_input, is_at_rest, is_waiting_on, left_by, IsInput, Turn}
-use Rattle.afs_text.specs.Telling.{told, sent_by}
+use Rattle.spec_history.specs.declared.lines.Line.{Line}
+use Rattle.spec_history.specs.declared.lines.Line.TheVariants as lines
+use Rattle.spec_history.specs.declared.lines.Outs.{Outs}
+use Rattle.spec_history.specs.declared.scripts.AdminAct.{AdminAct}
+use Rattle.spec_history.specs.declared.scripts.Event.TheVariants as events
+use Rattle.spec_history.specs.declared.scripts.Task.{Task}
+use Rattle.spec_model.specs.Messages.{messages_spelled, parcels_read}
+use Rattle.spec_copyrows.specs.Sites.{CopyState}
+use Rattle.spec_rows.specs.Hosts.{steady}
+use Rattle.spec_rows.specs.LocSteps.{LocHost}
+use Rattle.spec_rows.specs.Runs.{gives, has_client, message_at, nothing, Entry}
+use Rattle.spec_rows.specs.Steps.{Step}
+use Rattle.spec_volrows.specs.NodeHosts.{NodeHost}
+use Rattle.spec_adminrows.specs.AdminRow.{admin_begin_row, admin_reborn, admin_row, admin_timeout_row, waiting_on, AdminState}
+use Rattle.spec_adminrows.specs.declared.turns.Running.{Running}
+use Rattle.spec_runs.specs.NodeRuns.{admin_begins, admin_begun, admin_falls, admin_moves, admin_rises, admin_starts, admin_stops, admin_turned, admin_waited, admin_waits, bare_entry, given_at, given_to, is_gone, node_moved, usual, usually_moved, voided, CellInput, NodeCell, NodeMoved}
+use Rattle.afs_schedule.specs.Schedules.{admin_act, admin_act_input, admin_timeout_input, is_at_rest, is_waiting_on, left_by, IsInput, ScheduleState}
+use Rattle.afs_text.specs.Telling.{entries_as_told, sent_by}
 use Rattle.afs_clients.specs.Happening.{entry_of, IsAskedOfAdmin}
 use Rattle.afs_clients.specs.Places.{put_place}
 use Rattle.afs_clients.specs.declared.clients.ClientSeat.{ClientSeat}
@@ -36,7 +36,7 @@ use Rattle.afs_admins.specs.declared.admins.AdminSeat.{AdminSeat}
 use Rattle.afs_host.specs.LocSeated.{IsLocHost}
 use Rattle.afs_serverhost.specs.Seated.{IsHost, ServerSeat}
 use Rattle.afs_cell.specs.Steps.{IsAt, Plays}
-use Rattle.afs_cell.specs.Worlds.{falls, IsAdmin, IsClient, WorldState}
+use Rattle.afs_cell.specs.Worlds.{own_failures, IsAdmin, IsClient, WorldState}
 use Rattle.afs_cell.proofs.ClientSteps.{moved_nothing, or_true, put_here, put_there, unless}
 use Rattle.afs_cell.proofs.Counts.{counts_still}
 use Rattle.afs_cell.proofs.HostSteps.{entry_with}
@@ -112,7 +112,7 @@ turns_so c n gone s = record {
 -- ---- the world
 
 -- a step that an input gives to an administrator
-pub record AdminLinked (is : CellInput → Type 0) (t : Turn) (n : ℕ) (now : AdminSeat) (front : List Line) (outs : Outs) : Type 0 where
+pub record AdminLinked (is : CellInput → Type 0) (t : ScheduleState) (n : ℕ) (now : AdminSeat) (front : List Line) (outs : Outs) : Type 0 where
   pub input : CellInput
   pub is_one : is input
   pub gone : Bool
@@ -123,10 +123,10 @@ pub record AdminLinked (is : CellInput → Type 0) (t : Turn) (n : ℕ) (now : A
   pub plan : left_by input t.left (Admin n) ≡ now.plan
   pub plans : (j : ℕ) → nat_eq n j ≡ false → left_by input t.left (Admin j) ≡ t.left (Admin j)
   pub acts : (j : ℕ) → left_by input t.left (Client j) ≡ t.left (Client j)
-  pub harmless : falls input ≡ 0
+  pub harmless : own_failures input ≡ 0
 
 module _ {D : Type 0} (seen : D → Option (List ℕ)) (may_leave : D → List ℕ → Type 0) (faults limit : D → ℕ) where
-  at_moved : (w : WorldState D) (t : Turn) (is : CellInput → Type 0) (n : ℕ) (was now : AdminSeat) (front : List Line) (outs : Outs) → at_place w.admins n ≡ Some was → (link : AdminLinked is t n now front outs)
+  at_moved : (w : WorldState D) (t : ScheduleState) (is : CellInput → Type 0) (n : ℕ) (was now : AdminSeat) (front : List Line) (outs : Outs) → at_place w.admins n ≡ Some was → (link : AdminLinked is t n now front outs)
       → IsAt seen may_leave limit w t.cell t.left → IsAt seen may_leave limit (after_admin w n now front outs) (node_moved t.cell link.input).cell (left_by link.input t.left)
   at_moved w t is n was now front outs found link at = record {
     cell = record {
@@ -154,14 +154,14 @@ module _ {D : Type 0} (seen : D → Option (List ℕ)) (may_leave : D → List �
         (λ j z apart h. link.plans j apart ∙ h) link.plan;
   }
 
-  pub admin_plays : (is : CellInput → Type 0) (t : Turn) (w : WorldState D) (n : ℕ) (was now : AdminSeat) (front : List Line) (outs : Outs) → sent_by w.history ≡ length w.wire → at_place w.admins n ≡ Some was
+  pub admin_plays : (is : CellInput → Type 0) (t : ScheduleState) (w : WorldState D) (n : ℕ) (was now : AdminSeat) (front : List Line) (outs : Outs) → sent_by w.history ≡ length w.wire → at_place w.admins n ≡ Some was
       → IsAt seen may_leave limit w t.cell t.left → AdminLinked is t n now front outs → Plays seen may_leave faults limit is t w (after_admin w n now front outs)
   admin_plays is t w n was now front outs all found at link = record {
     input = link.input;
     is_one = link.is_one;
     history =
         told-push w.wire outs.parcels w.history (entry_of (Admin n) (front ++ outs.lines) (length outs.parcels)) all refl
-        ∙ ap (λ (e : Entry). told w.wire w.history ++ bare_entry e ∷ [])
+        ∙ ap (λ (e : Entry). entries_as_told w.wire w.history ++ bare_entry e ∷ [])
         (ap (λ (ms : List Message). entry_with (actors.Node (Admin n)) (front ++ outs.lines) ms) (messages_of-read outs.parcels link.ms link.read) ∙ sym link.moves.entry);
     at = at_moved w t is n was now front outs found link at;
     counts = counts_still faults link.input (node_moved t.cell link.input).entry w link.harmless;
@@ -173,8 +173,8 @@ up_here : (c : NodeCell) (n : ℕ) → has_client c.admin_count n ≡ true → c
 up_here c n has up = ap₂ (λ (a b : Bool). not a || b) has up
 
 -- a step that leaves the administrator up, and its acts but for those that the input takes
-makes_linked : (is : CellInput → Type 0) (t : Turn) (n : ℕ) (x : CellInput) (was now : AdminSeat) (front : List Line) (outs : Outs) (s : Step AdminState) → is x → node_moved t.cell x ≡ admin_moves t.cell n s → IsAdmin was (t.cell.admins n) (t.cell.gone n)
-    → AdminMakes front s was now outs → left_by x t.left (Admin n) ≡ now.plan → ((j : ℕ) → nat_eq n j ≡ false → left_by x t.left (Admin j) ≡ t.left (Admin j)) → ((j : ℕ) → left_by x t.left (Client j) ≡ t.left (Client j)) → falls x ≡ 0 → AdminLinked is t n now front outs
+makes_linked : (is : CellInput → Type 0) (t : ScheduleState) (n : ℕ) (x : CellInput) (was now : AdminSeat) (front : List Line) (outs : Outs) (s : Step AdminState) → is x → node_moved t.cell x ≡ admin_moves t.cell n s → IsAdmin was (t.cell.admins n) (t.cell.gone n)
+    → AdminMakes front s was now outs → left_by x t.left (Admin n) ≡ now.plan → ((j : ℕ) → nat_eq n j ≡ false → left_by x t.left (Admin j) ≡ t.left (Admin j)) → ((j : ℕ) → left_by x t.left (Client j) ≡ t.left (Client j)) → own_failures x ≡ 0 → AdminLinked is t n now front outs
 makes_linked is t n x was now front outs s one moves here makes plan plans acts harmless = record {
   input = x;
   is_one = one;
@@ -214,7 +214,7 @@ moved_fallen c n up = unless (is_gone c n) (voided c) (admin_falls c n) up
 moved_risen : (c : NodeCell) (n : ℕ) → c.gone n ≡ true → node_moved c (admin_starts n) ≡ admin_rises c n
 moved_risen c n gone = ap (λ (b : Bool). cond b (admin_rises c n) (voided c)) gone
 
-module _ {D : Type 0} (seen : D → Option (List ℕ)) (may_leave : D → List ℕ → Type 0) (faults limit : D → ℕ) (t : Turn) (w : WorldState D) (n : ℕ) (was now : AdminSeat) (outs : Outs) (at : IsAt seen may_leave limit w t.cell t.left) (found : at_place w.admins n ≡ Some was) where
+module _ {D : Type 0} (seen : D → Option (List ℕ)) (may_leave : D → List ℕ → Type 0) (faults limit : D → ℕ) (t : ScheduleState) (w : WorldState D) (n : ℕ) (was now : AdminSeat) (outs : Outs) (at : IsAt seen may_leave limit w t.cell t.left) (found : at_place w.admins n ≡ Some was) where
   here : IsAdmin was (t.cell.admins n) (t.cell.gone n)
   here = at.cell.admins n was found
 
@@ -332,13 +332,13 @@ heard_void c n place m at to gone =
     ap (given_at c place steady) at ∙ (ap (given_to c place steady m) to
     ∙ ap (λ (b : Bool). cond b (voided c) (admin_moves c n (admin_row (Admin n) (c.admins n) place (Whole m)))) gone)
 
-pub void_heard : (t : Turn) (n place : ℕ) (m : Message) → message_at t.cell.sent place ≡ Some m → m.head.to ≡ Admin n → (has_client t.cell.admin_count n ≡ false) ⊎ (t.cell.gone n ≡ true) → Voided (IsInput t (events.Deliver place)) t
+pub void_heard : (t : ScheduleState) (n place : ℕ) (m : Message) → message_at t.cell.sent place ≡ Some m → m.head.to ≡ Admin n → (has_client t.cell.admin_count n ≡ false) ⊎ (t.cell.gone n ≡ true) → Voided (IsInput t (events.Deliver place)) t
 void_heard t n place m at to none = record { input = usual (gives place steady); is_one = (steady, (refl, tt)); moves = heard_void t.cell n place m at to (absent t.cell n none); left = refl; harmless = refl }
 
-act_void : (t : Turn) (n : ℕ) → (is_gone t.cell n ≡ true) ⊎ ((is_at_rest (t.cell.admins n).running ≡ false) ⊎ (admin_act (slice_get (t.left (Admin n)) 0) ≡ None)) → Voided (IsInput t (events.Act (Admin n))) t
+act_void : (t : ScheduleState) (n : ℕ) → (is_gone t.cell n ≡ true) ⊎ ((is_at_rest (t.cell.admins n).running ≡ false) ⊎ (admin_act (slice_get (t.left (Admin n)) 0) ≡ None)) → Voided (IsInput t (events.Act (Admin n))) t
 act_void t n none = record { input = usual nothing; is_one = sym (no_act t.cell n (admin_act (slice_get (t.left (Admin n)) 0)) none); moves = moved_nothing t.cell; left = refl; harmless = refl }
 
-timed_harmless : (n : ℕ) (b : Bool) → falls (if b then admin_waits n else usual nothing) ≡ 0
+timed_harmless : (n : ℕ) (b : Bool) → own_failures (if b then admin_waits n else usual nothing) ≡ 0
 timed_harmless n true = refl
 timed_harmless n false = refl
 
@@ -346,7 +346,7 @@ timed_left : (n : ℕ) (b : Bool) (left : Node → List Task) → left_by (if b 
 timed_left n true left = refl
 timed_left n false left = refl
 
-timed_void : (t : Turn) (n : ℕ) (callee : Node) → (is_gone t.cell n ≡ true) ⊎ (is_waiting_on callee (waiting_on (t.cell.admins n)) ≡ false) → Voided (IsInput t (events.Timeout (Admin n) callee)) t
+timed_void : (t : ScheduleState) (n : ℕ) (callee : Node) → (is_gone t.cell n ≡ true) ⊎ (is_waiting_on callee (waiting_on (t.cell.admins n)) ≡ false) → Voided (IsInput t (events.Timeout (Admin n) callee)) t
 timed_void t n callee none = record {
   input = admin_timeout_input (t.cell.admins n) n callee;
   is_one = refl;
@@ -355,7 +355,7 @@ timed_void t n callee none = record {
   harmless = timed_harmless n (is_waiting_on callee (waiting_on (t.cell.admins n)));
 }
 
-module _ (t : Turn) (n : ℕ) (was : AdminSeat) (here : IsAdmin was (t.cell.admins n) (t.cell.gone n)) (plan : t.left (Admin n) ≡ was.plan) where
+module _ (t : ScheduleState) (n : ℕ) (was : AdminSeat) (here : IsAdmin was (t.cell.admins n) (t.cell.gone n)) (plan : t.left (Admin n) ≡ was.plan) where
   is_down : was.is_away ≡ true → is_gone t.cell n ≡ true
   is_down e = absent t.cell n (inr (sym here.gone_is ∙ e))
 

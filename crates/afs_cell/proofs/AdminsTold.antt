@@ -4,19 +4,19 @@ use Rattle.std.proofs.lemmas.List.{length-append}
 use Rattle.afs_num.specs.Places.{at_place}
 use Rattle.afs_num.specs.declared.types.Node.TheVariants.{Admin}
 use Rattle.afs_num.specs.declared.types.Parcel.{Parcel}
-use Rattle.afs_history.specs.declared.lines.Line.{Line}
-use Rattle.afs_history.specs.declared.lines.Line.TheVariants as lines
-use Rattle.afs_history.specs.declared.lines.Outs.{Outs}
-use Rattle.afs_history.specs.declared.scripts.Event.TheVariants as events
-use Rattle.afs_history.specs.declared.scripts.Script.{Script}
-use Rattle.afs_runs.specs.NodeRuns.{CellInput}
-use Rattle.afs_schedule.specs.Schedules.{IsInput, Turn}
+use Rattle.spec_history.specs.declared.lines.Line.{Line}
+use Rattle.spec_history.specs.declared.lines.Line.TheVariants as lines
+use Rattle.spec_history.specs.declared.lines.Outs.{Outs}
+use Rattle.spec_history.specs.declared.scripts.Event.TheVariants as events
+use Rattle.spec_history.specs.declared.scripts.Script.{Script}
+use Rattle.spec_runs.specs.NodeRuns.{CellInput}
+use Rattle.afs_schedule.specs.Schedules.{IsInput, ScheduleState}
 use Rattle.afs_clients.specs.Happening.{entry_of, front_lines, void_entry, IsAskedOfAdmin}
 use Rattle.afs_admins.specs.Happening.{AdminGoes, AdminHappened, AdminHears, AdminsHappened, AdminTakes, IsVoidAdmin}
 use Rattle.afs_cell.specs.Happening.{Settles}
 use Rattle.afs_clients.specs.Places.{put_place}
 use Rattle.afs_cell.specs.Steps.{IsAt, Stepped}
-use Rattle.afs_cell.specs.Worlds.{most_entries, AllTell, IsReadyAdmin, IsSafe, WorldState}
+use Rattle.afs_cell.specs.Worlds.{most_history_entries, AllTell, IsReadyAdmin, IsSafe, WorldState}
 use Rattle.afs_admins.specs.declared.admins.AdminSeat.{AdminSeat}
 use Rattle.afs_cell.specs.declared.faults.WorldFault.{WorldFault}
 use Rattle.afs_cell.specs.declared.faults.WorldFault.TheVariants as faulty
@@ -48,7 +48,7 @@ true_false : true ≡ false → ⊥
 true_false e = absurd cc
 
 module _ {D : Type 0} (seen : D → Option (List ℕ)) (may_leave : D → List ℕ → Type 0) (faults limit : D → ℕ) (s : Script) (w : WorldState D) (n : ℕ) where
-  safe_admin : (was now : AdminSeat) (front : List Line) (outs : Outs) → IsSafe limit s w → w.is_lost ≡ false → length w.history < most_entries → at_place w.admins n ≡ Some was → AdminGoes s n was now
+  safe_admin : (was now : AdminSeat) (front : List Line) (outs : Outs) → IsSafe limit s w → w.is_lost ≡ false → length w.history < most_history_entries → at_place w.admins n ≡ Some was → AdminGoes s n was now
       → IsSafe limit s (after_admin w n now front outs)
   safe_admin was now front outs safe going place found goes = record {
     script = safe.script;
@@ -74,8 +74,8 @@ module _ {D : Type 0} (seen : D → Option (List ℕ)) (may_leave : D → List �
     ticks = safe.ticks;
   }
 
-  admin_told : (is : Turn → CellInput → Type 0) (was now : AdminSeat) (front : List Line) (outs : Outs) → IsSafe limit s w → w.is_lost ≡ false → length w.history < most_entries → at_place w.admins n ≡ Some was → AdminGoes s n was now
-      → (AllTell seen w → (t : Turn) → IsAt seen may_leave limit w t.cell t.left → AdminLinked (is t) t n now front outs) → Stepped seen may_leave faults limit s is w (after_admin w n now front outs) (Ok tt)
+  admin_told : (is : ScheduleState → CellInput → Type 0) (was now : AdminSeat) (front : List Line) (outs : Outs) → IsSafe limit s w → w.is_lost ≡ false → length w.history < most_history_entries → at_place w.admins n ≡ Some was → AdminGoes s n was now
+      → (AllTell seen w → (t : ScheduleState) → IsAt seen may_leave limit w t.cell t.left → AdminLinked (is t) t n now front outs) → Stepped seen may_leave faults limit s is w (after_admin w n now front outs) (Ok tt)
   admin_told is was now front outs safe going place found goes link = record {
     steps = record {
       count = one_longer w.history (entry_of (Admin n) (front ++ outs.lines) (length outs.parcels));
@@ -87,7 +87,7 @@ module _ {D : Type 0} (seen : D → Option (List ℕ)) (may_leave : D → List �
     counts = λ k h. h;
   }
 
-  admin_lost : (is : Turn → CellInput → Type 0) (now : AdminSeat) → IsSafe limit s w → Stepped seen may_leave faults limit s is w (lost_with w (put_place n now w.admins)) (Err faulty.OutOfMemory)
+  admin_lost : (is : ScheduleState → CellInput → Type 0) (now : AdminSeat) → IsSafe limit s w → Stepped seen may_leave faults limit s is w (lost_with w (put_place n now w.admins)) (Err faulty.OutOfMemory)
   admin_lost is now safe = record {
     steps = (record { script = refl; history = refl; wire = refl; clock = refl }, inl refl);
     safe = record {
@@ -109,12 +109,12 @@ module _ {D : Type 0} (seen : D → Option (List ℕ)) (may_leave : D → List �
     counts = λ k h. h;
   }
 
-  module _ (is : Turn → CellInput → Type 0) (front : Option Line) (IsVoid : AdminSeat → Type 0) (Takes : AdminSeat → AdminSeat → Outs → Type 0) where
+  module _ (is : ScheduleState → CellInput → Type 0) (front : Option Line) (IsVoid : AdminSeat → Type 0) (Takes : AdminSeat → AdminSeat → Outs → Type 0) where
     abbrev Result1 : WorldState D → Result (Unit {0}) WorldFault → Type 0
     Result1 new result = Stepped seen may_leave faults limit s is w new result
 
-    nothing_settles : (admins : List AdminSeat) (new : WorldState D) (result : Result (Unit {0}) WorldFault) → IsSafe limit s w → w.is_lost ≡ false → length w.history < most_entries → admins ≡ w.admins
-        → (AllTell seen w → (t : Turn) → IsAt seen may_leave limit w t.cell t.left → Voided (is t) t) → Settles (Admin n) front happened.Nothing (with_admins w admins) new result → Result1 new result
+    nothing_settles : (admins : List AdminSeat) (new : WorldState D) (result : Result (Unit {0}) WorldFault) → IsSafe limit s w → w.is_lost ≡ false → length w.history < most_history_entries → admins ≡ w.admins
+        → (AllTell seen w → (t : ScheduleState) → IsAt seen may_leave limit w t.cell t.left → Voided (is t) t) → Settles (Admin n) front happened.Nothing (with_admins w admins) new result → Result1 new result
     nothing_settles admins new (Ok done) safe going place same void settles =
         subst (λ (v : WorldState D). Stepped seen may_leave faults limit s is w v (Ok done)) (sym (settles ∙ ap (λ (seats : List AdminSeat). record w { admins = seats; history = w.history ++ void_entry ∷ [] }) same))
         (nothing_happens seen may_leave faults limit s is w safe going place void)
@@ -123,15 +123,15 @@ module _ {D : Type 0} (seen : D → Option (List ℕ)) (may_leave : D → List �
         (subst (λ (v : WorldState D). Stepped seen may_leave faults limit s is w v (Err faulty.OutOfMemory)) (sym (settles.1 ∙ ap (with_admins w) same)) (nothing_changes seen may_leave faults limit s is w safe))
 
     abbrev Voids : Type 0
-    Voids = AllTell seen w → (t : Turn) → IsAt seen may_leave limit w t.cell t.left → (was : AdminSeat) → at_place w.admins n ≡ Some was → IsVoid was → Voided (is t) t
+    Voids = AllTell seen w → (t : ScheduleState) → IsAt seen may_leave limit w t.cell t.left → (was : AdminSeat) → at_place w.admins n ≡ Some was → IsVoid was → Voided (is t) t
 
     abbrev Links : Type 0
-    Links = AllTell seen w → (t : Turn) → IsAt seen may_leave limit w t.cell t.left → (was now : AdminSeat) (outs : Outs) → at_place w.admins n ≡ Some was → Takes was now outs → AdminLinked (is t) t n now (front_lines front) outs
+    Links = AllTell seen w → (t : ScheduleState) → IsAt seen may_leave limit w t.cell t.left → (was now : AdminSeat) (outs : Outs) → at_place w.admins n ≡ Some was → Takes was now outs → AdminLinked (is t) t n now (front_lines front) outs
 
     abbrev Absents : Type 0
-    Absents = AllTell seen w → (t : Turn) → IsAt seen may_leave limit w t.cell t.left → at_place w.admins n ≡ None → Voided (is t) t
+    Absents = AllTell seen w → (t : ScheduleState) → IsAt seen may_leave limit w t.cell t.left → at_place w.admins n ≡ None → Voided (is t) t
 
-    one_settles : (admins : List AdminSeat) (what : Happened) (new : WorldState D) (result : Result (Unit {0}) WorldFault) → IsSafe limit s w → w.is_lost ≡ false → length w.history < most_entries
+    one_settles : (admins : List AdminSeat) (what : Happened) (new : WorldState D) (result : Result (Unit {0}) WorldFault) → IsSafe limit s w → w.is_lost ≡ false → length w.history < most_history_entries
         → AdminHappened s n IsVoid Takes w.admins admins what → Voids → Links → Settles (Admin n) front what (with_admins w admins) new result → Result1 new result
     one_settles admins happened.Nothing new result safe going place one voids links settles =
         nothing_settles admins new result safe going place (one.put ∙ put_same n one.now one.was w.admins one.found one.happens.0) (λ tell t at. voids tell t at one.was one.found one.happens.1) settles
@@ -148,21 +148,21 @@ module _ {D : Type 0} (seen : D → Option (List ℕ)) (may_leave : D → List �
         (sym (settles.1 ∙ ap (with_admins w) (one.put ∙ put_same n one.now one.was w.admins one.found one.happens))) (nothing_changes seen may_leave faults limit s is w safe))
     one_settles admins happened.Lost new result safe going place one voids links settles = absurd one.happens
 
-    admin_settles : (admins : List AdminSeat) (what : Happened) (new : WorldState D) (result : Result (Unit {0}) WorldFault) → IsSafe limit s w → w.is_lost ≡ false → length w.history < most_entries
+    admin_settles : (admins : List AdminSeat) (what : Happened) (new : WorldState D) (result : Result (Unit {0}) WorldFault) → IsSafe limit s w → w.is_lost ≡ false → length w.history < most_history_entries
         → AdminsHappened s n IsVoid Takes w.admins admins what → Absents → Voids → Links → Settles (Admin n) front what (with_admins w admins) new result → Result1 new result
     admin_settles admins what new result safe going place (inl none) absents voids links settles =
         nothing_settles admins new result safe going place none.same (λ tell t at. absents tell t at none.none) (subst (λ (h : Happened). Settles (Admin n) front h (with_admins w admins) new result) none.nothing settles)
     admin_settles admins what new result safe going place (inr one) absents voids links settles = one_settles admins what new result safe going place one voids links settles
 
   -- the step of an input
-  link_taken : (input : AdminInput) (t : Turn) (was now : AdminSeat) (outs : Outs) → IsAt seen may_leave limit w t.cell t.left → at_place w.admins n ≡ Some was → AdminTakes n input was now outs → AdminLinked (IsAskedOfAdmin input n t) t n now [] outs
+  link_taken : (input : AdminInput) (t : ScheduleState) (was now : AdminSeat) (outs : Outs) → IsAt seen may_leave limit w t.cell t.left → at_place w.admins n ≡ Some was → AdminTakes n input was now outs → AdminLinked (IsAskedOfAdmin input n t) t n now [] outs
   link_taken admin.Act t was now outs at found h = link_begun seen may_leave faults limit t w n was now outs at found h
   link_taken (admin.TimeOut callee) t was now outs at found h = link_timed_out seen may_leave faults limit t w n was now outs at found callee h
   link_taken admin.Crash t was now outs at found h = link_fallen seen may_leave faults limit t w n was now outs at found h
   link_taken admin.Restart t was now outs at found h = link_risen seen may_leave faults limit t w n was now outs at found h
 
   -- an administrator of the cell was given something
-  pub ordered_settles : (input : AdminInput) (admins : List AdminSeat) (what : Happened) (new : WorldState D) (result : Result (Unit {0}) WorldFault) → IsSafe limit s w → w.is_lost ≡ false → length w.history < most_entries
+  pub ordered_settles : (input : AdminInput) (admins : List AdminSeat) (what : Happened) (new : WorldState D) (result : Result (Unit {0}) WorldFault) → IsSafe limit s w → w.is_lost ≡ false → length w.history < most_history_entries
       → (at_place w.admins n ≡ None → ⊥) → AdminsHappened s n (IsVoidAdmin input) (AdminTakes n input) w.admins admins what → Settles (Admin n) None what (with_admins w admins) new result
       → Stepped seen may_leave faults limit s (IsAskedOfAdmin input n) w new result
   ordered_settles input admins what new result safe going place inside happens settles =
@@ -173,11 +173,11 @@ module _ {D : Type 0} (seen : D → Option (List ℕ)) (may_leave : D → List �
       settles
 
   -- an administrator was given the message of a place
-  pub admin_heard_settles : (place : ℕ) (p : Parcel) (admins : List AdminSeat) (what : Happened) (new : WorldState D) (result : Result (Unit {0}) WorldFault) → IsSafe limit s w → w.is_lost ≡ false → length w.history < most_entries
+  pub admin_heard_settles : (place : ℕ) (p : Parcel) (admins : List AdminSeat) (what : Happened) (new : WorldState D) (result : Result (Unit {0}) WorldFault) → IsSafe limit s w → w.is_lost ≡ false → length w.history < most_history_entries
       → at_place w.wire place ≡ Some p → p.head.to ≡ Admin n → AdminsHappened s n (λ (seat : AdminSeat). seat.is_away ≡ true) (AdminHears n place p.bytes) w.admins admins what
-      → Settles (Admin n) (Some (lines.Given place)) what (with_admins w admins) new result → Stepped seen may_leave faults limit s (λ (t : Turn). IsInput t (events.Deliver place)) w new result
+      → Settles (Admin n) (Some (lines.Given place)) what (with_admins w admins) new result → Stepped seen may_leave faults limit s (λ (t : ScheduleState). IsInput t (events.Deliver place)) w new result
   admin_heard_settles place p admins what new result safe going few found to happens settles =
-      admin_settles (λ (t : Turn). IsInput t (events.Deliver place)) (Some (lines.Given place)) (λ (seat : AdminSeat). seat.is_away ≡ true) (AdminHears n place p.bytes) admins what new result safe going few happens
+      admin_settles (λ (t : ScheduleState). IsInput t (events.Deliver place)) (Some (lines.Given place)) (λ (seat : AdminSeat). seat.is_away ≡ true) (AdminHears n place p.bytes) admins what new result safe going few happens
       (λ tell t at none.
       let f = message_found seen may_leave faults limit w t.cell place p at.cell found in
       void_heard t n place f.message f.at (sym (ap (λ h. h.to) f.carries.head) ∙ to) (inl (no_client w.admins n t.cell.admin_count none at.cell.admin_count)))

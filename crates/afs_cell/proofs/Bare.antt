@@ -1,8 +1,8 @@
 -- No text tells the volumes that an entry brings, and no count of failures asks for them.
 use Rattle.std.proofs.Common.{refl, ap, sym, ◌∙◌, ◌≡◌, ◌+◌, ℕ, List, [], ◌∷◌, ◌++◌, Bool, length, map}
 use Rattle.std.proofs.lemmas.List.{length-map}
-use Rattle.afs_rows.specs.Runs.{Entry}
-use Rattle.afs_runs.specs.NodeRuns.{bare_entry, CellInput}
+use Rattle.spec_rows.specs.Runs.{Entry}
+use Rattle.spec_runs.specs.NodeRuns.{bare_entry, CellInput}
 use Rattle.afs_text.specs.HistoryText.{entries_text, entry_text, history_text}
 use Rattle.afs_cell.specs.Worlds.{falls_at, own_falls}
 

@@ -9,32 +9,32 @@ use Rattle.afs_num.specs.declared.messages.Received.TheVariants.{Whole}
 use Rattle.afs_num.specs.declared.types.Node.{Node}
 use Rattle.afs_num.specs.declared.types.Node.TheVariants.{Admin, Client, Server}
 use Rattle.afs_num.specs.declared.types.Parcel.{Parcel}
-use Rattle.afs_history.specs.declared.acts.Act.{Act}
-use Rattle.afs_history.specs.declared.scripts.Task.{Task}
-use Rattle.afs_history.specs.declared.lines.Line.{Line}
-use Rattle.afs_history.specs.declared.lines.Line.TheVariants as lines
-use Rattle.afs_history.specs.declared.lines.Outs.{Outs}
-use Rattle.afs_history.specs.declared.scripts.Event.TheVariants as events
-use Rattle.afs_model.specs.Messages.{messages_spelled, parcels_read}
-use Rattle.afs_rows.specs.Callbacks.{put}
-use Rattle.afs_copyrows.specs.CopyRow.{copies_reborn, copy_begin_row, copy_row}
-use Rattle.afs_copyrows.specs.Sites.{CopyState}
-use Rattle.afs_rows.specs.ClientRow.{act_by, act_of, act_sought}
-use Rattle.afs_rows.specs.States.{Location}
-use Rattle.afs_clients.specs.Happening.{copy_seek_times_out, copy_times_out, entry_of, ClientHears, ClientMakes, HasBegun, HasFallen, HasRisen, HasTimedOut, IsAsked, IsVoidClient}
-use Rattle.afs_rows.specs.Going.{Going, Seek}
-use Rattle.afs_rows.specs.Runs.{begins, client_starts, client_stops, gives, has_client, message_at, nothing, locations, waits, Entry, Input}
-use Rattle.afs_runs.specs.NodeRuns.{bare_entry, begun_by, client_falls, client_moves, client_rises, given_at, given_to, is_away, node_moved, sought_for, turned, usual, usually_moved, voided, waited_by, CellInput, NodeCell, NodeMoved}
-use Rattle.afs_rows.specs.LocSteps.{LocHost}
-use Rattle.afs_adminrows.specs.AdminRow.{AdminState}
-use Rattle.afs_volrows.specs.NodeHosts.{NodeHost}
-use Rattle.afs_rows.specs.Hosts.{steady}
-use Rattle.afs_rows.specs.Steps.{Step}
-use Rattle.afs_schedule.specs.Schedules.{act_input, client_act, is_idle, left_by, timeout_input, IsInput, Turn}
-use Rattle.afs_text.specs.Telling.{told, sent_by}
+use Rattle.spec_history.specs.declared.acts.Act.{Act}
+use Rattle.spec_history.specs.declared.scripts.Task.{Task}
+use Rattle.spec_history.specs.declared.lines.Line.{Line}
+use Rattle.spec_history.specs.declared.lines.Line.TheVariants as lines
+use Rattle.spec_history.specs.declared.lines.Outs.{Outs}
+use Rattle.spec_history.specs.declared.scripts.Event.TheVariants as events
+use Rattle.spec_model.specs.Messages.{messages_spelled, parcels_read}
+use Rattle.spec_rows.specs.Callbacks.{put}
+use Rattle.spec_copyrows.specs.CopyRow.{copies_reborn, copy_begin_row, copy_row}
+use Rattle.spec_copyrows.specs.Sites.{CopyState}
+use Rattle.spec_rows.specs.ClientRow.{act_by, act_of, act_sought}
+use Rattle.spec_rows.specs.States.{Location}
+use Rattle.afs_clients.specs.Happening.{copy_seek_times_out, copy_times_out, entry_of, ClientHears, ClientMakes, HasBegun, HasFallen, HasRisen, HasTimedOut, IsBegunOrGiven, IsVoidClient}
+use Rattle.spec_rows.specs.Going.{Going, Seek}
+use Rattle.spec_rows.specs.Runs.{begins, client_starts, client_stops, gives, has_client, message_at, nothing, locations, waits, Entry, Input}
+use Rattle.spec_runs.specs.NodeRuns.{bare_entry, begun_by, client_falls, client_moves, client_rises, given_at, given_to, is_away, node_moved, sought_for, client_turned, usual, usually_moved, voided, waited_by, CellInput, NodeCell, NodeMoved}
+use Rattle.spec_rows.specs.LocSteps.{LocHost}
+use Rattle.spec_adminrows.specs.AdminRow.{AdminState}
+use Rattle.spec_volrows.specs.NodeHosts.{NodeHost}
+use Rattle.spec_rows.specs.Hosts.{steady}
+use Rattle.spec_rows.specs.Steps.{Step}
+use Rattle.afs_schedule.specs.Schedules.{act_input, client_act, is_idle, left_by, timeout_input, IsInput, ScheduleState}
+use Rattle.afs_text.specs.Telling.{entries_as_told, sent_by}
 use Rattle.afs_clients.specs.Places.{put_place}
 use Rattle.afs_cell.specs.Steps.{IsAt, Plays}
-use Rattle.afs_cell.specs.Worlds.{falls, IsClient, WorldState}
+use Rattle.afs_cell.specs.Worlds.{own_failures, IsClient, WorldState}
 use Rattle.afs_host.specs.LocSeated.{IsLocHost}
 use Rattle.afs_serverhost.specs.Seated.{IsHost}
 use Rattle.afs_clients.specs.declared.clients.ClientSeat.{ClientSeat}
@@ -100,7 +100,7 @@ moves_so c n s = record {
   away_there = λ j e. refl;
 }
 
-turns_so : (c : NodeCell) (n : ℕ) (away : Bool) (s : Step CopyState) → CellMoved c n (turned n away (client_moves c n s)) s.state away s.lines s.sent
+turns_so : (c : NodeCell) (n : ℕ) (away : Bool) (s : Step CopyState) → CellMoved c n (client_turned n away (client_moves c n s)) s.state away s.lines s.sent
 turns_so c n away s = record {
   entry = refl;
   loc = refl;
@@ -122,7 +122,7 @@ turns_so c n away s = record {
 -- ---- the world
 
 -- a step that an input gives to a client
-pub record ClientLinked (is : CellInput → Type 0) (t : Turn) (n : ℕ) (now : ClientSeat) (front : List Line) (outs : Outs) : Type 0 where
+pub record ClientLinked (is : CellInput → Type 0) (t : ScheduleState) (n : ℕ) (now : ClientSeat) (front : List Line) (outs : Outs) : Type 0 where
   pub input : CellInput
   pub is_one : is input
   pub away : Bool
@@ -133,10 +133,10 @@ pub record ClientLinked (is : CellInput → Type 0) (t : Turn) (n : ℕ) (now : 
   pub plan : left_by input t.left (Client n) ≡ now.plan
   pub plans : (j : ℕ) → nat_eq n j ≡ false → left_by input t.left (Client j) ≡ t.left (Client j)
   pub orders : (j : ℕ) → left_by input t.left (Admin j) ≡ t.left (Admin j)
-  pub harmless : falls input ≡ 0
+  pub harmless : own_failures input ≡ 0
 
 module _ {D : Type 0} (seen : D → Option (List ℕ)) (may_leave : D → List ℕ → Type 0) (faults limit : D → ℕ) where
-  at_moved : (w : WorldState D) (t : Turn) (is : CellInput → Type 0) (n : ℕ) (was now : ClientSeat) (front : List Line) (outs : Outs) → at_place w.clients n ≡ Some was → (link : ClientLinked is t n now front outs)
+  at_moved : (w : WorldState D) (t : ScheduleState) (is : CellInput → Type 0) (n : ℕ) (was now : ClientSeat) (front : List Line) (outs : Outs) → at_place w.clients n ≡ Some was → (link : ClientLinked is t n now front outs)
       → IsAt seen may_leave limit w t.cell t.left → IsAt seen may_leave limit (after_client w n now front outs) (node_moved t.cell link.input).cell (left_by link.input t.left)
   at_moved w t is n was now front outs found link at = record {
     cell = record {
@@ -164,14 +164,14 @@ module _ {D : Type 0} (seen : D → Option (List ℕ)) (may_leave : D → List �
     orders = λ j z here. link.orders j ∙ at.orders j z here;
   }
 
-  pub client_plays : (is : CellInput → Type 0) (t : Turn) (w : WorldState D) (n : ℕ) (was now : ClientSeat) (front : List Line) (outs : Outs) → sent_by w.history ≡ length w.wire → at_place w.clients n ≡ Some was
+  pub client_plays : (is : CellInput → Type 0) (t : ScheduleState) (w : WorldState D) (n : ℕ) (was now : ClientSeat) (front : List Line) (outs : Outs) → sent_by w.history ≡ length w.wire → at_place w.clients n ≡ Some was
       → IsAt seen may_leave limit w t.cell t.left → ClientLinked is t n now front outs → Plays seen may_leave faults limit is t w (after_client w n now front outs)
   client_plays is t w n was now front outs all found at link = record {
     input = link.input;
     is_one = link.is_one;
     history =
         told-push w.wire outs.parcels w.history (entry_of (Client n) (front ++ outs.lines) (length outs.parcels)) all refl
-        ∙ ap (λ (e : Entry). told w.wire w.history ++ bare_entry e ∷ [])
+        ∙ ap (λ (e : Entry). entries_as_told w.wire w.history ++ bare_entry e ∷ [])
         (ap (λ (ms : List Message). entry_with (actors.Node (Client n)) (front ++ outs.lines) ms) (messages_of-read outs.parcels link.ms link.read) ∙ sym link.moves.entry);
     at = at_moved w t is n was now front outs found link at;
     counts = counts_still faults link.input (node_moved t.cell link.input).entry w link.harmless;
@@ -186,8 +186,8 @@ pub unless : {A : Type 0} (b : Bool) (x y : A) → b ≡ false → cond b x y �
 unless b x y e = ap (λ (a : Bool). cond a x y) e
 
 -- a step that leaves the client up, and its acts but for those that the input takes
-makes_linked : (is : CellInput → Type 0) (t : Turn) (n : ℕ) (x : CellInput) (was now : ClientSeat) (front : List Line) (outs : Outs) (s : Step CopyState) → is x → node_moved t.cell x ≡ client_moves t.cell n s → IsClient was (t.cell.clients n) (t.cell.away n)
-    → ClientMakes front s was now outs → left_by x t.left (Client n) ≡ now.plan → ((j : ℕ) → nat_eq n j ≡ false → left_by x t.left (Client j) ≡ t.left (Client j)) → ((j : ℕ) → left_by x t.left (Admin j) ≡ t.left (Admin j)) → falls x ≡ 0 → ClientLinked is t n now front outs
+makes_linked : (is : CellInput → Type 0) (t : ScheduleState) (n : ℕ) (x : CellInput) (was now : ClientSeat) (front : List Line) (outs : Outs) (s : Step CopyState) → is x → node_moved t.cell x ≡ client_moves t.cell n s → IsClient was (t.cell.clients n) (t.cell.away n)
+    → ClientMakes front s was now outs → left_by x t.left (Client n) ≡ now.plan → ((j : ℕ) → nat_eq n j ≡ false → left_by x t.left (Client j) ≡ t.left (Client j)) → ((j : ℕ) → left_by x t.left (Admin j) ≡ t.left (Admin j)) → own_failures x ≡ 0 → ClientLinked is t n now front outs
 makes_linked is t n x was now front outs s one moves here makes plan plans orders harmless = record {
   input = x;
   is_one = one;
@@ -240,7 +240,7 @@ moved_risen : (c : NodeCell) (n : ℕ) → c.away n ≡ true → node_moved c (u
 unfolding usually_moved
 moved_risen c n away = ap (λ (b : Bool). cond b (client_rises c n) (voided c)) away
 
-module _ {D : Type 0} (seen : D → Option (List ℕ)) (may_leave : D → List ℕ → Type 0) (faults limit : D → ℕ) (t : Turn) (w : WorldState D) (n : ℕ) (was now : ClientSeat) (outs : Outs) (at : IsAt seen may_leave limit w t.cell t.left) (found : at_place w.clients n ≡ Some was) where
+module _ {D : Type 0} (seen : D → Option (List ℕ)) (may_leave : D → List ℕ → Type 0) (faults limit : D → ℕ) (t : ScheduleState) (w : WorldState D) (n : ℕ) (was now : ClientSeat) (outs : Outs) (at : IsAt seen may_leave limit w t.cell t.left) (found : at_place w.clients n ≡ Some was) where
   here : IsClient was (t.cell.clients n) (t.cell.away n)
   here = at.cell.clients n was found
 
@@ -376,13 +376,13 @@ heard_void c n place m at to away =
     ap (given_at c place steady) at ∙ (ap (given_to c place steady m) to
     ∙ ap (λ (b : Bool). cond b (voided c) (client_moves c n (copy_row (Client n) (c.clients n) c.clock place (Whole m)))) away)
 
-pub void_heard : (t : Turn) (n place : ℕ) (m : Message) → message_at t.cell.sent place ≡ Some m → m.head.to ≡ Client n → (has_client t.cell.count n ≡ false) ⊎ (t.cell.away n ≡ true) → Voided (IsInput t (events.Deliver place)) t
+pub void_heard : (t : ScheduleState) (n place : ℕ) (m : Message) → message_at t.cell.sent place ≡ Some m → m.head.to ≡ Client n → (has_client t.cell.count n ≡ false) ⊎ (t.cell.away n ≡ true) → Voided (IsInput t (events.Deliver place)) t
 void_heard t n place m at to none = record { input = usual (gives place steady); is_one = (steady, (refl, tt)); moves = heard_void t.cell n place m at to (absent t.cell n none); left = refl; harmless = refl }
 
-act_void : (t : Turn) (n : ℕ) → (is_away t.cell n ≡ true) ⊎ ((is_idle (act_of (t.cell.clients n).client) ≡ false) ⊎ (client_act (slice_get (t.left (Client n)) 0) ≡ None)) → Voided (IsInput t (events.Act (Client n))) t
+act_void : (t : ScheduleState) (n : ℕ) → (is_away t.cell n ≡ true) ⊎ ((is_idle (act_of (t.cell.clients n).client) ≡ false) ⊎ (client_act (slice_get (t.left (Client n)) 0) ≡ None)) → Voided (IsInput t (events.Act (Client n))) t
 act_void t n none = record { input = usual nothing; is_one = sym (ap (λ (x : Input). usual x) (no_act t.cell n (client_act (slice_get (t.left (Client n)) 0)) none)); moves = moved_nothing t.cell; left = refl; harmless = refl }
 
-timed_harmless : (n : ℕ) (b : Bool) → falls (usual (if b then waits n else nothing)) ≡ 0
+timed_harmless : (n : ℕ) (b : Bool) → own_failures (usual (if b then waits n else nothing)) ≡ 0
 timed_harmless n true = refl
 timed_harmless n false = refl
 
@@ -390,7 +390,7 @@ timed_left : (n : ℕ) (b : Bool) (left : Node → List Task) → left_by (usual
 timed_left n true left = refl
 timed_left n false left = refl
 
-timed_void : (t : Turn) (n : ℕ) (callee : Node) → (is_away t.cell n ≡ true) ⊎ ((act_of (t.cell.clients n).client ≡ None) ⊎ (same_node (t.cell.clients n).client.callee callee ≡ false)) → Voided (IsInput t (events.Timeout (Client n) callee)) t
+timed_void : (t : ScheduleState) (n : ℕ) (callee : Node) → (is_away t.cell n ≡ true) ⊎ ((act_of (t.cell.clients n).client ≡ None) ⊎ (same_node (t.cell.clients n).client.callee callee ≡ false)) → Voided (IsInput t (events.Timeout (Client n) callee)) t
 timed_void t n callee none = record {
   input = usual (timeout_input (t.cell.clients n).client n callee);
   is_one = refl;
@@ -399,7 +399,7 @@ timed_void t n callee none = record {
   harmless = timed_harmless n (same_node (t.cell.clients n).client.callee callee);
 }
 
-module _ (t : Turn) (n : ℕ) (was : ClientSeat) (here : IsClient was (t.cell.clients n) (t.cell.away n)) (plan : t.left (Client n) ≡ was.plan) where
+module _ (t : ScheduleState) (n : ℕ) (was : ClientSeat) (here : IsClient was (t.cell.clients n) (t.cell.away n)) (plan : t.left (Client n) ≡ was.plan) where
   is_down : was.is_away ≡ true → is_away t.cell n ≡ true
   is_down e = absent t.cell n (inr (sym here.away_is ∙ e))
 
@@ -413,7 +413,7 @@ module _ (t : Turn) (n : ℕ) (was : ClientSeat) (here : IsClient was (t.cell.cl
   timed_by callee (inr (inl e)) = inr (inl (ap (λ (c : CopyState). act_of c.client) (sym here.state_is) ∙ e))
   timed_by callee (inr (inr e)) = inr (inr (ap (λ (c : CopyState). same_node c.client.callee callee) (sym here.state_is) ∙ e))
 
-  pub void_asked : (input : ClientInput) → IsVoidClient input was → Voided (IsAsked input n t) t
+  pub void_asked : (input : ClientInput) → IsVoidClient input was → Voided (IsBegunOrGiven input n t) t
   void_asked client.Act h = act_void t n (busy_by h)
   void_asked (client.TimeOut callee) h = timed_void t n callee (timed_by callee h)
   void_asked client.Crash h = record { input = usual (client_stops n); is_one = refl; moves = stops_void t.cell n (is_down h); left = refl; harmless = refl }

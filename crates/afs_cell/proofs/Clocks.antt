@@ -1,7 +1,7 @@
 -- The clock where what happened is told.
 use Rattle.std.proofs.Common.{ap, ◌∙◌, ◌≡◌, ℕ, List, Option, Result, Ok, Err}
 use Rattle.afs_num.specs.declared.types.Node.{Node}
-use Rattle.afs_history.specs.declared.lines.Line.{Line}
+use Rattle.spec_history.specs.declared.lines.Line.{Line}
 use Rattle.afs_host.specs.LocSeated.{DatabaseSeat}
 use Rattle.afs_serverhost.specs.Seated.{ServerSeat}
 use Rattle.afs_clients.specs.declared.clients.ClientSeat.{ClientSeat}

@@ -2,10 +2,10 @@
 use Rattle.std.specs.Prelude.{◌≡◌, ◌≤◌, ◌<◌, ◌⊎◌, ℕ, ◌+◌, ◌-◌, List, [], ◌++◌, length, Option}
 use Rattle.std.proofs.Common.{refl, ap, sym, subst, ◌∙◌, inl, inr, append-nil, arith}
 use Rattle.std.proofs.lemmas.List.{length-append}
-use Rattle.afs_history.specs.declared.lines.Entry as kept
-use Rattle.afs_history.specs.declared.scripts.Script.{Script}
+use Rattle.spec_history.specs.declared.lines.Entry as kept
+use Rattle.spec_history.specs.declared.scripts.Script.{Script}
 use Rattle.afs_schedule.specs.Schedules.{events_of}
-use Rattle.afs_schedule.specs.Settled.{settled}
+use Rattle.afs_schedule.specs.Settled.{places_settled}
 use Rattle.afs_schedule.specs.Taking.{IsLeft}
 use Rattle.afs_schedule.specs.declared.schedule.Schedule.{Schedule}
 use Rattle.afs_summary.specs.Counting.{AreCounted}
@@ -14,7 +14,7 @@ use Rattle.afs_cell.specs.Since.{whole, IsBefore, Keeps, LetsGo}
 use Rattle.afs_cell.specs.Steps.{IsFirst, TellsNothing}
 use Rattle.afs_cell.specs.UnderWay.{GoesSo, IsUnderWay}
 use Rattle.afs_cell.specs.UnderWaySince.{GoesSoSince, IsUnderWaySince}
-use Rattle.afs_cell.specs.Worlds.{most_entries, none_gone, AllTell, HistoryTold, IsSafe, IsWorld, LetGo, WorldState}
+use Rattle.afs_cell.specs.Worlds.{most_history_entries, none_gone, AllTell, HistoryTold, IsSafe, IsWorld, LetGo, WorldState}
 use Rattle.afs_cell.specs.declared.playing.Played.TheVariants as played
 use Rattle.afs_cell.proofs.UnderWay.{begins}
 use Rattle.afs_cell.proofs.Whole.{before_more, whole_more, with_more}
@@ -83,11 +83,11 @@ module _ {D : Type 0} (seen : D → Option (List ℕ)) (may_leave : D → List �
         safe_new : IsSafe limit w.script (whole c.gone new)
         safe_new = went.0.world.safe
 
-        pub few_now : new.gone.entries + length new.history ≤ most_entries
+        pub few_now : new.gone.entries + length new.history ≤ most_history_entries
         few_now = omega (arith, safe_new.entries, is_new.entries, length-append c.gone.history new.history)
 
         pub counts_on : (es : List kept.Entry) → es ≡ new.history → (later : Option Counts) → ((before : List kept.Entry) → AreCounted counts before → AreCounted later (before ++ es))
-            → settled schedule ≤ settled after → (end : WorldState D) (places : ℕ) → places ≡ settled after → LetsGo places new end → CountsOn seen may_leave faults limit s tells end after later
+            → places_settled schedule ≤ places_settled after → (end : WorldState D) (places : ℕ) → places ≡ places_settled after → LetsGo places new end → CountsOn seen may_leave faults limit s tells end after later
         counts_on es entries later count grows end places is go =
             let script : end.script ≡ w.script = ap (λ (v : WorldState D). v.script) go.is ∙ k.script in
             let same = whole_more c.gone places new end go in
@@ -104,12 +104,12 @@ module _ {D : Type 0} (seen : D → Option (List ℕ)) (may_leave : D → List �
               tell = λ t. subst (λ (v : WorldState D). AllTell seen v) (sym go.is) (tell (c.tell t));
               counted = subst (λ (xs : List kept.Entry). AreCounted later (c.gone.history ++ xs)) entries (count c.gone.history c.counted);
             } where
-              kept_now : (end.gone.messages ≡ new.gone.messages) ⊎ (end.gone.messages ≤ places) → end.gone.messages ≤ settled after
+              kept_now : (end.gone.messages ≡ new.gone.messages) ⊎ (end.gone.messages ≤ places) → end.gone.messages ≤ places_settled after
               kept_now (inl same) = omega (arith, same, ap (λ (x : LetGo). x.messages) k.gone, c.kept, grows)
               kept_now (inr few) = omega (arith, few, is)
 
         -- the history grew by one entry
-        pub smaller : (end : WorldState D) (places : ℕ) → LetsGo places new end → most_entries - (end.gone.entries + length end.history) < most_entries - (w.gone.entries + length w.history)
+        pub smaller : (end : WorldState D) (places : ℕ) → LetsGo places new end → most_history_entries - (end.gone.entries + length end.history) < most_history_entries - (w.gone.entries + length w.history)
         smaller end places go =
             let entries : end.gone.entries ≡ new.gone.entries + length new.history = ap (λ (v : WorldState D). v.gone.entries) go.is in
             let none : length end.history ≡ 0 = ap (λ (v : WorldState D). length v.history) go.is in

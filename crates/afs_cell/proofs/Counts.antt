@@ -6,10 +6,10 @@ use Rattle.afs_num.specs.declared.histories.Actor.{Actor}
 use Rattle.afs_num.specs.declared.histories.Actor.TheVariants as actors
 use Rattle.afs_num.specs.declared.types.Node.TheVariants.{Loc, Server}
 use Rattle.afs_disk.specs.Disk.{Rose}
-use Rattle.afs_rows.specs.Runs.{Entry}
-use Rattle.afs_runs.specs.NodeRuns.{CellInput}
+use Rattle.spec_rows.specs.Runs.{Entry}
+use Rattle.spec_runs.specs.NodeRuns.{CellInput}
 use Rattle.afs_clients.specs.Places.{put_place}
-use Rattle.afs_cell.specs.Worlds.{falls, falls_at, is_other, own_falls, Counts, IsCounted, WorldState}
+use Rattle.afs_cell.specs.Worlds.{own_failures, falls_at, is_other_node, own_falls, Counts, IsCounted, WorldState}
 use Rattle.afs_host.specs.LocSeated.{loc_seat_disk, DatabaseSeat}
 use Rattle.afs_serverhost.specs.Seated.{seat_disk, ServerSeat}
 use Rattle.afs_clients.proofs.Numbers.{each_map, each_put, place_within}
@@ -20,18 +20,18 @@ at_most_by : (b : Bool) (n : ℕ) → (if b then 0 else n) ≤ n
 at_most_by true n = omega arith
 at_most_by false n = omega arith
 
-at_most : (i : ℕ) (x : CellInput) (e : Entry) → falls_at i x e ≤ falls x
-at_most i x e = at_most_by (is_other i e.actor) (falls x)
+at_most : (i : ℕ) (x : CellInput) (e : Entry) → falls_at i x e ≤ own_failures x
+at_most i x e = at_most_by (is_other_node i e.actor) (own_failures x)
 
 -- an input with which no disk fails
-pub none_falls : (i : ℕ) (x : CellInput) (e : Entry) → falls x ≡ 0 → falls_at i x e ≡ 0
+pub none_falls : (i : ℕ) (x : CellInput) (e : Entry) → own_failures x ≡ 0 → falls_at i x e ≡ 0
 none_falls i x e none =
     let most = at_most i x e in
     omega (arith, most, none)
 
 -- the entry of another node
-other_stands : (j : ℕ) (x : CellInput) (e : Entry) (actor : Actor) → e.actor ≡ actor → is_other j actor ≡ true → falls_at j x e ≡ 0
-other_stands j x e actor of apart = ap (λ (a : Actor). if is_other j a then 0 else falls x) of ∙ ap (λ (b : Bool). if b then 0 else falls x) apart
+other_stands : (j : ℕ) (x : CellInput) (e : Entry) (actor : Actor) → e.actor ≡ actor → is_other_node j actor ≡ true → falls_at j x e ≡ 0
+other_stands j x e actor of apart = ap (λ (a : Actor). if is_other_node j a then 0 else own_failures x) of ∙ ap (λ (b : Bool). if b then 0 else own_failures x) apart
 
 -- one input more
 pub falls_behind : (i : ℕ) (xs : List CellInput) (es : List Entry) (x : CellInput) (e : Entry) → length xs ≡ length es → own_falls i (xs ++ x ∷ []) (es ++ e ∷ []) ≡ own_falls i xs es + falls_at i x e
@@ -64,7 +64,7 @@ module _ {D : Type 0} (faults : D → ℕ) where
   )
 
   -- no disk failed with this input
-  pub counts_still : (x : CellInput) (e : Entry) (w : WorldState D) → falls x ≡ 0 → (own : ℕ → ℕ) → Counts faults own w → Counts faults (λ (i : ℕ). own i + falls_at i x e) w
+  pub counts_still : (x : CellInput) (e : Entry) (w : WorldState D) → own_failures x ≡ 0 → (own : ℕ → ℕ) → Counts faults own w → Counts faults (λ (i : ℕ). own i + falls_at i x e) w
   counts_still x e w none own = counts_as own (λ (i : ℕ). own i + falls_at i x e) w (λ i. stands i (none_falls i x e none)) where
     stands : (i : ℕ) → falls_at i x e ≡ 0 → own i + falls_at i x e ≡ own i
     stands i nothing = omega (arith, nothing)
@@ -80,14 +80,14 @@ module _ {D : Type 0} (faults : D → ℕ) where
   counted_more n k m was now le few (inr (one, inr last)) (inl counted) = inr (omega (arith, last, le))
 
   -- a server's step, with an input that made an entry of this server
-  pub counts_put : (i : ℕ) (x : CellInput) (e : Entry) (was now : ServerSeat D) (w : WorldState D) → e.actor ≡ actors.Node (Server i) → at_place w.servers i ≡ Some was → faults (seat_disk was) ≤ faults (seat_disk now) → Blames (falls x) (seat_disk was) (seat_disk now)
+  pub counts_put : (i : ℕ) (x : CellInput) (e : Entry) (was now : ServerSeat D) (w : WorldState D) → e.actor ≡ actors.Node (Server i) → at_place w.servers i ≡ Some was → faults (seat_disk was) ≤ faults (seat_disk now) → Blames (own_failures x) (seat_disk was) (seat_disk now)
       → (own : ℕ → ℕ) → Counts faults own w → Counts faults (λ (j : ℕ). own j + falls_at j x e) (record w { servers = put_place i now w.servers })
   counts_put i x e was now w actor found le blames own h =
       let there : nat_eq i 0 ≡ false = ne_eqb i 0 (λ same. absurd (omega (arith, same, (place_within w.servers i was found).0))) in (
         none_more (own 0) (falls_at 0 x e) (faults (loc_seat_disk w.database)) (other_stands 0 x e (actors.Node (Server i)) actor (ap not there)) h.0,
         each_put (λ (j : ℕ) (z : ServerSeat D). IsCounted (own j) (faults (seat_disk z))) (λ (j : ℕ) (z : ServerSeat D). IsCounted (own j + falls_at j x e) (faults (seat_disk z))) i now was w.servers found h.1
             (λ j z apart counted. none_more (own j) (falls_at j x e) (faults (seat_disk z)) (other_stands j x e (actors.Node (Server i)) actor (ap not apart)) counted)
-            (counted_more (own i) (falls x) (falls_at i x e) (seat_disk was) (seat_disk now) le (at_most i x e) blames (h.1 i was found)),
+            (counted_more (own i) (own_failures x) (falls_at i x e) (seat_disk was) (seat_disk now) le (at_most i x e) blames (h.1 i was found)),
       )
 
   -- and where nothing was told of it
@@ -99,10 +99,10 @@ module _ {D : Type 0} (faults : D → ℕ) where
   )
 
   -- so it is of the location database
-  pub loc_counts_put : (x : CellInput) (e : Entry) (now : DatabaseSeat D) (w : WorldState D) → e.actor ≡ actors.Node Loc → faults (loc_seat_disk w.database) ≤ faults (loc_seat_disk now) → Blames (falls x) (loc_seat_disk w.database) (loc_seat_disk now)
+  pub loc_counts_put : (x : CellInput) (e : Entry) (now : DatabaseSeat D) (w : WorldState D) → e.actor ≡ actors.Node Loc → faults (loc_seat_disk w.database) ≤ faults (loc_seat_disk now) → Blames (own_failures x) (loc_seat_disk w.database) (loc_seat_disk now)
       → (own : ℕ → ℕ) → Counts faults own w → Counts faults (λ (j : ℕ). own j + falls_at j x e) (record w { database = now })
   loc_counts_put x e now w actor le blames own h = (
-    counted_more (own 0) (falls x) (falls_at 0 x e) (loc_seat_disk w.database) (loc_seat_disk now) le (at_most 0 x e) blames h.0,
+    counted_more (own 0) (own_failures x) (falls_at 0 x e) (loc_seat_disk w.database) (loc_seat_disk now) le (at_most 0 x e) blames h.0,
     λ j z here.
         let there : nat_eq 0 j ≡ false = ne_eqb 0 j (λ same. absurd (omega (arith, same, (place_within w.servers j z here).0))) in
         none_more (own j) (falls_at j x e) (faults (seat_disk z)) (other_stands j x e (actors.Node Loc) actor (ap not there)) (h.1 j z here),

@@ -4,15 +4,15 @@ use Rattle.afs_num.specs.Places.{at_place}
 use Rattle.afs_num.specs.declared.messages.Message.{Message}
 use Rattle.afs_num.specs.declared.types.Node.TheVariants.{Loc}
 use Rattle.afs_num.specs.declared.types.Parcel.{Parcel}
-use Rattle.afs_history.specs.declared.lines.Line.TheVariants as lines
-use Rattle.afs_history.specs.declared.lines.Outs.{Outs}
-use Rattle.afs_history.specs.declared.scripts.Event.TheVariants as events
+use Rattle.spec_history.specs.declared.lines.Line.TheVariants as lines
+use Rattle.spec_history.specs.declared.lines.Outs.{Outs}
+use Rattle.spec_history.specs.declared.scripts.Event.TheVariants as events
 use Rattle.afs_disk.specs.Disk.{Rose}
-use Rattle.afs_rows.specs.Hosts.{comes_up, crashed, restarted, served, set_to_fail, set_to_stop, steady, Fall, Luck, MayBegin, Outcome}
-use Rattle.afs_rows.specs.LocSteps.{loc_kind}
-use Rattle.afs_rows.specs.Runs.{gives, message_at, sets_fail, sets_stop, starts_again, stops}
-use Rattle.afs_runs.specs.NodeRuns.{given_at, given_to, loc_placed, loc_restarted, loc_up, node_moved, usual, usually_moved, voided, NodeCell}
-use Rattle.afs_schedule.specs.Schedules.{IsInput, Turn}
+use Rattle.spec_rows.specs.Hosts.{comes_up, crashed, restarted, served, set_to_fail, set_to_stop, steady, Fall, Luck, MayBegin, Outcome}
+use Rattle.spec_rows.specs.LocSteps.{loc_kind}
+use Rattle.spec_rows.specs.Runs.{gives, message_at, sets_fail, sets_stop, starts_again, stops}
+use Rattle.spec_runs.specs.NodeRuns.{given_at, given_to, loc_stepped, loc_restarted, loc_up, node_moved, usual, usually_moved, voided, NodeCell}
+use Rattle.afs_schedule.specs.Schedules.{IsInput, ScheduleState}
 use Rattle.afs_clients.specs.Happening.{IsGivenToLoc}
 use Rattle.afs_clients.specs.declared.happening.DatabaseInput.{DatabaseInput}
 use Rattle.afs_clients.specs.declared.happening.DatabaseInput.TheVariants as database
@@ -26,30 +26,30 @@ use Rattle.afs_cell.proofs.Links.{luck_blames, luck_is, message_found, outcome_b
 -- ---- the cell
 
 -- while it is up
-loc_served : (c : NodeCell) (place : ℕ) (luck : Luck) (m : Message) → message_at c.sent place ≡ Some m → m.head.to ≡ Loc → c.loc.down ≡ None → node_moved c (usual (gives place luck)) ≡ loc_placed c (served loc_kind c.loc c.clock place luck m)
+loc_served : (c : NodeCell) (place : ℕ) (luck : Luck) (m : Message) → message_at c.sent place ≡ Some m → m.head.to ≡ Loc → c.loc.down ≡ None → node_moved c (usual (gives place luck)) ≡ loc_stepped c (served loc_kind c.loc c.clock place luck m)
 unfolding usually_moved
 loc_served c place luck m at to up = ap (given_at c place luck) at ∙ (ap (given_to c place luck m) to ∙ ap (loc_up c (served loc_kind c.loc c.clock place luck m)) up)
 
-loc_crashed : (c : NodeCell) → c.loc.down ≡ None → node_moved c (usual (stops 0)) ≡ loc_placed c (crashed loc_kind c.loc)
+loc_crashed : (c : NodeCell) → c.loc.down ≡ None → node_moved c (usual (stops 0)) ≡ loc_stepped c (crashed loc_kind c.loc)
 unfolding usually_moved
 loc_crashed c up = ap (loc_up c (crashed loc_kind c.loc)) up
 
-loc_set_to_stop : (c : NodeCell) (calls pick : ℕ) → c.loc.down ≡ None → node_moved c (usual (sets_stop 0 calls pick)) ≡ loc_placed c (set_to_stop loc_kind c.loc calls pick)
+loc_set_to_stop : (c : NodeCell) (calls pick : ℕ) → c.loc.down ≡ None → node_moved c (usual (sets_stop 0 calls pick)) ≡ loc_stepped c (set_to_stop loc_kind c.loc calls pick)
 unfolding usually_moved
 loc_set_to_stop c calls pick up = ap (loc_up c (set_to_stop loc_kind c.loc calls pick)) up
 
-loc_set_to_fail : (c : NodeCell) (call : ℕ) → c.loc.down ≡ None → node_moved c (usual (sets_fail 0 call)) ≡ loc_placed c (set_to_fail loc_kind c.loc call)
+loc_set_to_fail : (c : NodeCell) (call : ℕ) → c.loc.down ≡ None → node_moved c (usual (sets_fail 0 call)) ≡ loc_stepped c (set_to_fail loc_kind c.loc call)
 unfolding usually_moved
 loc_set_to_fail c call up = ap (loc_up c (set_to_fail loc_kind c.loc call)) up
 
 -- while it is down
-loc_begins : (c : NodeCell) (after : Bool) (outcome : Outcome) (fall : Fall) → c.loc.down ≡ Some fall → node_moved c (usual (starts_again 0 after outcome)) ≡ loc_placed c (restarted loc_kind c.loc c.clock c.count after outcome fall)
+loc_begins : (c : NodeCell) (after : Bool) (outcome : Outcome) (fall : Fall) → c.loc.down ≡ Some fall → node_moved c (usual (starts_again 0 after outcome)) ≡ loc_stepped c (restarted loc_kind c.loc c.clock c.count after outcome fall)
 unfolding usually_moved
 loc_begins c after outcome fall down = ap (loc_restarted c after outcome) down
 
 -- ---- an input
 
-module _ {D : Type 0} (seen : D → Option (List ℕ)) (may_leave : D → List ℕ → Type 0) (faults limit : D → ℕ) (t : Turn) (was now : DatabaseSeat D) (outs : Outs) where
+module _ {D : Type 0} (seen : D → Option (List ℕ)) (may_leave : D → List ℕ → Type 0) (faults limit : D → ℕ) (t : ScheduleState) (was now : DatabaseSeat D) (outs : Outs) where
   -- a message
   pub link_loc_message : (w : WorldState D) (place : ℕ) (p : Parcel) → IsCell seen may_leave limit w t.cell → at_place w.wire place ≡ Some p → p.head.to ≡ Loc
       → HasLocHeard t.cell.clock place p.bytes t.cell.loc (IsStepOf (database_seat seen may_leave limit) now (lines.Given place ∷ []) outs) (Rose (faults (loc_seat_disk was)) (faults (loc_seat_disk now)))
@@ -113,7 +113,7 @@ unheard : (c : NodeCell) (place : ℕ) (m : Message) → message_at c.sent place
 unfolding usually_moved
 unheard c place m at to fallen = ap (given_at c place steady) at ∙ (ap (given_to c place steady m) to ∙ ap (loc_up c (served loc_kind c.loc c.clock place steady m)) fallen.1)
 
-pub void_loc_message : (t : Turn) (place : ℕ) (m : Message) → message_at t.cell.sent place ≡ Some m → m.head.to ≡ Loc → IsLocFallen t.cell.loc → Voided (IsInput t (events.Deliver place)) t
+pub void_loc_message : (t : ScheduleState) (place : ℕ) (m : Message) → message_at t.cell.sent place ≡ Some m → m.head.to ≡ Loc → IsLocFallen t.cell.loc → Voided (IsInput t (events.Deliver place)) t
 void_loc_message t place m at to fallen = record { input = usual (gives place steady); is_one = (steady, (refl, tt)); moves = unheard t.cell place m at to fallen; left = refl; harmless = refl }
 
 not_stopped : (c : NodeCell) → IsLocFallen c.loc → node_moved c (usual (stops 0)) ≡ voided c
@@ -132,7 +132,7 @@ not_set_to_fail : (c : NodeCell) (call : ℕ) → IsLocFallen c.loc → node_mov
 unfolding usually_moved
 not_set_to_fail c call fallen = ap (loc_up c (set_to_fail loc_kind c.loc call)) fallen.1
 
-pub void_loc_input : (t : Turn) (input : DatabaseInput) → IsVoidAtLoc input t.cell.loc → Voided (IsGivenToLoc input t) t
+pub void_loc_input : (t : ScheduleState) (input : DatabaseInput) → IsVoidAtLoc input t.cell.loc → Voided (IsGivenToLoc input t) t
 void_loc_input t (database.Crash pick) fallen = record { input = usual (stops 0); is_one = refl; moves = not_stopped t.cell fallen; left = refl; harmless = refl }
 void_loc_input t database.Restart up =
     let a = some_begin t.cell.loc.down in

@@ -1,7 +1,7 @@
 -- What a crash of the location database leaves of its disk, in the world.
 use Rattle.std.proofs.Common.{refl, ap, sym, subst, ◌∙◌, ◌≡◌, ℕ, List, [], Option, Some, None, Result, Ok, Err}
 use Rattle.afs_num.specs.declared.types.Node.TheVariants.{Loc}
-use Rattle.afs_rows.specs.LocSteps.{LocHost}
+use Rattle.spec_rows.specs.LocSteps.{LocHost}
 use Rattle.afs_locdb.specs.Seen.{loc_seen}
 use Rattle.afs_host.specs.LocSeated.{loc_seat_disk, DatabaseSeat, IsLocHost}
 use Rattle.afs_host.specs.LocSeats.{loc_disk_of, DatabaseRunning}

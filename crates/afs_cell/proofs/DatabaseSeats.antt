@@ -3,15 +3,15 @@ use Rattle.std.proofs.Common.{refl, ap, sym, subst, ◌∙◌, ◌≡◌, ◌≤
 use Rattle.std.specs.Prelude.{◌↔◌, IsSome}
 use Rattle.afs_num.specs.declared.messages.Message.{Message}
 use Rattle.afs_num.specs.declared.messages.Received.TheVariants.{Whole}
-use Rattle.afs_history.specs.declared.lines.Line.{Line}
-use Rattle.afs_history.specs.declared.lines.Line.TheVariants as lines
-use Rattle.afs_history.specs.declared.lines.Outs.{Outs}
+use Rattle.spec_history.specs.declared.lines.Line.{Line}
+use Rattle.spec_history.specs.declared.lines.Line.TheVariants as lines
+use Rattle.spec_history.specs.declared.lines.Outs.{Outs}
 use Rattle.afs_disk.specs.Disk.{Rose}
 use Rattle.afs_disk.specs.declared.disk.Disk.{Ghosts}
-use Rattle.afs_model.specs.Messages.{messages_spelled, parcels_read, received}
-use Rattle.afs_rows.specs.Hosts.{HostStep}
-use Rattle.afs_rows.specs.LocRow.{LocState}
-use Rattle.afs_rows.specs.LocSteps.{loc_kind, LocHost}
+use Rattle.spec_model.specs.Messages.{messages_spelled, parcels_read, received}
+use Rattle.spec_rows.specs.Hosts.{HostStep}
+use Rattle.spec_rows.specs.LocRow.{LocState}
+use Rattle.spec_rows.specs.LocSteps.{loc_kind, LocHost}
 use Rattle.afs_host.specs.LocSeated.{DatabaseSeat}
 use Rattle.afs_host.specs.LocSeats.{loc_disk_of, DatabaseRunning, IsLocDown, IsLocStepDown, IsLocStepUp, IsLocUp}
 use Rattle.afs_host.specs.LocServing.{LocHasFallen}

@@ -3,23 +3,23 @@ use Rattle.std.proofs.Common.{refl, ap, sym, subst, ◌∙◌, ◌≡◌, ◌<�
 use Rattle.afs_num.specs.Places.{at_place}
 use Rattle.afs_num.specs.declared.types.Node.TheVariants.{Loc, Server}
 use Rattle.afs_num.specs.declared.types.Parcel.{Parcel}
-use Rattle.afs_history.specs.declared.lines.Line.{Line}
-use Rattle.afs_history.specs.declared.lines.Line.TheVariants as lines
-use Rattle.afs_history.specs.declared.lines.Outs.{Outs}
-use Rattle.afs_history.specs.declared.scripts.Event.TheVariants as events
-use Rattle.afs_history.specs.declared.scripts.Script.{Script}
+use Rattle.spec_history.specs.declared.lines.Line.{Line}
+use Rattle.spec_history.specs.declared.lines.Line.TheVariants as lines
+use Rattle.spec_history.specs.declared.lines.Outs.{Outs}
+use Rattle.spec_history.specs.declared.scripts.Event.TheVariants as events
+use Rattle.spec_history.specs.declared.scripts.Script.{Script}
 use Rattle.afs_disk.specs.Disk.{Rose}
-use Rattle.afs_rows.specs.Hosts.{HostStep}
-use Rattle.afs_rows.specs.LocRow.{LocState}
-use Rattle.afs_rows.specs.LocSteps.{LocHost}
-use Rattle.afs_runs.specs.NodeRuns.{CellInput}
-use Rattle.afs_schedule.specs.Schedules.{IsInput, Turn}
+use Rattle.spec_rows.specs.Hosts.{HostStep}
+use Rattle.spec_rows.specs.LocRow.{LocState}
+use Rattle.spec_rows.specs.LocSteps.{LocHost}
+use Rattle.spec_runs.specs.NodeRuns.{CellInput}
+use Rattle.afs_schedule.specs.Schedules.{IsInput, ScheduleState}
 use Rattle.afs_clients.specs.Happening.{front_lines, IsGivenToLoc}
 use Rattle.afs_cell.specs.DatabaseSteps.{database_seat, HasLocHeard, HasLocStep, IsLocFallen, IsVoidAtLoc, LocTakes}
 use Rattle.afs_cell.specs.Happening.{Settles}
 use Rattle.afs_cell.specs.SeatSteps.{IsStepOf}
 use Rattle.afs_cell.specs.Steps.{IsAt, Stepped}
-use Rattle.afs_cell.specs.Worlds.{most_entries, AllTell, IsSafe, WorldState}
+use Rattle.afs_cell.specs.Worlds.{most_history_entries, AllTell, IsSafe, WorldState}
 use Rattle.afs_host.specs.LocSeated.{loc_seat_disk, DatabaseSeat}
 use Rattle.afs_serverhost.specs.Seated.{ServerSeat, IsReadySeat}
 use Rattle.afs_cell.specs.declared.faults.WorldFault.{WorldFault}
@@ -36,13 +36,13 @@ use Rattle.afs_cell.proofs.Settled.{database_keeps, node_settles, ready_more, Le
 abbrev with_database : {D : Type 0} → WorldState D → DatabaseSeat D → WorldState D
 with_database {D} w now = record w { database = now }
 
-module _ {D : Type 0} (seen : D → Option (List ℕ)) (may_leave : D → List ℕ → Type 0) (faults limit : D → ℕ) (s : Script) (is : Turn → CellInput → Type 0) (w : WorldState D) (front : Option Line)
+module _ {D : Type 0} (seen : D → Option (List ℕ)) (may_leave : D → List ℕ → Type 0) (faults limit : D → ℕ) (s : Script) (is : ScheduleState → CellInput → Type 0) (w : WorldState D) (front : Option Line)
     (IsVoid : LocHost → Type 0) (Has : LocHost → (HostStep LocState → Type 0) → Type 0 → Type 0) where
   abbrev Voids : Type 0
-  Voids = AllTell seen w → (t : Turn) → IsAt seen may_leave limit w t.cell t.left → IsVoid t.cell.loc → Voided (is t) t
+  Voids = AllTell seen w → (t : ScheduleState) → IsAt seen may_leave limit w t.cell t.left → IsVoid t.cell.loc → Voided (is t) t
 
   abbrev Links : Type 0
-  Links = AllTell seen w → (t : Turn) → IsAt seen may_leave limit w t.cell t.left → (now : DatabaseSeat D) (outs : Outs)
+  Links = AllTell seen w → (t : ScheduleState) → IsAt seen may_leave limit w t.cell t.left → (now : DatabaseSeat D) (outs : Outs)
       → Has t.cell.loc (IsStepOf (database_seat seen may_leave limit) now (front_lines front) outs) (Rose (faults (loc_seat_disk w.database)) (faults (loc_seat_disk now))) → DatabaseLinked seen may_leave faults limit (is t) t w.database now (front_lines front) outs
 
   -- the servers can be given what comes next, one entry later too
@@ -70,18 +70,18 @@ module _ {D : Type 0} (seen : D → Option (List ℕ)) (may_leave : D → List �
   )
   takes_leaves now happened.Lost safe going takes voids links = database_keeps seen may_leave faults limit s w now takes.keeps
 
-  database_settles : (now : DatabaseSeat D) (what : Happened) (new : WorldState D) (result : Result (Unit {0}) WorldFault) → IsSafe limit s w → w.is_lost ≡ false → length w.history < most_entries
+  database_settles : (now : DatabaseSeat D) (what : Happened) (new : WorldState D) (result : Result (Unit {0}) WorldFault) → IsSafe limit s w → w.is_lost ≡ false → length w.history < most_history_entries
       → LocTakes seen may_leave faults limit (front_lines front) IsVoid Has w.database now what → Voids → Links → Settles Loc front what (with_database w now) new result → Stepped seen may_leave faults limit s is w new result
   database_settles now what new result safe going place takes voids links settles =
       node_settles seen may_leave faults limit s is w safe going place new now w.servers Loc front what result (takes_leaves now what safe going takes voids links) settles
 
 module _ {D : Type 0} (seen : D → Option (List ℕ)) (may_leave : D → List ℕ → Type 0) (faults limit : D → ℕ) (s : Script) (w : WorldState D) where
   -- the database was given something
-  pub loc_input_settles : (input : DatabaseInput) (now : DatabaseSeat D) (what : Happened) (new : WorldState D) (result : Result (Unit {0}) WorldFault) → IsSafe limit s w → w.is_lost ≡ false → length w.history < most_entries
+  pub loc_input_settles : (input : DatabaseInput) (now : DatabaseSeat D) (what : Happened) (new : WorldState D) (result : Result (Unit {0}) WorldFault) → IsSafe limit s w → w.is_lost ≡ false → length w.history < most_history_entries
       → ((clock count : ℕ) → LocTakes seen may_leave faults limit [] (IsVoidAtLoc input) (HasLocStep clock count input) w.database now what) → Settles Loc None what (with_database w now) new result
-      → Stepped seen may_leave faults limit s (λ (t : Turn). IsGivenToLoc input t) w new result
+      → Stepped seen may_leave faults limit s (λ (t : ScheduleState). IsGivenToLoc input t) w new result
   loc_input_settles input now what new result safe going place takes settles =
-      database_settles seen may_leave faults limit s (λ (t : Turn). IsGivenToLoc input t) w None (IsVoidAtLoc input) (HasLocStep w.clock s.clients input) now what new result safe going place (takes w.clock s.clients)
+      database_settles seen may_leave faults limit s (λ (t : ScheduleState). IsGivenToLoc input t) w None (IsVoidAtLoc input) (HasLocStep w.clock s.clients input) now what new result safe going place (takes w.clock s.clients)
       (λ tell t at void. void_loc_input t input void)
       (λ tell t at now outs has. link_loc_input seen may_leave faults limit t w.database now outs input
       (subst (λ (k : ℕ). HasLocStep t.cell.clock k input t.cell.loc (IsStepOf (database_seat seen may_leave limit) now [] outs) (Rose (faults (loc_seat_disk w.database)) (faults (loc_seat_disk now)))) (sym (at.cell.count ∙ safe.client_count))
@@ -89,11 +89,11 @@ module _ {D : Type 0} (seen : D → Option (List ℕ)) (may_leave : D → List �
       settles
 
   -- the database was given the message of a place
-  pub loc_message_settles : (place : ℕ) (p : Parcel) (now : DatabaseSeat D) (what : Happened) (new : WorldState D) (result : Result (Unit {0}) WorldFault) → IsSafe limit s w → w.is_lost ≡ false → length w.history < most_entries
+  pub loc_message_settles : (place : ℕ) (p : Parcel) (now : DatabaseSeat D) (what : Happened) (new : WorldState D) (result : Result (Unit {0}) WorldFault) → IsSafe limit s w → w.is_lost ≡ false → length w.history < most_history_entries
       → at_place w.wire place ≡ Some p → p.head.to ≡ Loc → ((clock : ℕ) → LocTakes seen may_leave faults limit (lines.Given place ∷ []) IsLocFallen (HasLocHeard clock place p.bytes) w.database now what) → Settles Loc (Some (lines.Given place)) what (with_database w now) new result
-      → Stepped seen may_leave faults limit s (λ (t : Turn). IsInput t (events.Deliver place)) w new result
+      → Stepped seen may_leave faults limit s (λ (t : ScheduleState). IsInput t (events.Deliver place)) w new result
   loc_message_settles place p now what new result safe going few found to takes settles =
-      database_settles seen may_leave faults limit s (λ (t : Turn). IsInput t (events.Deliver place)) w (Some (lines.Given place)) IsLocFallen (HasLocHeard w.clock place p.bytes) now what new result safe going few (takes w.clock)
+      database_settles seen may_leave faults limit s (λ (t : ScheduleState). IsInput t (events.Deliver place)) w (Some (lines.Given place)) IsLocFallen (HasLocHeard w.clock place p.bytes) now what new result safe going few (takes w.clock)
       (λ tell t at fallen.
       let f = message_found seen may_leave faults limit w t.cell place p at.cell found in
       void_loc_message t place f.message f.at (sym (ap (λ h. h.to) f.carries.head) ∙ to) fallen)

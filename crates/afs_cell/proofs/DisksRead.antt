@@ -1,7 +1,7 @@
 -- The disks of the servers can be read at the end of a run.
 use Rattle.std.proofs.Common.{refl, arith, append_assoc, append-nil, ap, sym, subst, ◌∙◌, ◌≡◌, ◌+◌, ◌≤◌, ℕ, zero, suc, List, [], ◌∷◌, ◌++◌, length, false, Option}
 use Rattle.afs_num.specs.declared.types.Node.TheVariants.{Server}
-use Rattle.afs_history.specs.declared.scripts.Script.{Script}
+use Rattle.spec_history.specs.declared.scripts.Script.{Script}
 use Rattle.afs_volstore.specs.Stores.{Store}
 use Rattle.afs_host.specs.declared.seats.Seat.TheVariants.{Down, Up}
 use Rattle.afs_final.specs.Reading.{AreFound, IsRead}

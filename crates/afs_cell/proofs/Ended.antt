@@ -4,7 +4,7 @@ use Rattle.std.proofs.Common.{refl, ap, sym, subst, ◌∙◌, inl, inr, arith}
 use Rattle.std.specs.Option.{option_map}
 use Rattle.afs_num.specs.declared.devices.Failed.{Failed}
 use Rattle.afs_num.specs.declared.types.Node.{Node}
-use Rattle.afs_history.specs.declared.scripts.Script.{Script}
+use Rattle.spec_history.specs.declared.scripts.Script.{Script}
 use Rattle.afs_disk.specs.Disk.{Rose}
 use Rattle.afs_disk.specs.declared.bank.Lend.{Lend}
 use Rattle.afs_disk.specs.declared.bank.LendFault.{LendFault}
@@ -12,14 +12,14 @@ use Rattle.afs_disk.specs.declared.bank.LendFault.TheVariants as lending
 use Rattle.afs_disk.specs.declared.bank.Place.{Place}
 use Rattle.afs_disk.specs.declared.disks.Lent.{Lent}
 use Rattle.afs_outside.specs.Outside.{AppendsFront}
-use Rattle.afs_records.specs.Durable.{Durable}
-use Rattle.afs_records.specs.LocDurable.{LocDurable}
-use Rattle.afs_rows.specs.Runs.{Entry}
-use Rattle.afs_runs.specs.NodeRuns.{CellInput, NodeCell}
+use Rattle.spec_records.specs.Durable.{Durable}
+use Rattle.spec_records.specs.LocDurable.{LocDurable}
+use Rattle.spec_rows.specs.Runs.{Entry}
+use Rattle.spec_runs.specs.NodeRuns.{CellInput, NodeCell}
 use Rattle.afs_text.specs.FinalText.{final_text}
 use Rattle.afs_text.specs.HistoryText.{history_text, text}
 use Rattle.afs_text.specs.KeptText.{kept_history_text}
-use Rattle.afs_text.specs.Telling.{told}
+use Rattle.afs_text.specs.Telling.{entries_as_told}
 use Rattle.afs_text.proofs.Kept.{history_told}
 use Rattle.afs_volstore.specs.Stores.{Store}
 use Rattle.afs_cell.specs.Lends as ends
@@ -27,12 +27,12 @@ use Rattle.afs_cell.specs.Ends.{AreAllLeft, IsRefused}
 use Rattle.afs_cell.specs.Steps.{AreStanding, HasPlayedAll, HasPlayedFirst, HasPlayedSome}
 use Rattle.afs_cell.specs.Lends.{disks_of, lent_from}
 use Rattle.afs_host.specs.LocSeated.{loc_seat_disk}
-use Rattle.afs_cell.specs.Worlds.{most_entries, own_falls, AllTell, IsCell, IsWorld, Runs, WorldState}
+use Rattle.afs_cell.specs.Worlds.{most_history_entries, own_falls, AllTell, IsCell, IsWorld, Runs, WorldState}
 use Rattle.afs_cell.specs.declared.faults.SetupFault.{SetupFault}
 use Rattle.afs_cell.specs.declared.faults.SetupFault.TheVariants as setup
 use Rattle.afs_final.specs.Reading.{fault_in, part, AreFound}
 use Rattle.afs_final.specs.declared.reading.Left.{Left}
-use Rattle.afs_disk.specs.Fuses.{last_count}
+use Rattle.afs_disk.specs.Fuses.{last_of_counter}
 use Rattle.afs_lending.specs.Lending.{all_kept, lends, with_faults, AreLent, AreUnused, GivesBackBut, GoBack, HasFailed}
 use Rattle.afs_command.specs.Spans.{span, IsUnchanged, RoseBy, Span}
 use Rattle.afs_lending.specs.Outside.{DidNotRise, Outside, SoManyFailed, Writes, WritesAll, WritesText, WritesWhole}
@@ -90,13 +90,13 @@ Part {D} seen may_leave faults limit s w = AllTell seen w × HasPlayedSome seen 
 -- the text of its history
 written_told : {D : Type 0} (seen : D → Option (List ℕ)) (may_leave : D → List ℕ → Type 0) (faults limit : D → ℕ) (s : Script) (w : WorldState D) (wire : Bool) (o : Outside) (inputs : List CellInput) (end : NodeCell) → IsWorld seen may_leave faults limit s w → (runs : Runs seen may_leave faults limit s w inputs end) → Writes o (kept_history_text wire w.wire w.history) → Writes o (history_text wire runs.history)
 written_told {D} seen may_leave faults limit s w wire o inputs end is runs written =
-    subst (λ (t : List ℕ). Writes o t) (history_told wire w.wire w.history runs.read is.safe.sent ∙ bare_history wire runs.history (told w.wire w.history) runs.tells) written
+    subst (λ (t : List ℕ). Writes o t) (history_told wire w.wire w.history runs.read is.safe.sent ∙ bare_history wire runs.history (entries_as_told w.wire w.history) runs.tells) written
 
 whole_text : {D : Type 0} (seen : D → Option (List ℕ)) (may_leave : D → List ℕ → Type 0) (faults limit : D → ℕ) (s : Script) (w : WorldState D) (fs : List (Left (Store D) D)) (wire : Bool) (inputs : List CellInput) (end : NodeCell) → IsWorld seen may_leave faults limit s w → (runs : Runs seen may_leave faults limit s w inputs end) →
     kept_history_text wire w.wire w.history ++ final_text (map part fs) ≡ text wire runs.history (map part fs)
 unfolding text
 whole_text {D} seen may_leave faults limit s w fs wire inputs end is runs =
-    ap (λ (t : List ℕ). t ++ final_text (map part fs)) (history_told wire w.wire w.history runs.read is.safe.sent ∙ bare_history wire runs.history (told w.wire w.history) runs.tells)
+    ap (λ (t : List ℕ). t ++ final_text (map part fs)) (history_told wire w.wire w.history runs.read is.safe.sent ∙ bare_history wire runs.history (entries_as_told w.wire w.history) runs.tells)
 
 -- that of its entries, whatever the disks tell
 pub entries_of : {D : Type 0} (seen : D → Option (List ℕ)) (may_leave : D → List ℕ → Type 0) (faults limit : D → ℕ) (s : Script) (w : WorldState D) (IsSoMany : ℕ → Type 0) (wire : Bool) (o : Outside) → IsWorld seen may_leave faults limit s w → IsSoMany (length w.history) → Writes o (kept_history_text wire w.wire w.history) → WritesEntries IsSoMany wire o
@@ -130,18 +130,18 @@ run_of {D} seen may_leave faults limit s w fs wire Writes is found written = rec
 
 -- its disks go back: each has counted its failures in the history
 pub lent_rose : {D : Type 0} (seen : D → Option (List ℕ)) (may_leave : D → List ℕ → Type 0) (faults limit : D → ℕ) (s : Script) (w : WorldState D) (inputs : List CellInput) (end : NodeCell) (o : Outside) → IsWorld seen may_leave faults limit s w → Runs seen may_leave faults limit s w inputs end → GoesBack seen faults (disks_of w) o
-    → (i : ℕ) → HasDisk s i → RoseBy (own_falls i inputs (told w.wire w.history) + no_other i) (o.disk_faults i)
+    → (i : ℕ) → HasDisk s i → RoseBy (own_falls i inputs (entries_as_told w.wire w.history) + no_other i) (o.disk_faults i)
 lent_rose {D} seen may_leave faults limit s w inputs end o is runs back =
-    no_others s (λ (i : ℕ). own_falls i inputs (told w.wire w.history)) o.disk_faults
-    (rose_by seen faults (λ (i : ℕ). own_falls i inputs (told w.wire w.history)) s (disks_of w) o back (omega (arith, lent_length 1 w.servers, is.safe.server_count)) (counts_lent faults (λ (i : ℕ). own_falls i inputs (told w.wire w.history)) w runs.counts))
+    no_others s (λ (i : ℕ). own_falls i inputs (entries_as_told w.wire w.history)) o.disk_faults
+    (rose_by seen faults (λ (i : ℕ). own_falls i inputs (entries_as_told w.wire w.history)) s (disks_of w) o back (omega (arith, lent_length 1 w.servers, is.safe.server_count)) (counts_lent faults (λ (i : ℕ). own_falls i inputs (entries_as_told w.wire w.history)) w runs.counts))
 
 -- and so after they were read
 found_rose : {D : Type 0} (seen : D → Option (List ℕ)) (may_leave : D → List ℕ → Type 0) (faults limit : D → ℕ) (s : Script) (w : WorldState D) (inputs : List CellInput) (end : NodeCell) (fs : List (Left (Store D) D)) (o : Outside) → IsWorld seen may_leave faults limit s w → Runs seen may_leave faults limit s w inputs end
-    → AreFound seen faults limit (lent_from 1 w.servers) fs → GoesBack seen faults (all_kept (loc_seat_disk w.database) fs) o → (i : ℕ) → HasDisk s i → RoseBy (own_falls i inputs (told w.wire w.history) + no_other i) (o.disk_faults i)
+    → AreFound seen faults limit (lent_from 1 w.servers) fs → GoesBack seen faults (all_kept (loc_seat_disk w.database) fs) o → (i : ℕ) → HasDisk s i → RoseBy (own_falls i inputs (entries_as_told w.wire w.history) + no_other i) (o.disk_faults i)
 found_rose {D} seen may_leave faults limit s w inputs end fs o is runs found back =
-    no_others s (λ (i : ℕ). own_falls i inputs (told w.wire w.history)) o.disk_faults
-    (rose_by seen faults (λ (i : ℕ). own_falls i inputs (told w.wire w.history)) s (all_kept (loc_seat_disk w.database) fs) o back (omega (arith, found_count seen faults limit 1 (lent_from 1 w.servers) fs found, lent_length 1 w.servers, is.safe.server_count))
-    (all_counted seen faults limit (λ (i : ℕ). own_falls i inputs (told w.wire w.history)) (loc_seat_disk w.database) (lent_from 1 w.servers) fs found (counts_lent faults (λ (i : ℕ). own_falls i inputs (told w.wire w.history)) w runs.counts)))
+    no_others s (λ (i : ℕ). own_falls i inputs (entries_as_told w.wire w.history)) o.disk_faults
+    (rose_by seen faults (λ (i : ℕ). own_falls i inputs (entries_as_told w.wire w.history)) s (all_kept (loc_seat_disk w.database) fs) o back (omega (arith, found_count seen faults limit 1 (lent_from 1 w.servers) fs found, lent_length 1 w.servers, is.safe.server_count))
+    (all_counted seen faults limit (λ (i : ℕ). own_falls i inputs (entries_as_told w.wire w.history)) (loc_seat_disk w.database) (lent_from 1 w.servers) fs found (counts_lent faults (λ (i : ℕ). own_falls i inputs (entries_as_told w.wire w.history)) w runs.counts)))
 
 -- its history is that of its script, and what was read from its disks is what that leaves
 replays : {D : Type 0} (seen : D → Option (List ℕ)) (may_leave : D → List ℕ → Type 0) (faults limit : D → ℕ) (s : Script) (w : WorldState D) (fs : List (Left (Store D) D)) (wire : Bool) (Writes : List ℕ → Type 0) (MayBeMissing : ℕ → Type 0) (o : Outside)
@@ -179,8 +179,8 @@ reading_fails {D} seen may_leave faults limit s w fs wire o is found failed writ
         history = p.1.runs.history;
         end = p.1.cell;
         run = is_run seen may_leave faults limit (ToItsEnd s) (one_other (failed_at 1 fs)) s w o.disk_faults is.world.safe.entries p.1
-            (rose_by seen faults (λ (j : ℕ). own_falls j p.1.inputs (told w.wire w.history) + one_other (failed_at 1 fs) j) s (all_kept (loc_seat_disk w.database) fs) o back count
-            (all_but_one seen faults limit (λ (j : ℕ). own_falls j p.1.inputs (told w.wire w.history)) (loc_seat_disk w.database) (lent_from 1 w.servers) fs found failed (counts_lent faults (λ (j : ℕ). own_falls j p.1.inputs (told w.wire w.history)) w p.1.runs.counts)));
+            (rose_by seen faults (λ (j : ℕ). own_falls j p.1.inputs (entries_as_told w.wire w.history) + one_other (failed_at 1 fs) j) s (all_kept (loc_seat_disk w.database) fs) o back count
+            (all_but_one seen faults limit (λ (j : ℕ). own_falls j p.1.inputs (entries_as_told w.wire w.history)) (loc_seat_disk w.database) (lent_from 1 w.servers) fs found failed (counts_lent faults (λ (j : ℕ). own_falls j p.1.inputs (entries_as_told w.wire w.history)) w p.1.runs.counts)));
         written = written_told seen may_leave faults limit s w wire o p.1.inputs p.1.cell is.world p.1.runs written;
         given = found_come (MissedByTheBank o) seen faults limit s.servers w fs o.given.before o.given.after is.world.safe.server_count p.0 found (missed seen faults (all_kept (loc_seat_disk w.database) fs) o back);
       };
@@ -247,7 +247,7 @@ all_played {D} seen may_leave faults limit s w p = (p.0, record { inputs = p.1.i
 -- ---- one whose history was full before that
 
 pub was_cut : {D : Type 0} (seen : D → Option (List ℕ)) (may_leave : D → List ℕ → Type 0) (faults limit : D → ℕ) (s : Script) (w : WorldState D) (wire : Bool) (o : Outside)
-    → HasEnded seen may_leave faults limit s w → length w.history ≡ most_entries → Writes o (kept_history_text wire w.wire w.history) → GoesBack seen faults (disks_of w) o → EndsRun s wire (First seen may_leave faults limit s w) ⊥ o statuses.Limit
+    → HasEnded seen may_leave faults limit s w → length w.history ≡ most_history_entries → Writes o (kept_history_text wire w.wire w.history) → GoesBack seen faults (disks_of w) o → EndsRun s wire (First seen may_leave faults limit s w) ⊥ o statuses.Limit
 was_cut {D} seen may_leave faults limit s w wire o is full written back = record {
   written = entries_of seen may_leave faults limit s w IsFull wire o is.world full written;
   told = λ p.
@@ -257,7 +257,7 @@ was_cut {D} seen may_leave faults limit s w wire o is full written back = record
         history = p.1.0.runs.history;
         end = p.1.0.cell;
         run = is_run seen may_leave faults limit (NotToItsEnd s) no_other s w o.disk_faults is.world.safe.entries p.1.0 (lent_rose seen may_leave faults limit s w p.1.0.inputs p.1.0.cell o is.world p.1.0.runs back);
-        full = sym (told_length p.1.0.runs.history (told w.wire w.history) p.1.0.runs.tells) ∙ (length_told w.wire w.history ∙ full);
+        full = sym (told_length p.1.0.runs.history (entries_as_told w.wire w.history) p.1.0.runs.tells) ∙ (length_told w.wire w.history ∙ full);
         kept = left.0;
         keep = left.1.keep;
         loc = left.1.loc;
@@ -270,7 +270,7 @@ was_cut {D} seen may_leave faults limit s w wire o is full written back = record
 -- ---- disks that come back unplayed
 
 -- disks that were lent in order of number are those of the nodes
-pub of_nodes : {D : Type 0} (limit : D → ℕ) (capacity i : ℕ) (ls : List (Lent D)) → ends.AreLent limit capacity i ls → AreOfNodes i ls
+pub of_nodes : {D : Type 0} (limit : D → ℕ) (capacity i : ℕ) (ls : List (Lent D)) → AreLent limit capacity i ls → AreOfNodes i ls
 of_nodes {D} limit capacity i [] are = tt
 of_nodes {D} limit capacity i (l ∷ ls) are = (are.0, of_nodes limit capacity (i + 1) ls are.1.1)
 
@@ -529,7 +529,7 @@ not_lent s wire place tells left Unlent fault n o result status fewer lent unwri
 -- so many calls failed, and then so many others
 both_failed : (n m b0 b1 b2 : ℕ) → b1 ≤ b2 → HasFailed n b0 b1 → HasFailed m b1 b2 → HasFailed (n + m) b0 b2
 both_failed n m b0 b1 b2 falls first second = (rose first.0 second.0, λ none. quiet (omega (arith, none)) (omega (arith, none))) where
-  rose : (b0 + n ≤ b1) ⊎ (last_count ≤ b1) → (b1 + m ≤ b2) ⊎ (last_count ≤ b2) → (b0 + (n + m) ≤ b2) ⊎ (last_count ≤ b2)
+  rose : (b0 + n ≤ b1) ⊎ (last_of_counter ≤ b1) → (b1 + m ≤ b2) ⊎ (last_of_counter ≤ b2) → (b0 + (n + m) ≤ b2) ⊎ (last_of_counter ≤ b2)
   rose (inl before) (inl more) = inl (omega (arith, before, more))
   rose (inl before) (inr full) = inr full
   rose (inr full) more = inr (omega (arith, full, falls))

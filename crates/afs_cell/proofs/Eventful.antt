@@ -1,21 +1,21 @@
 -- An event of the schedule is a step of the world.
 use Rattle.std.proofs.Common.{refl, arith, ap, sym, subst, ◌∙◌, ◌≡◌, ◌≤◌, ◌<◌, ◌+◌, ℕ, zero, suc, List, [], ◌∷◌, ◌++◌, length, Bool, false, true, not, cond, ◌||◌, Option, Some, None, Result, Ok, Err}
 use Rattle.afs_num.specs.declared.histories.Actor.TheVariants as actors
-use Rattle.afs_history.specs.declared.lines.Entry as kept
-use Rattle.afs_history.specs.declared.lines.Line.TheVariants as lines
-use Rattle.afs_history.specs.declared.scripts.Event.TheVariants as events
-use Rattle.afs_history.specs.declared.scripts.Script.{Script}
+use Rattle.spec_history.specs.declared.lines.Entry as kept
+use Rattle.spec_history.specs.declared.lines.Line.TheVariants as lines
+use Rattle.spec_history.specs.declared.scripts.Event.TheVariants as events
+use Rattle.spec_history.specs.declared.scripts.Script.{Script}
 use Rattle.afs_num.specs.Places.{at_place}
 use Rattle.afs_num.specs.declared.messages.Message.{Message}
 use Rattle.afs_num.specs.declared.types.Parcel.{Parcel}
-use Rattle.afs_rows.specs.Runs.{gives, message_at, nothing, ticks}
-use Rattle.afs_runs.specs.NodeRuns.{given_at, node_moved, usual, usually_moved, voided, CellInput, NodeCell}
-use Rattle.afs_rows.specs.Hosts.{steady}
-use Rattle.afs_schedule.specs.Schedules.{IsInput, Turn}
+use Rattle.spec_rows.specs.Runs.{gives, message_at, nothing, ticks}
+use Rattle.spec_runs.specs.NodeRuns.{given_at, node_moved, usual, usually_moved, voided, CellInput, NodeCell}
+use Rattle.spec_rows.specs.Hosts.{steady}
+use Rattle.afs_schedule.specs.Schedules.{IsInput, ScheduleState}
 use Rattle.afs_text.specs.Telling.{sent_by}
 use Rattle.afs_cell.specs.Happening.{NothingSettles}
 use Rattle.afs_cell.specs.Steps.{IsAt, Plays, Stepped, Steps}
-use Rattle.afs_cell.specs.Worlds.{most_entries, most_ticks, AllTell, IsSafe, WorldState}
+use Rattle.afs_cell.specs.Worlds.{most_history_entries, most_ticks, AllTell, IsSafe, WorldState}
 use Rattle.afs_cell.specs.declared.faults.WorldFault.{WorldFault}
 use Rattle.afs_cell.specs.declared.faults.WorldFault.TheVariants as faulty
 use Rattle.afs_cell.proofs.ClientSteps.{moved_nothing}
@@ -32,7 +32,7 @@ abbrev pub after_tick : {D : Type 0} → WorldState D → ℕ → WorldState D
 after_tick {D} w n = record w { history = w.history ++ tick_entry n ∷ []; clock = w.clock + n }
 
 module _ {D : Type 0} (seen : D → Option (List ℕ)) (may_leave : D → List ℕ → Type 0) (faults limit : D → ℕ) (s : Script) where
-  steps_as : (is more : Turn → CellInput → Type 0) (w new : WorldState D) (result : Result (Unit {0}) WorldFault) → ((t : Turn) (x : CellInput) → is t x → more t x) → Steps seen may_leave faults limit is w new result → Steps seen may_leave faults limit more w new result
+  steps_as : (is more : ScheduleState → CellInput → Type 0) (w new : WorldState D) (result : Result (Unit {0}) WorldFault) → ((t : ScheduleState) (x : CellInput) → is t x → more t x) → Steps seen may_leave faults limit is w new result → Steps seen may_leave faults limit more w new result
   steps_as is more w new (Ok done) f h = record {
     count = h.count;
     going = h.going;
@@ -43,24 +43,24 @@ module _ {D : Type 0} (seen : D → Option (List ℕ)) (may_leave : D → List �
   steps_as is more w new (Err e) f h = h
 
   -- what is such an input is another, too
-  pub stepped_as : (is more : Turn → CellInput → Type 0) (w new : WorldState D) (result : Result (Unit {0}) WorldFault) → ((t : Turn) (x : CellInput) → is t x → more t x) → Stepped seen may_leave faults limit s is w new result → Stepped seen may_leave faults limit s more w new result
+  pub stepped_as : (is more : ScheduleState → CellInput → Type 0) (w new : WorldState D) (result : Result (Unit {0}) WorldFault) → ((t : ScheduleState) (x : CellInput) → is t x → more t x) → Stepped seen may_leave faults limit s is w new result → Stepped seen may_leave faults limit s more w new result
   stepped_as is more w new result f h = record { steps = steps_as is more w new result f h.steps; safe = h.safe; tells = h.tells; counts = h.counts }
 
   -- nothing happens, and nothing is what comes of the input
-  pub skip_as : (is : Turn → CellInput → Type 0) (w new : WorldState D) (result : Result (Unit {0}) WorldFault) → IsSafe limit s w → w.is_lost ≡ false → length w.history < most_entries
-      → (AllTell seen w → (t : Turn) → IsAt seen may_leave limit w t.cell t.left → Voided (is t) t) → NothingSettles w new result → Stepped seen may_leave faults limit s is w new result
+  pub skip_as : (is : ScheduleState → CellInput → Type 0) (w new : WorldState D) (result : Result (Unit {0}) WorldFault) → IsSafe limit s w → w.is_lost ≡ false → length w.history < most_history_entries
+      → (AllTell seen w → (t : ScheduleState) → IsAt seen may_leave limit w t.cell t.left → Voided (is t) t) → NothingSettles w new result → Stepped seen may_leave faults limit s is w new result
   skip_as is w new (Ok done) safe going few void settles =
       subst (λ (v : WorldState D). Stepped seen may_leave faults limit s is w v (Ok done)) (sym settles) (nothing_happens seen may_leave faults limit s is w safe going few void)
   skip_as is w new (Err e) safe going few void settles =
       subst (λ (f : WorldFault). Stepped seen may_leave faults limit s is w new (Err f)) (sym settles.0)
       (subst (λ (v : WorldState D). Stepped seen may_leave faults limit s is w v (Err faulty.OutOfMemory)) (sym settles.1) (nothing_changes seen may_leave faults limit s is w safe))
 
-  pub skip_steps : (is : Turn → CellInput → Type 0) (w new : WorldState D) (result : Result (Unit {0}) WorldFault) → IsSafe limit s w → w.is_lost ≡ false → length w.history < most_entries → ((t : Turn) → is t (usual nothing)) → NothingSettles w new result → Stepped seen may_leave faults limit s is w new result
+  pub skip_steps : (is : ScheduleState → CellInput → Type 0) (w new : WorldState D) (result : Result (Unit {0}) WorldFault) → IsSafe limit s w → w.is_lost ≡ false → length w.history < most_history_entries → ((t : ScheduleState) → is t (usual nothing)) → NothingSettles w new result → Stepped seen may_leave faults limit s is w new result
   skip_steps is w new result safe going few void settles =
       skip_as is w new result safe going few (λ tell t at. record { input = usual nothing; is_one = void t; moves = moved_nothing t.cell; left = refl; harmless = refl }) settles
 
   -- the clock rises
-  tick_plays : (n : ℕ) (t : Turn) (w : WorldState D) → 1 ≤ n → sent_by w.history ≡ length w.wire → IsAt seen may_leave limit w t.cell t.left → Plays seen may_leave faults limit (IsInput t (events.Tick n)) t w (after_tick w n)
+  tick_plays : (n : ℕ) (t : ScheduleState) (w : WorldState D) → 1 ≤ n → sent_by w.history ≡ length w.wire → IsAt seen may_leave limit w t.cell t.left → Plays seen may_leave faults limit (IsInput t (events.Tick n)) t w (after_tick w n)
   unfolding usually_moved
   tick_plays zero t w some all at = absurd (omega (arith, some))
   tick_plays (suc k) t w some all at = record {
@@ -75,7 +75,7 @@ module _ {D : Type 0} (seen : D → Option (List ℕ)) (may_leave : D → List �
     counts = counts_still faults (usual (ticks (suc k))) (node_moved t.cell (usual (ticks (suc k)))).entry w refl;
   }
 
-  pub tick_steps : (n : ℕ) (w : WorldState D) → 1 ≤ n → IsSafe limit s w → w.is_lost ≡ false → length w.history < most_entries → w.clock + n ≤ most_ticks → Stepped seen may_leave faults limit s (λ (t : Turn). IsInput t (events.Tick n)) w (after_tick w n) (Ok tt)
+  pub tick_steps : (n : ℕ) (w : WorldState D) → 1 ≤ n → IsSafe limit s w → w.is_lost ≡ false → length w.history < most_history_entries → w.clock + n ≤ most_ticks → Stepped seen may_leave faults limit s (λ (t : ScheduleState). IsInput t (events.Tick n)) w (after_tick w n) (Ok tt)
   tick_steps n w some safe going few within = record {
     steps = record {
       count = one_longer w.history (tick_entry n);
@@ -115,12 +115,12 @@ void_none : (c : NodeCell) (place : ℕ) → message_at c.sent place ≡ None �
 unfolding usually_moved
 void_none c place e = ap (given_at c place steady) e
 
-abbrev gives_void : (t : Turn) (place : ℕ) → node_moved t.cell (usual (gives place steady)) ≡ voided t.cell → Voided (IsInput t (events.Deliver place)) t
+abbrev gives_void : (t : ScheduleState) (place : ℕ) → node_moved t.cell (usual (gives place steady)) ≡ voided t.cell → Voided (IsInput t (events.Deliver place)) t
 gives_void t place e = record { input = usual (gives place steady); is_one = (steady, (refl, tt)); moves = e; left = refl; harmless = refl }
 
 module _ {D : Type 0} (seen : D → Option (List ℕ)) (may_leave : D → List ℕ → Type 0) (faults limit : D → ℕ) (w : WorldState D) (place : ℕ) where
   -- nothing was sent there
-  pub no_message : (t : Turn) → IsAt seen may_leave limit w t.cell t.left → at_place w.wire place ≡ None → Voided (IsInput t (events.Deliver place)) t
+  pub no_message : (t : ScheduleState) → IsAt seen may_leave limit w t.cell t.left → at_place w.wire place ≡ None → Voided (IsInput t (events.Deliver place)) t
   no_message t at e =
       gives_void t place (void_none t.cell place (none_at t.cell.sent place (at_place t.cell.sent place) refl
       (subst (λ (o : Option Parcel). AtPlace o (at_place t.cell.sent place)) e (places_agree w.wire t.cell.sent at.cell.sent place))))

@@ -7,14 +7,14 @@ use Rattle.afs_num.specs.declared.messages.Message.{Message}
 use Rattle.afs_num.specs.declared.messages.Received.TheVariants.{Whole}
 use Rattle.afs_num.specs.declared.types.Node.{Node}
 use Rattle.afs_num.specs.declared.types.Node.TheVariants.{Server}
-use Rattle.afs_history.specs.declared.lines.Line.{Line}
-use Rattle.afs_history.specs.declared.lines.Line.TheVariants as lines
-use Rattle.afs_history.specs.declared.lines.Outs.{Outs}
+use Rattle.spec_history.specs.declared.lines.Line.{Line}
+use Rattle.spec_history.specs.declared.lines.Line.TheVariants as lines
+use Rattle.spec_history.specs.declared.lines.Outs.{Outs}
 use Rattle.afs_disk.specs.Disk.{Rose}
-use Rattle.afs_model.specs.Messages.{received}
-use Rattle.afs_rows.specs.Hosts.{HostStep}
-use Rattle.afs_volrows.specs.NodeHosts.{node_kind, NodeHost}
-use Rattle.afs_volrows.specs.VolStates.{NodeState}
+use Rattle.spec_model.specs.Messages.{received}
+use Rattle.spec_rows.specs.Hosts.{HostStep}
+use Rattle.spec_volrows.specs.NodeHosts.{node_kind, NodeHost}
+use Rattle.spec_volrows.specs.VolStates.{NodeState}
 use Rattle.afs_host.specs.Seats.{Resting}
 use Rattle.afs_serverhost.specs.Seats.{disk_of, IsStepDown, IsUp, ServerRunning}
 use Rattle.afs_serverhost.specs.Serving.{HasFallen}

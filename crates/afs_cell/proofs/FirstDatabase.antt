@@ -4,18 +4,18 @@ use Rattle.std.specs.Prelude.{IsSome, ◌↔◌}
 use Rattle.afs_num.specs.declared.faults.StoreFault.{StoreFault}
 use Rattle.afs_num.specs.declared.faults.StoreFault.TheVariants as store
 use Rattle.afs_num.specs.declared.types.Node.TheVariants.{Loc}
-use Rattle.afs_history.specs.declared.scripts.Script.{Script}
+use Rattle.spec_history.specs.declared.scripts.Script.{Script}
 use Rattle.afs_disk.specs.Disk.{LeavesJust}
 use Rattle.afs_disk.specs.Fuses.{Fused}
-use Rattle.afs_records.specs.LocDurable.{loc_set_up, LocDurable}
+use Rattle.spec_records.specs.LocDurable.{loc_set_up, LocDurable}
 use Rattle.afs_grammar.specs.CellScripts.{IsCellScript}
-use Rattle.afs_law.specs.DatabaseRuns.{LocSetUpsAreFirst}
-use Rattle.afs_scripts.specs.SetUps.{LocSetUpsAreAccepted, NumbersAscend}
-use Rattle.afs_rows.specs.LocRow.{LocLasting, LocState}
-use Rattle.afs_rows.specs.States.{Seat}
-use Rattle.afs_store.specs.Stores.{IsCaused, IsKept}
+use Rattle.law_legal.specs.DatabaseRuns.{LocSetUpsAreFirst}
+use Rattle.law_scripts.specs.SetUps.{LocSetUpsAreAccepted, NumbersAscend}
+use Rattle.spec_rows.specs.LocRow.{LocLasting, LocState}
+use Rattle.spec_rows.specs.States.{Seat}
+use Rattle.afs_store.specs.Stores.{IsCaused, IsKept, IsSetUpFault}
 use Rattle.afs_locstore.specs.LocFold.{loc_fold}
-use Rattle.afs_locdb.specs.Creating.{IsSetUpFault, IsSetUpSoFar}
+use Rattle.afs_locdb.specs.Creating.{IsSetUpSoFar}
 use Rattle.afs_locdb.specs.Seen.{lasting_of, Database}
 use Rattle.afs_host.specs.LocSeats.{DatabaseRunning, LocCanRun}
 use Rattle.afs_cell.specs.Founding.{IsFirstDatabase, IsLocCaused, IsLocLeft, IsLocRefused}

@@ -3,7 +3,7 @@ use Rattle.std.proofs.Common.{refl, arith, ap, sym, subst, ◌∙◌, ◌≡◌,
 use Rattle.std.specs.List.{remove}
 use Rattle.std.specs.Prelude.{slice_index_or}
 use Rattle.afs_num.specs.declared.types.Node.{Node}
-use Rattle.afs_history.specs.declared.scripts.Script.{Script}
+use Rattle.spec_history.specs.declared.scripts.Script.{Script}
 use Rattle.afs_disk.specs.declared.disks.Lent.{Lent}
 use Rattle.afs_journal.specs.Records.{whole_records}
 use Rattle.afs_clients.proofs.Numbers.{some_is}
@@ -12,7 +12,7 @@ use Rattle.afs_serverhost.specs.Seated.{ServerSeat}
 use Rattle.afs_cell.specs.Ends.{AreAllLeft, AreLeft, IsRefused, IsRefusedBy, NoneFell, NoneRose, RoseAt}
 use Rattle.afs_cell.specs.FirstSeats.{AreFirstHosts, AreFirstSeats}
 use Rattle.afs_cell.specs.Founding.{IsFirstDatabase, IsLocLeft, IsLocRefused}
-use Rattle.afs_cell.specs.Lends.{AreLent}
+use Rattle.afs_lending.specs.Lending.{AreLent}
 use Rattle.afs_cell.specs.declared.faults.SetupFault.{SetupFault}
 use Rattle.afs_cell.specs.declared.faults.SetupFault.TheVariants as setup
 use Rattle.afs_cell.proofs.FirstSeated.{all_same, are_left}

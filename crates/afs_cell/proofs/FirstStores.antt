@@ -1,4 +1,5 @@
 -- One server at set-up.
+use Rattle.afs_store.specs.Stores.{IsSetUpFault}
 use Rattle.std.proofs.Common.{refl, arith, ap, ap₂, sym, subst, ◌∙◌, ◌≡◌, ◌≤◌, ◌+◌, inl, inr, ℕ, List, [], length, false, Option, Some, None}
 use Rattle.std.specs.Prelude.{IsSome, ◌↔◌}
 use Rattle.std.proofs.lemmas.List.Elements.{All-nil}
@@ -7,28 +8,28 @@ use Rattle.afs_num.specs.declared.faults.StoreFault.TheVariants as store
 use Rattle.afs_num.specs.Nodes.{IsNode}
 use Rattle.afs_num.specs.declared.types.Node.{Node}
 use Rattle.afs_num.specs.declared.types.Node.TheVariants.{Server}
-use Rattle.afs_history.specs.declared.scripts.Script.{Script}
-use Rattle.afs_history.specs.declared.scripts.VolumeLine.{VolumeLine}
+use Rattle.spec_history.specs.declared.scripts.Script.{Script}
+use Rattle.spec_history.specs.declared.scripts.VolumeLine.{VolumeLine}
 use Rattle.afs_disk.specs.Disk.{LeavesJust, Rose, Setting}
 use Rattle.afs_disk.specs.Fuses.{Fused}
 use Rattle.afs_journal.specs.Records.{whole_records}
-use Rattle.afs_fold.specs.SetUps.{set_up}
-use Rattle.afs_records.specs.Durable.{Durable}
+use Rattle.spec_fold.specs.SetUps.{set_up}
+use Rattle.spec_records.specs.Durable.{Durable}
 use Rattle.afs_grammar.specs.CellScripts.{IsCellScript}
-use Rattle.afs_grammar.specs.Lines.{volumes_at}
-use Rattle.afs_law.specs.Laws.{SetUpsAreFirst}
-use Rattle.afs_scripts.specs.SetUps.{NumbersAscend, SetUpsAreAccepted}
+use Rattle.afs_grammar.specs.Lines.{lines_of_server}
+use Rattle.law_legal.specs.Laws.{SetUpsAreFirst}
+use Rattle.law_scripts.specs.SetUps.{NumbersAscend, SetUpsAreAccepted}
 use Rattle.afs_server.specs.Seen.{first_memory, lasting_of, state_seen, Memory, Serves}
-use Rattle.afs_runs.specs.NodeRuns.{first_node}
-use Rattle.afs_rows.specs.States.{ServerState}
-use Rattle.afs_volrows.specs.VolStates.{fresh_vol, NodeState, VolState}
+use Rattle.spec_runs.specs.NodeRuns.{first_node}
+use Rattle.spec_rows.specs.States.{ServerState}
+use Rattle.spec_volrows.specs.VolStates.{fresh_vol, NodeState, VolState}
 use Rattle.afs_volserv.specs.Seen.{vol_seen, ServesVolumes}
 use Rattle.afs_node.specs.Seen.{ServesNode}
 use Rattle.afs_node.specs.declared.node.ServerNode.{ServerNode}
 use Rattle.afs_cell.specs.declared.faults.SetupFault.TheVariants as seating
 use Rattle.afs_callbacks.specs.States.{IsPromiseToNode}
 use Rattle.afs_server_parts.specs.Turning.{IsBreakToNode}
-use Rattle.afs_volstore.specs.Opening.{IsSetUpFault, IsSetUpSoFar}
+use Rattle.afs_volstore.specs.Opening.{IsSetUpSoFar}
 use Rattle.afs_volstore.specs.Stores.{IsCaused, IsKept, Store}
 use Rattle.afs_serverhost.specs.Seats.{CanRun, ServerRunning}
 use Rattle.afs_cell.specs.Ends.{IsLeftAt}
@@ -61,10 +62,10 @@ first_server_state s i = (first_node s i).state.file
 
 module _ {D : Type 0} (seen : D → Option (List ℕ)) (may_leave : D → List ℕ → Type 0) (faults limit : D → ℕ) (s : Script) (h : IsCellScript s) (i : ℕ) (old : D) (ls : List VolumeLine) where
   -- what is set up is what the script says
-  set_up_is : (t : Durable) → ls ≡ volumes_at i s.volumes → limit old ≡ s.capacity → set_up (limit old) ls ≡ Some t → set_up s.capacity (volumes_at i s.volumes) ≡ Some t
+  set_up_is : (t : Durable) → ls ≡ lines_of_server i s.volumes → limit old ≡ s.capacity → set_up (limit old) ls ≡ Some t → set_up s.capacity (lines_of_server i s.volumes) ≡ Some t
   set_up_is t lines capacity made = sym (ap₂ (λ (n : ℕ) (vs : List VolumeLine). set_up n vs) capacity lines) ∙ made
 
-  pub first_store : SetUpsAreFirst → NumbersAscend → (t : Store (Fused D)) → ls ≡ volumes_at i s.volumes → limit old ≡ s.capacity → set_up (limit old) ls ≡ Some t.durable
+  pub first_store : SetUpsAreFirst → NumbersAscend → (t : Store (Fused D)) → ls ≡ lines_of_server i s.volumes → limit old ≡ s.capacity → set_up (limit old) ls ≡ Some t.durable
       → t ≡ record { durable = t.durable; disk = t.disk; node = Server i; prepared = None; closed = false; count = 1; drawn = 0; holds = t.holds } → t.holds.table ≡ []
       → setting_of t.disk ≡ unset → t.disk.calls ≤ 12 → limit t.disk.disk ≡ limit old → faults t.disk.disk ≡ faults old → (IsSome (seen t.disk.disk) ↔ IsSome (seen old)) → IsKept t.durable (seen t.disk.disk) (may_leave t.disk.disk)
       → IsFirstStore seen may_leave faults limit s i old t
@@ -82,17 +83,17 @@ module _ {D : Type 0} (seen : D → Option (List ℕ)) (may_leave : D → List �
       }
 
   -- why a disk is refused
-  caused : SetUpsAreAccepted → (fault : StoreFault) (new : D) (last before now : ℕ) → ls ≡ volumes_at i s.volumes → limit old ≡ s.capacity → IsSetUpFault fault → ((used capacity : ℕ) → fault ≡ store.Full used capacity → set_up (limit old) ls ≡ None)
+  caused : SetUpsAreAccepted → (fault : StoreFault) (new : D) (last before now : ℕ) → ls ≡ lines_of_server i s.volumes → limit old ≡ s.capacity → IsSetUpFault fault → ((used capacity : ℕ) → fault ≡ store.Full used capacity → set_up (limit old) ls ≡ None)
       → IsCaused unset last before now (faults old) (faults new) fault → IsCausedAt faults i (refused_as fault (Server i)) old new
   caused accepted (store.Full used capacity) new last before now lines same setup full cause =
       let made = (accepted s h i).1 in
-      absurd (no_set_up (set_up s.capacity (volumes_at i s.volumes)) made.0 made.1 (sym (ap₂ (λ (n : ℕ) (vs : List VolumeLine). set_up n vs) same lines) ∙ full used capacity refl))
+      absurd (no_set_up (set_up s.capacity (lines_of_server i s.volumes)) made.0 made.1 (sym (ap₂ (λ (n : ℕ) (vs : List VolumeLine). set_up n vs) same lines) ∙ full used capacity refl))
   caused accepted store.Failed new last before now lines same setup full cause = (refl, own_rose last before now (faults old) (faults new) cause)
   caused accepted store.Closed new last before now lines same setup full cause = absurd setup
   caused accepted (store.BadRecord n) new last before now lines same setup full cause = absurd setup
   caused accepted store.OutOfMemory new last before now lines same setup full cause = cause.1
 
-  pub refused_store : SetUpsAreAccepted → (fault : StoreFault) (new : D) (last before now : ℕ) → ls ≡ volumes_at i s.volumes → limit old ≡ s.capacity → IsSetUpFault fault → ((used capacity : ℕ) → fault ≡ store.Full used capacity → set_up (limit old) ls ≡ None)
+  pub refused_store : SetUpsAreAccepted → (fault : StoreFault) (new : D) (last before now : ℕ) → ls ≡ lines_of_server i s.volumes → limit old ≡ s.capacity → IsSetUpFault fault → ((used capacity : ℕ) → fault ≡ store.Full used capacity → set_up (limit old) ls ≡ None)
       → IsCaused unset last before now (faults old) (faults new) fault → limit new ≡ limit old → faults old ≤ faults new → (IsSome (seen new) ↔ IsSome (seen old))
       → (seen old ≡ Some [] → LeavesJust [] (may_leave old) → (bytes : List ℕ) → seen new ≡ Some bytes → IsSetUpSoFar (limit old) ls bytes)
       → IsRefusedAt seen may_leave faults limit s i old (refused_as fault (Server i), new)
@@ -104,7 +105,7 @@ module _ {D : Type 0} (seen : D → Option (List ℕ)) (may_leave : D → List �
       left = record {
         told = told;
         holds = λ none just bytes sees.
-            subst (λ (n : ℕ). IsSetUpSoFar n (volumes_at i s.volumes) bytes) same (subst (λ (vs : List VolumeLine). IsSetUpSoFar (limit old) vs bytes) lines (holds none just bytes sees));
+            subst (λ (n : ℕ). IsSetUpSoFar n (lines_of_server i s.volumes) bytes) same (subst (λ (vs : List VolumeLine). IsSetUpSoFar (limit old) vs bytes) lines (holds none just bytes sees));
       };
     };
   }

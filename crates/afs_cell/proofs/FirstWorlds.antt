@@ -1,24 +1,25 @@
 -- A cell at set-up.
+use Rattle.afs_lending.specs.Lending.{AreLent}
 use Rattle.std.proofs.Common.{refl, arith, ap, ap₂, sym, subst, ◌∙◌, ◌≡◌, ◌+◌, ℕ, zero, suc, List, [], ◌∷◌, ◌++◌, length, false, Option, Some}
 use Rattle.std.specs.Prelude.{IsSome, ◌↔◌}
 use Rattle.afs_num.specs.Places.{at_place}
 use Rattle.afs_num.specs.declared.types.Node.TheVariants.{Admin, Client, Server}
 use Rattle.afs_num.specs.declared.types.Parcel.{Parcel}
-use Rattle.afs_history.specs.declared.lines.Entry as kept
-use Rattle.afs_history.specs.declared.scripts.Script.{Script}
+use Rattle.spec_history.specs.declared.lines.Entry as kept
+use Rattle.spec_history.specs.declared.scripts.Script.{Script}
 use Rattle.afs_disk.specs.declared.disks.Lent.{Lent}
 use Rattle.afs_grammar.specs.CellScripts.{IsCellScript}
-use Rattle.afs_copyrows.specs.Sites.{CopyState, new_copies}
-use Rattle.afs_adminrows.specs.AdminRow.{new_admin, AdminState}
-use Rattle.afs_rows.specs.Runs.{first_client}
-use Rattle.afs_runs.specs.NodeRuns.{first_node, node_start}
+use Rattle.spec_copyrows.specs.Sites.{CopyState, new_copies}
+use Rattle.spec_adminrows.specs.AdminRow.{new_admin, AdminState}
+use Rattle.spec_rows.specs.Runs.{first_client}
+use Rattle.spec_runs.specs.NodeRuns.{first_node, node_start}
 use Rattle.afs_host.specs.declared.seats.Seat.TheVariants.{Down, Up}
 use Rattle.afs_schedule.specs.Schedules.{tasks_of}
 use Rattle.afs_cell.specs.FirstSeats.{AreFirstHosts, AreFirstSeats, IsFirstSeat}
 use Rattle.afs_clients.specs.Places.{Each}
 use Rattle.afs_clients.specs.Seating.{AreFirstClients, IsFirstClient}
 use Rattle.afs_cell.specs.Steps.{IsFirst}
-use Rattle.afs_cell.specs.Lends.{AreLent, LentTell}
+use Rattle.afs_cell.specs.Lends.{LentTell}
 use Rattle.afs_host.specs.LocSeats.{DatabaseRunning}
 use Rattle.afs_serverhost.specs.Seated.{seat_disk, IsHost, IsReadySeat, ServerSeat}
 use Rattle.afs_cell.specs.Worlds.{none_gone, AllTell, IsAdmin, IsCell, IsClient, IsReadyAdmin, IsReadyClient, IsSafe, IsWorld, LetGo, WorldState}

@@ -1,19 +1,20 @@
 -- The disks at the end of a cell's run.
+use Rattle.afs_lending.specs.Lending.{AreLent}
 use Rattle.std.proofs.Common.{refl, ap, sym, subst, ◌∙◌, ◌≡◌, ◌+◌, ℕ, zero, suc, List, [], ◌∷◌, ◌++◌, length, true, false, Option, Some}
 use Rattle.std.specs.Prelude.{Bool}
 use Rattle.afs_num.specs.Places.{at_place}
 use Rattle.afs_num.specs.declared.types.Node.TheVariants.{Server}
-use Rattle.afs_history.specs.declared.scripts.Script.{Script}
+use Rattle.spec_history.specs.declared.scripts.Script.{Script}
 use Rattle.afs_disk.specs.declared.disks.Lent.{Lent}
 use Rattle.afs_journal.specs.Records.{whole_records}
-use Rattle.afs_records.specs.Durable.{Durable}
-use Rattle.afs_records.specs.LocDurable.{LocDurable}
-use Rattle.afs_volstore.specs.Stands.{Stands}
-use Rattle.afs_runs.specs.NodeRuns.{NodeCell}
-use Rattle.afs_rows.specs.LocRow.{LocLasting, LocState}
-use Rattle.afs_rows.specs.Hosts.{Fall, MayBegin, MayFind}
-use Rattle.afs_rows.specs.States.{Lasting}
-use Rattle.afs_volrows.specs.VolStates.{NodeState}
+use Rattle.spec_records.specs.Durable.{Durable}
+use Rattle.spec_records.specs.LocDurable.{LocDurable}
+use Rattle.afs_volstore.specs.Stands.{StandsForVolumes}
+use Rattle.spec_runs.specs.NodeRuns.{NodeCell}
+use Rattle.spec_rows.specs.LocRow.{LocLasting, LocState}
+use Rattle.spec_rows.specs.Hosts.{Fall, MayBegin, MayFind}
+use Rattle.spec_rows.specs.States.{Lasting}
+use Rattle.spec_volrows.specs.VolStates.{NodeState}
 use Rattle.afs_host.specs.Seats.{Resting}
 use Rattle.afs_serverhost.specs.Seats.{IsDown}
 use Rattle.afs_host.proofs.LocRising.{loc_fits}
@@ -22,7 +23,7 @@ use Rattle.afs_serverhost.specs.Standing.{LiesAs}
 use Rattle.afs_host.specs.declared.seats.Seat.TheVariants.{Down, Up}
 use Rattle.afs_cell.specs.FirstSeats.{AreKeptSeats, IsKeptSeat, IsLocKeptSeat}
 use Rattle.afs_cell.specs.Steps.{AreStanding, IsReadAfter, IsReadAfterAtLoc, LocStands, MayBeRead, MayBeReadAtLoc}
-use Rattle.afs_cell.specs.Lends.{disks_of, lent_from, AreLent}
+use Rattle.afs_cell.specs.Lends.{disks_of, lent_from}
 use Rattle.afs_host.specs.LocSeated.{loc_seat_disk, DatabaseSeat, IsLocHost, IsLocReadySeat}
 use Rattle.afs_host.specs.LocSeats.{IsLocDown}
 use Rattle.afs_host.specs.LocStanding.{LocLiesAs}
@@ -62,7 +63,7 @@ module _ {D : Type 0} (seen : D → Option (List ℕ)) (may_leave : D → List �
   -- ---- what a disk stands for
 
   abbrev StandsFor : NodeCell → ℕ → D → List ℕ → Type 0
-  StandsFor c i disk bytes = (d : Durable) × (MayBeRead c i d × (Stands bytes d × (d.capacity ≡ limit disk)))
+  StandsFor c i disk bytes = (d : Durable) × (MayBeRead c i d × (StandsForVolumes bytes d × (d.capacity ≡ limit disk)))
 
   may_begin : (c : NodeCell) (i : ℕ) (x : Resting D) (down : IsDown seen may_leave limit (Server i) x (c.hosts i)) (after : Bool) → MayFind down.fall after → MayBegin (c.hosts i).down after
   may_begin c i x down after may = subst (λ (o : Option Fall). MayBegin o after) (sym down.down) may

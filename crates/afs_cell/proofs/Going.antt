@@ -5,12 +5,12 @@ use Rattle.afs_num.specs.Places.{at_place}
 use Rattle.afs_num.specs.declared.types.Node.{Node}
 use Rattle.afs_num.specs.declared.types.Node.TheVariants.{Admin, Client}
 use Rattle.afs_num.specs.declared.types.Parcel.{Parcel}
-use Rattle.afs_history.specs.declared.scripts.Task.{Task}
-use Rattle.afs_history.specs.declared.scripts.Script.{Script}
-use Rattle.afs_rows.specs.Runs.{Entry}
-use Rattle.afs_runs.specs.NodeRuns.{bare_entry, node_moved, node_start, CellInput, NodeCell, NodeLeads}
-use Rattle.afs_schedule.specs.Schedules.{Turn}
-use Rattle.afs_text.specs.Telling.{told, AreRead}
+use Rattle.spec_history.specs.declared.scripts.Task.{Task}
+use Rattle.spec_history.specs.declared.scripts.Script.{Script}
+use Rattle.spec_rows.specs.Runs.{Entry}
+use Rattle.spec_runs.specs.NodeRuns.{bare_entry, node_moved, node_start, CellInput, NodeCell, NodeLeads}
+use Rattle.afs_schedule.specs.Schedules.{ScheduleState}
+use Rattle.afs_text.specs.Telling.{entries_as_told, AreRead}
 use Rattle.afs_cell.specs.Steps.{IsAt, Plays, StandsStill, Stays, Stepped, TellsNothing}
 use Rattle.afs_cell.specs.Worlds.{falls_at, own_falls, AllTell, Counts, HasRun, IsCell, IsWorld, Runs, WorldState}
 use Rattle.afs_clients.specs.declared.clients.ClientSeat.{ClientSeat}
@@ -56,7 +56,7 @@ module _ {D : Type 0} (seen : D → Option (List ℕ)) (may_leave : D → List �
   stands w inputs c runs going = record { cell = runs.cell_is going; acts = λ n seat found. ap plan_or found; orders = λ n seat found. ap orders_or found }
 
   -- as many inputs as entries
-  as_many : (w : WorldState D) (inputs : List CellInput) (c : NodeCell) → Runs seen may_leave faults limit s w inputs c → length inputs ≡ length (told w.wire w.history)
+  as_many : (w : WorldState D) (inputs : List CellInput) (c : NodeCell) → Runs seen may_leave faults limit s w inputs c → length inputs ≡ length (entries_as_told w.wire w.history)
   as_many w inputs c runs =
       let one = leads_length (node_start s) inputs runs.history c runs.leads in
       let two = length-map runs.history bare_entry in
@@ -64,7 +64,7 @@ module _ {D : Type 0} (seen : D → Option (List ℕ)) (may_leave : D → List �
       omega (arith, one, two, same)
 
   -- it has run so once it has played one more
-  pub runs_on : (is : CellInput → Type 0) (t : Turn) (old new : WorldState D) (inputs : List CellInput) → Runs seen may_leave faults limit s old inputs t.cell → (p : Plays seen may_leave faults limit is t old new)
+  pub runs_on : (is : CellInput → Type 0) (t : ScheduleState) (old new : WorldState D) (inputs : List CellInput) → Runs seen may_leave faults limit s old inputs t.cell → (p : Plays seen may_leave faults limit is t old new)
       → Runs seen may_leave faults limit s new (inputs ++ p.input ∷ []) (node_moved t.cell p.input).cell
   runs_on is t old new inputs runs p = record {
     history = runs.history ++ (node_moved t.cell p.input).entry ∷ [];
@@ -73,13 +73,13 @@ module _ {D : Type 0} (seen : D → Option (List ℕ)) (may_leave : D → List �
     read = are_read new.wire (node_moved t.cell p.input).cell.sent p.at.cell.sent;
     cell_is = λ going. p.at.cell;
     counts =
-        counts_as faults (λ (i : ℕ). own_falls i inputs (told old.wire old.history) + falls_at i p.input (node_moved t.cell p.input).entry) (λ (i : ℕ). own_falls i (inputs ++ p.input ∷ []) (told new.wire new.history)) new
-        (λ i. ap (own_falls i (inputs ++ p.input ∷ [])) p.history ∙ falls_behind i inputs (told old.wire old.history) p.input (bare_entry (node_moved t.cell p.input).entry) (as_many old inputs t.cell runs))
-        (p.counts (λ (i : ℕ). own_falls i inputs (told old.wire old.history)) runs.counts);
+        counts_as faults (λ (i : ℕ). own_falls i inputs (entries_as_told old.wire old.history) + falls_at i p.input (node_moved t.cell p.input).entry) (λ (i : ℕ). own_falls i (inputs ++ p.input ∷ []) (entries_as_told new.wire new.history)) new
+        (λ i. ap (own_falls i (inputs ++ p.input ∷ [])) p.history ∙ falls_behind i inputs (entries_as_told old.wire old.history) p.input (bare_entry (node_moved t.cell p.input).entry) (as_many old inputs t.cell runs))
+        (p.counts (λ (i : ℕ). own_falls i inputs (entries_as_told old.wire old.history)) runs.counts);
   }
 
-  same_told : (old new : WorldState D) → TellsNothing old new → told new.wire new.history ≡ told old.wire old.history
-  same_told old new same = ap₂ (λ ps es. told ps es) same.wire same.history
+  same_told : (old new : WorldState D) → TellsNothing old new → entries_as_told new.wire new.history ≡ entries_as_told old.wire old.history
+  same_told old new same = ap₂ (λ ps es. entries_as_told ps es) same.wire same.history
 
   stays_cell : (old new : WorldState D) (inputs : List CellInput) (c : NodeCell) → Runs seen may_leave faults limit s old inputs c → (new.is_lost ≡ true) ⊎ StandsStill seen may_leave limit old new → new.is_lost ≡ false → IsCell seen may_leave limit new c
   stays_cell old new inputs c runs (inl lost) going = absurd (true_false (sym lost ∙ going))
@@ -95,20 +95,20 @@ module _ {D : Type 0} (seen : D → Option (List ℕ)) (may_leave : D → List �
     read = subst (λ (ps : List Parcel). AreRead ps) (sym stays.0.wire) runs.read;
     cell_is = stays_cell old new inputs c runs stays.1;
     counts =
-        counts_as faults (λ (i : ℕ). own_falls i inputs (told old.wire old.history)) (λ (i : ℕ). own_falls i inputs (told new.wire new.history)) new (λ i. ap (own_falls i inputs) (same_told old new stays.0))
-        (counts (λ (i : ℕ). own_falls i inputs (told old.wire old.history)) runs.counts);
+        counts_as faults (λ (i : ℕ). own_falls i inputs (entries_as_told old.wire old.history)) (λ (i : ℕ). own_falls i inputs (entries_as_told new.wire new.history)) new (λ i. ap (own_falls i inputs) (same_told old new stays.0))
+        (counts (λ (i : ℕ). own_falls i inputs (entries_as_told old.wire old.history)) runs.counts);
   }
 
-  world_by : (is : Turn → CellInput → Type 0) (old new : WorldState D) (result : Result (Unit {0}) WorldFault) → old.is_lost ≡ false → HasRun seen may_leave faults limit s old → AllTell seen old → Stepped seen may_leave faults limit s is old new result → HasRun seen may_leave faults limit s new
+  world_by : (is : ScheduleState → CellInput → Type 0) (old new : WorldState D) (result : Result (Unit {0}) WorldFault) → old.is_lost ≡ false → HasRun seen may_leave faults limit s old → AllTell seen old → Stepped seen may_leave faults limit s is old new result → HasRun seen may_leave faults limit s new
   world_by is old new (Ok done) going run tell stepped =
-      let t : Turn = record { cell = run.cell; left = plans_of old.clients old.admins; named = [] } in
+      let t : ScheduleState = record { cell = run.cell; left = plans_of old.clients old.admins; named = [] } in
       let p = stepped.steps.plays tell t (stands old run.inputs run.cell run.runs going) in
       record { inputs = run.inputs ++ p.input ∷ []; cell = (node_moved run.cell p.input).cell; runs = runs_on (is t) t old new run.inputs run.runs p }
   world_by is old new (Err faulty.OutOfMemory) going run tell stepped = record { inputs = run.inputs; cell = run.cell; runs = runs_still old new run.inputs run.cell run.runs stepped.steps stepped.counts }
   world_by is old new (Err faulty.Limit) going run tell stepped = subst (λ (w : WorldState D). HasRun seen may_leave faults limit s w) (sym stepped.steps.1) run
 
   -- a step of a world makes a world
-  pub is_world : (is : Turn → CellInput → Type 0) (old new : WorldState D) (result : Result (Unit {0}) WorldFault) → old.is_lost ≡ false → IsWorld seen may_leave faults limit s old → Stepped seen may_leave faults limit s is old new result → IsWorld seen may_leave faults limit s new
+  pub is_world : (is : ScheduleState → CellInput → Type 0) (old new : WorldState D) (result : Result (Unit {0}) WorldFault) → old.is_lost ≡ false → IsWorld seen may_leave faults limit s old → Stepped seen may_leave faults limit s is old new result → IsWorld seen may_leave faults limit s new
   is_world is old new result going world stepped = record {
     safe = stepped.safe;
     run = λ tell. world_by is old new result going (world.run (stepped.tells.1 tell)) (stepped.tells.1 tell) stepped;

@@ -7,23 +7,23 @@ use Rattle.afs_num.specs.declared.histories.Actor.TheVariants as actors
 use Rattle.afs_num.specs.declared.messages.Message.{Message}
 use Rattle.afs_num.specs.declared.types.Node.TheVariants.{Loc, Server}
 use Rattle.afs_num.specs.declared.types.Node.{Node}
-use Rattle.afs_history.specs.declared.scripts.Task.{Task}
-use Rattle.afs_history.specs.declared.lines.Line.{Line}
-use Rattle.afs_history.specs.declared.lines.Outs.{Outs}
-use Rattle.afs_rows.specs.Callbacks.{put}
-use Rattle.afs_rows.specs.Runs.{Entry}
-use Rattle.afs_runs.specs.NodeRuns.{bare_entry, loc_placed, node_moved, placed, CellInput, NodeCell, NodeMoved}
-use Rattle.afs_schedule.specs.Schedules.{left_by, Turn}
-use Rattle.afs_text.specs.Telling.{told, sent_by}
-use Rattle.afs_rows.specs.Hosts.{HostStep}
-use Rattle.afs_rows.specs.LocRow.{LocState}
-use Rattle.afs_volrows.specs.VolStates.{NodeState}
+use Rattle.spec_history.specs.declared.scripts.Task.{Task}
+use Rattle.spec_history.specs.declared.lines.Line.{Line}
+use Rattle.spec_history.specs.declared.lines.Outs.{Outs}
+use Rattle.spec_rows.specs.Callbacks.{put}
+use Rattle.spec_rows.specs.Runs.{Entry}
+use Rattle.spec_runs.specs.NodeRuns.{bare_entry, loc_stepped, node_moved, server_stepped, CellInput, NodeCell, NodeMoved}
+use Rattle.afs_schedule.specs.Schedules.{left_by, ScheduleState}
+use Rattle.afs_text.specs.Telling.{entries_as_told, sent_by}
+use Rattle.spec_rows.specs.Hosts.{HostStep}
+use Rattle.spec_rows.specs.LocRow.{LocState}
+use Rattle.spec_volrows.specs.VolStates.{NodeState}
 use Rattle.afs_clients.specs.Happening.{entry_of}
 use Rattle.afs_cell.specs.DatabaseSteps.{database_seat}
 use Rattle.afs_cell.specs.SeatSteps.{server_seat, IsStepOf, SeatKind}
 use Rattle.afs_clients.specs.Places.{put_place, Each}
 use Rattle.afs_cell.specs.Steps.{IsAt, Plays}
-use Rattle.afs_cell.specs.Worlds.{falls, falls_at, Counts, WorldState}
+use Rattle.afs_cell.specs.Worlds.{own_failures, falls_at, Counts, WorldState}
 use Rattle.afs_host.specs.LocSeated.{loc_seat_disk, DatabaseSeat}
 use Rattle.afs_serverhost.specs.Seated.{seat_disk, IsHost, ServerSeat}
 use Rattle.afs_cell.proofs.Counts.{counts_put, loc_counts_put, Blames}
@@ -56,7 +56,7 @@ module _ {D : Type 0} (seen : D → Option (List ℕ)) (may_leave : D → List �
 
   -- the world stands for the cell after a server's step
   at_placed : (w : WorldState D) (c : NodeCell) (left : Node → List Task) (i : ℕ) (was now : ServerSeat D) (front : List Line) (outs : Outs) (s : HostStep NodeState) → at_place w.servers i ≡ Some was → IsStepOf (server_seat seen may_leave limit (Server i)) now front outs s
-      → IsAt seen may_leave limit w c left → IsAt seen may_leave limit (after_step w w.database (put_place i now w.servers) (Server i) front outs) (placed c i s).cell left
+      → IsAt seen may_leave limit w c left → IsAt seen may_leave limit (after_step w w.database (put_place i now w.servers) (Server i) front outs) (server_stepped c i s).cell left
   at_placed w c left i was now front outs s found good at = record {
     cell = record {
       loc = at.cell.loc;
@@ -76,7 +76,7 @@ module _ {D : Type 0} (seen : D → Option (List ℕ)) (may_leave : D → List �
 
   -- and after one of the location database
   at_loc_placed : (w : WorldState D) (c : NodeCell) (left : Node → List Task) (now : DatabaseSeat D) (front : List Line) (outs : Outs) (s : HostStep LocState) → IsStepOf (database_seat seen may_leave limit) now front outs s
-      → IsAt seen may_leave limit w c left → IsAt seen may_leave limit (after_step w now w.servers Loc front outs) (loc_placed c s).cell left
+      → IsAt seen may_leave limit w c left → IsAt seen may_leave limit (after_step w now w.servers Loc front outs) (loc_stepped c s).cell left
   at_loc_placed w c left now front outs s good at = record {
     cell = record {
       loc = good.host;
@@ -95,29 +95,29 @@ module _ {D : Type 0} (seen : D → Option (List ℕ)) (may_leave : D → List �
   }
 
   -- a step that an input gives to a node, which so has its place in the cell
-  pub record Linked {U S : Type 0} (kind : SeatKind D U S) (places : HostStep S → NodeMoved) (is : CellInput → Type 0) (t : Turn) (was now : U) (front : List Line) (outs : Outs) : Type 0 where
+  pub record Linked {U S : Type 0} (kind : SeatKind D U S) (places : HostStep S → NodeMoved) (is : CellInput → Type 0) (t : ScheduleState) (was now : U) (front : List Line) (outs : Outs) : Type 0 where
     pub input : CellInput
     pub is_one : is input
     pub step : HostStep S
     pub moves : node_moved t.cell input ≡ places step
     pub left : left_by input t.left ≡ t.left
     pub good : IsStepOf kind now front outs step
-    pub blames : Blames faults (falls input) (kind.disk was) (kind.disk now)
+    pub blames : Blames faults (own_failures input) (kind.disk was) (kind.disk now)
 
   -- what such a step comes to in the cell, and in the world
-  pub record Stands {U S : Type 0} (kind : SeatKind D U S) (places : HostStep S → NodeMoved) (node : Node) (w : WorldState D) (d : DatabaseSeat D) (ss : List (ServerSeat D)) (t : Turn) (was now : U) (front : List Line) (outs : Outs) : Type 0 where
+  pub record Stands {U S : Type 0} (kind : SeatKind D U S) (places : HostStep S → NodeMoved) (node : Node) (w : WorldState D) (d : DatabaseSeat D) (ss : List (ServerSeat D)) (t : ScheduleState) (was now : U) (front : List Line) (outs : Outs) : Type 0 where
     pub entry : (s : HostStep S) → bare_entry (places s).entry ≡ entry_with (actors.Node node) s.lines s.sent
     pub at : (s : HostStep S) → IsStepOf kind now front outs s → IsAt seen may_leave limit (after_step w d ss node front outs) (places s).cell t.left
-    pub counts : (x : CellInput) (e : Entry) → e.actor ≡ actors.Node node → Blames faults (falls x) (kind.disk was) (kind.disk now) → (own : ℕ → ℕ) → Counts faults own w → Counts faults (λ (j : ℕ). own j + falls_at j x e) (with_hosts w d ss)
+    pub counts : (x : CellInput) (e : Entry) → e.actor ≡ actors.Node node → Blames faults (own_failures x) (kind.disk was) (kind.disk now) → (own : ℕ → ℕ) → Counts faults own w → Counts faults (λ (j : ℕ). own j + falls_at j x e) (with_hosts w d ss)
 
-  plays : {U S : Type 0} (kind : SeatKind D U S) (places : HostStep S → NodeMoved) (node : Node) (is : CellInput → Type 0) (t : Turn) (w : WorldState D) (d : DatabaseSeat D) (ss : List (ServerSeat D)) (was now : U) (front : List Line) (outs : Outs) → sent_by w.history ≡ length w.wire
+  plays : {U S : Type 0} (kind : SeatKind D U S) (places : HostStep S → NodeMoved) (node : Node) (is : CellInput → Type 0) (t : ScheduleState) (w : WorldState D) (d : DatabaseSeat D) (ss : List (ServerSeat D)) (was now : U) (front : List Line) (outs : Outs) → sent_by w.history ≡ length w.wire
       → Stands kind places node w d ss t was now front outs → Linked kind places is t was now front outs → Plays seen may_leave faults limit is t w (after_step w d ss node front outs)
   plays kind places node is t w d ss was now front outs all stands link = record {
     input = link.input;
     is_one = link.is_one;
     history =
         told-push w.wire outs.parcels w.history (entry_of node (front ++ outs.lines) (length outs.parcels)) all refl
-        ∙ ap (λ (e : Entry). told w.wire w.history ++ e ∷ [])
+        ∙ ap (λ (e : Entry). entries_as_told w.wire w.history ++ e ∷ [])
         (ap₂ (λ (ls : List Line) (ms : List Message). entry_with (actors.Node node) ls ms) link.good.lines (messages_of-read outs.parcels link.step.sent link.good.sent)
         ∙ sym (ap (λ (m : NodeMoved). bare_entry m.entry) link.moves ∙ stands.entry link.step));
     at =
@@ -126,20 +126,20 @@ module _ {D : Type 0} (seen : D → Option (List ℕ)) (may_leave : D → List �
     counts = stands.counts link.input (node_moved t.cell link.input).entry (ap (λ (m : NodeMoved). m.entry.actor) link.moves ∙ ap (λ (e : Entry). e.actor) (stands.entry link.step)) link.blames;
   }
 
-  abbrev pub ServerLinked : (CellInput → Type 0) → Turn → ℕ → ServerSeat D → ServerSeat D → List Line → Outs → Type 0
-  ServerLinked is t i was now front outs = Linked (server_seat seen may_leave limit (Server i)) (λ (s : HostStep NodeState). placed t.cell i s) is t was now front outs
+  abbrev pub ServerLinked : (CellInput → Type 0) → ScheduleState → ℕ → ServerSeat D → ServerSeat D → List Line → Outs → Type 0
+  ServerLinked is t i was now front outs = Linked (server_seat seen may_leave limit (Server i)) (λ (s : HostStep NodeState). server_stepped t.cell i s) is t was now front outs
 
-  pub server_plays : (is : CellInput → Type 0) (t : Turn) (w : WorldState D) (i : ℕ) (was now : ServerSeat D) (front : List Line) (outs : Outs) → sent_by w.history ≡ length w.wire → at_place w.servers i ≡ Some was
+  pub server_plays : (is : CellInput → Type 0) (t : ScheduleState) (w : WorldState D) (i : ℕ) (was now : ServerSeat D) (front : List Line) (outs : Outs) → sent_by w.history ≡ length w.wire → at_place w.servers i ≡ Some was
       → faults (seat_disk was) ≤ faults (seat_disk now) → IsAt seen may_leave limit w t.cell t.left → ServerLinked is t i was now front outs → Plays seen may_leave faults limit is t w (after_step w w.database (put_place i now w.servers) (Server i) front outs)
   server_plays is t w i was now front outs all found le at link =
-      plays (server_seat seen may_leave limit (Server i)) (λ (s : HostStep NodeState). placed t.cell i s) (Server i) is t w w.database (put_place i now w.servers) was now front outs all
+      plays (server_seat seen may_leave limit (Server i)) (λ (s : HostStep NodeState). server_stepped t.cell i s) (Server i) is t w w.database (put_place i now w.servers) was now front outs all
       (record { entry = λ s. refl; at = λ s good. at_placed w t.cell t.left i was now front outs s found good at; counts = λ x e actor blames. counts_put faults i x e was now w actor found le blames }) link
 
-  abbrev pub DatabaseLinked : (CellInput → Type 0) → Turn → DatabaseSeat D → DatabaseSeat D → List Line → Outs → Type 0
-  DatabaseLinked is t was now front outs = Linked (database_seat seen may_leave limit) (λ (s : HostStep LocState). loc_placed t.cell s) is t was now front outs
+  abbrev pub DatabaseLinked : (CellInput → Type 0) → ScheduleState → DatabaseSeat D → DatabaseSeat D → List Line → Outs → Type 0
+  DatabaseLinked is t was now front outs = Linked (database_seat seen may_leave limit) (λ (s : HostStep LocState). loc_stepped t.cell s) is t was now front outs
 
-  pub database_plays : (is : CellInput → Type 0) (t : Turn) (w : WorldState D) (now : DatabaseSeat D) (front : List Line) (outs : Outs) → sent_by w.history ≡ length w.wire
+  pub database_plays : (is : CellInput → Type 0) (t : ScheduleState) (w : WorldState D) (now : DatabaseSeat D) (front : List Line) (outs : Outs) → sent_by w.history ≡ length w.wire
       → faults (loc_seat_disk w.database) ≤ faults (loc_seat_disk now) → IsAt seen may_leave limit w t.cell t.left → DatabaseLinked is t w.database now front outs → Plays seen may_leave faults limit is t w (after_step w now w.servers Loc front outs)
   database_plays is t w now front outs all le at link =
-      plays (database_seat seen may_leave limit) (λ (s : HostStep LocState). loc_placed t.cell s) Loc is t w now w.servers w.database now front outs all
+      plays (database_seat seen may_leave limit) (λ (s : HostStep LocState). loc_stepped t.cell s) Loc is t w now w.servers w.database now front outs all
       (record { entry = λ s. refl; at = λ s good. at_loc_placed w t.cell t.left now front outs s good at; counts = λ x e actor blames. loc_counts_put faults x e now w actor le blames }) link

@@ -7,7 +7,7 @@ use Rattle.std.proofs.Math.Dec.{leb}
 use Rattle.afs_num.specs.declared.types.Node.{Node}
 use Rattle.afs_disk.specs.Banks.{counted}
 use Rattle.afs_disk.specs.Disk.{Rose}
-use Rattle.afs_disk.specs.Fuses.{last_count}
+use Rattle.afs_disk.specs.Fuses.{last_of_counter}
 use Rattle.afs_disk.specs.declared.bank.LendFault.{LendFault}
 use Rattle.afs_disk.specs.declared.bank.LendFault.TheVariants as lending
 use Rattle.afs_disk.specs.declared.disks.Lent.{Lent}
@@ -29,12 +29,12 @@ use Rattle.afs_cell.proofs.RunEnds.{each_is, EachFrom}
 
 -- a count, or the last value of a counter
 abbrev Reaches : ℕ → ℕ → Type 0
-Reaches count now = (count ≤ now) ⊎ (last_count ≤ now)
+Reaches count now = (count ≤ now) ⊎ (last_of_counter ≤ now)
 
-raised : (count k now : ℕ) → Reaches (min (count + k) last_count) now → Reaches (count + k) now
+raised : (count k now : ℕ) → Reaches (min (count + k) last_of_counter) now → Reaches (count + k) now
 raised count k now (inr full) = inr full
-raised count k now (inl h) = either (leb_tells (count + k) last_count) where
-  either : ((leb (count + k) last_count ≡ true) × (count + k ≤ last_count)) ⊎ ((leb (count + k) last_count ≡ false) × (last_count < count + k)) → Reaches (count + k) now
+raised count k now (inl h) = either (leb_tells (count + k) last_of_counter) where
+  either : ((leb (count + k) last_of_counter ≡ true) × (count + k ≤ last_of_counter)) ⊎ ((leb (count + k) last_of_counter ≡ false) × (last_of_counter < count + k)) → Reaches (count + k) now
   either (inl few) = inl (omega (arith, h, few.1))
   either (inr many) = inr (omega (arith, h, many.1))
 
@@ -43,13 +43,13 @@ fewer m n now le (inl h) = inl (omega (arith, h, le))
 fewer m n now le (inr full) = inr full
 
 -- of the node, and of another
-counted_here : (node k n count : ℕ) → nat_eq node n ≡ true → counted node k n count ≡ min (count + k) last_count
-counted_here node k n count here = ap (λ (b : Bool). if b then min (count + k) last_count else count) here
+counted_here : (node k n count : ℕ) → nat_eq node n ≡ true → counted node k n count ≡ min (count + k) last_of_counter
+counted_here node k n count here = ap (λ (b : Bool). if b then min (count + k) last_of_counter else count) here
 
 counted_there : (node k n count : ℕ) → nat_eq node n ≡ false → counted node k n count ≡ count
-counted_there node k n count there = ap (λ (b : Bool). if b then min (count + k) last_count else count) there
+counted_there node k n count there = ap (λ (b : Bool). if b then min (count + k) last_of_counter else count) there
 
-reached_by : (b : Bool) (k count now : ℕ) → Reaches (if b then min (count + k) last_count else count) now → Reaches count now
+reached_by : (b : Bool) (k count now : ℕ) → Reaches (if b then min (count + k) last_of_counter else count) now → Reaches count now
 reached_by true k count now h = fewer count (count + k) now (omega (arith)) (raised count k now h)
 reached_by false k count now h = h
 
@@ -65,7 +65,7 @@ abbrev pub AreCounted : {D : Type 0} → (D → ℕ) → (ℕ → ℕ) → ℕ �
 AreCounted {D} faults own i [] = Unit {0}
 AreCounted {D} faults own i (l ∷ ls) = ((l.node ≡ i) × IsCounted (own i) (faults l.disk)) × AreCounted faults own (i + 1) ls
 
-rose_here : (n k count now : ℕ) → IsCounted n k → Reaches (min (count + k) last_count) now → RoseBy n (span count now)
+rose_here : (n k count now : ℕ) → IsCounted n k → Reaches (min (count + k) last_of_counter) now → RoseBy n (span count now)
 rose_here n k count now (inl few) h = fewer (count + n) (count + k) now (omega (arith, few)) (raised count k now h)
 rose_here n k count now (inr full) (inl h) = inr (omega (arith, full, h))
 rose_here n k count now (inr full) (inr last) = inr last
@@ -211,7 +211,7 @@ one_rose server count rose = subst (λ (k : ℕ). RoseBy (0 + k) count) (ap (λ 
 
 -- ---- set-up
 
-adds_none : (b : Bool) (k count : ℕ) → k ≡ 0 → (if b then min (count + k) last_count else count) ≤ count
+adds_none : (b : Bool) (k count : ℕ) → k ≡ 0 → (if b then min (count + k) last_of_counter else count) ≤ count
 adds_none true k count none = omega (arith, none)
 adds_none false k count none = omega (arith)
 

@@ -3,10 +3,10 @@ use Rattle.std.proofs.Common.{refl, ◌∙◌, ◌≡◌, ◌-◌, inl, inr, ℕ
 use Rattle.std.specs.List.{insert}
 use Rattle.afs_num.specs.declared.types.Node.TheVariants.{Server}
 use Rattle.afs_num.specs.Places.{at_place}
-use Rattle.afs_history.specs.declared.lines.Line.{Line}
-use Rattle.afs_rows.specs.Hosts.{HostStep}
-use Rattle.afs_volrows.specs.NodeHosts.{NodeHost}
-use Rattle.afs_volrows.specs.VolStates.{NodeState}
+use Rattle.spec_history.specs.declared.lines.Line.{Line}
+use Rattle.spec_rows.specs.Hosts.{HostStep}
+use Rattle.spec_volrows.specs.NodeHosts.{NodeHost}
+use Rattle.spec_volrows.specs.VolStates.{NodeState}
 use Rattle.afs_cell.specs.SeatSteps.{SeatGoes, SeatHappens, SeatKeeps, ServersHappened}
 use Rattle.afs_clients.specs.Places.{IsLifted, Room}
 use Rattle.afs_serverhost.specs.Seated.{ServerSeat}

@@ -5,20 +5,20 @@ use Rattle.afs_num.specs.declared.messages.Message.{Message}
 use Rattle.afs_num.specs.declared.types.Node.{Node}
 use Rattle.afs_num.specs.declared.types.Node.TheVariants.{Server}
 use Rattle.afs_num.specs.declared.types.Parcel.{Parcel}
-use Rattle.afs_history.specs.declared.lines.Line.TheVariants as lines
-use Rattle.afs_history.specs.declared.lines.Outs.{Outs}
-use Rattle.afs_history.specs.declared.scripts.Event.TheVariants as events
+use Rattle.spec_history.specs.declared.lines.Line.TheVariants as lines
+use Rattle.spec_history.specs.declared.lines.Outs.{Outs}
+use Rattle.spec_history.specs.declared.scripts.Event.TheVariants as events
 use Rattle.afs_disk.specs.Disk.{Rose}
-use Rattle.afs_rows.specs.Runs.{gives, message_at, nothing, server_waits, sets_fail, sets_stop, starts_again, stops, wakes, Input}
-use Rattle.afs_runs.specs.NodeRuns.{call_timed, given_at, given_to, has_host, if_host, node_moved, piece_timed, server_restarted, server_timed, server_up, usual, usually_moved, voided, CellInput, NodeCell, NodeMoved}
-use Rattle.afs_rows.specs.Hosts.{comes_up, fails_early, fails_midway, gives_out, is_full, steady, at_rest, in_boot, in_step, leaves_after, Fall, Luck, MayBegin, Outcome, crashed, restarted, served, set_to_fail, set_to_stop, Fails, GivesOut, HostStep}
-use Rattle.afs_schedule.specs.Schedules.{at_server, left_by, IsInput, IsLuck, Turn}
-use Rattle.afs_rows.specs.Hosts as host
-use Rattle.afs_volrows.specs.NodeHosts.{node_kind, node_timed_out, node_woken, piece_timed_out}
-use Rattle.afs_volrows.specs.VolStates.{NodeState}
+use Rattle.spec_rows.specs.Runs.{gives, message_at, nothing, server_waits, sets_fail, sets_stop, starts_again, stops, wakes, Input}
+use Rattle.spec_runs.specs.NodeRuns.{call_timed, given_at, given_to, has_host, if_host, node_moved, piece_timed, server_restarted, server_timed, server_up, usual, usually_moved, voided, CellInput, NodeCell, NodeMoved}
+use Rattle.spec_rows.specs.Hosts.{comes_up, fails_early, fails_midway, gives_out, is_full, steady, at_rest, in_boot, in_step, leaves_after, Fall, Luck, MayBegin, Outcome, crashed, restarted, served, set_to_fail, set_to_stop, Fails, GivesOut, HostStep, IsLuck}
+use Rattle.afs_schedule.specs.Schedules.{server_input, left_by, IsInput, ScheduleState}
+use Rattle.spec_rows.specs.Hosts as host
+use Rattle.spec_volrows.specs.NodeHosts.{node_kind, node_timed_out, node_woken, piece_timed_out}
+use Rattle.spec_volrows.specs.VolStates.{NodeState}
 use Rattle.afs_clients.specs.Happening.{IsGiven}
 use Rattle.afs_cell.specs.SeatSteps.{HasHeard, HasStep, HasTimedOut, IsFallen, IsSeatStep, IsVoidServer}
-use Rattle.afs_cell.specs.Worlds.{falls, IsCell, WorldState}
+use Rattle.afs_cell.specs.Worlds.{own_failures, IsCell, WorldState}
 use Rattle.afs_serverhost.specs.Seated.{seat_disk, ServerSeat}
 use Rattle.afs_clients.specs.declared.happening.ServerInput.{ServerInput}
 use Rattle.afs_clients.specs.declared.happening.ServerInput.TheVariants as server
@@ -37,18 +37,18 @@ luck_is (gives_out call) h = h
 abbrev steady_input : ℕ → ServerInput → Input
 steady_input i (server.TimeOut callee) = server_waits i callee
 steady_input i server.Wake = wakes i
-steady_input i (server.Crash pick) = at_server i (stops i)
-steady_input i server.Restart = at_server i (starts_again i false comes_up)
-steady_input i (server.Stop calls pick) = at_server i (sets_stop i calls pick)
-steady_input i (server.Fail call) = at_server i (sets_fail i call)
+steady_input i (server.Crash pick) = server_input i (stops i)
+steady_input i server.Restart = server_input i (starts_again i false comes_up)
+steady_input i (server.Stop calls pick) = server_input i (sets_stop i calls pick)
+steady_input i (server.Fail call) = server_input i (sets_fail i call)
 
 -- a server of the cell has another number than 0
-is_numbered : (c : NodeCell) (i : ℕ) (x : Input) → has_host c i ≡ true → usual x ≡ usual (at_server i x)
+is_numbered : (c : NodeCell) (i : ℕ) (x : Input) → has_host c i ≡ true → usual x ≡ usual (server_input i x)
 is_numbered c zero x has = absurd cc
 is_numbered c (suc i) x has = refl
 
 -- what is so of nothing and of an input is so of the input at any number
-at_any : (P : Input → Type 0) (i : ℕ) (x : Input) → P nothing → P x → P (at_server i x)
+at_any : (P : Input → Type 0) (i : ℕ) (x : Input) → P nothing → P x → P (server_input i x)
 at_any P zero x none one = none
 at_any P (suc i) x none one = one
 
@@ -69,12 +69,12 @@ module _ {D : Type 0} (seen : D → Option (List ℕ)) (may_leave : D → List �
   pub message_found : (w : WorldState D) (c : NodeCell) (place : ℕ) (p : Parcel) → IsCell seen may_leave limit w c → at_place w.wire place ≡ Some p → Found c.sent place p
   message_found w c place p cell e = parcel_found c.sent place p (at_place w.wire place) e (places_agree w.wire c.sent cell.sent place)
 
-  pub luck_blames : (luck : Luck) (place : ℕ) (was now : D) → (GivesOut luck → Rose (faults was) (faults now)) → Blames faults (falls (usual (gives place luck))) was now
+  pub luck_blames : (luck : Luck) (place : ℕ) (was now : D) → (GivesOut luck → Rose (faults was) (faults now)) → Blames faults (own_failures (usual (gives place luck))) was now
   luck_blames steady place was now h = inl refl
   luck_blames (gives_out call) place was now h = inr (refl, h tt)
 
   -- a message
-  pub link_message : (t : Turn) (w : WorldState D) (i place : ℕ) (p : Parcel) (was now : ServerSeat D) (outs : Outs) → IsCell seen may_leave limit w t.cell → at_place w.servers i ≡ Some was → at_place w.wire place ≡ Some p → p.head.to ≡ Server i
+  pub link_message : (t : ScheduleState) (w : WorldState D) (i place : ℕ) (p : Parcel) (was now : ServerSeat D) (outs : Outs) → IsCell seen may_leave limit w t.cell → at_place w.servers i ≡ Some was → at_place w.wire place ≡ Some p → p.head.to ≡ Server i
       → HasHeard (Server i) t.cell.clock place p.bytes (t.cell.hosts i) (IsSeatStep seen may_leave limit (Server i) now (lines.Given place ∷ []) outs) (Rose (faults (seat_disk was)) (faults (seat_disk now)))
       → ServerLinked seen may_leave faults limit (IsInput t (events.Deliver place)) t i was now (lines.Given place ∷ []) outs
   link_message t w i place p was now outs cell here at to heard =
@@ -90,14 +90,14 @@ module _ {D : Type 0} (seen : D → Option (List ℕ)) (may_leave : D → List �
         blames = luck_blames s.luck place (seat_disk was) (seat_disk now) s.blame;
       }
 
-  pub outcome_blames : (i : ℕ) (after : Bool) (outcome : Outcome) (was now : D) → (Fails outcome → Rose (faults was) (faults now)) → Blames faults (falls (usual (starts_again i after outcome))) was now
+  pub outcome_blames : (i : ℕ) (after : Bool) (outcome : Outcome) (was now : D) → (Fails outcome → Rose (faults was) (faults now)) → Blames faults (own_failures (usual (starts_again i after outcome))) was now
   outcome_blames i after comes_up was now h = inl refl
   outcome_blames i after fails_early was now h = inr (refl, h tt)
   outcome_blames i after fails_midway was now h = inr (refl, h tt)
   outcome_blames i after is_full was now h = inl refl
 
   -- one of its calls is timed out
-  link_late : (t : Turn) (w : WorldState D) (i : ℕ) (callee : Node) (was now : ServerSeat D) (outs : Outs) → IsCell seen may_leave limit w t.cell → at_place w.servers i ≡ Some was → (t.cell.hosts i).down ≡ None
+  link_late : (t : ScheduleState) (w : WorldState D) (i : ℕ) (callee : Node) (was now : ServerSeat D) (outs : Outs) → IsCell seen may_leave limit w t.cell → at_place w.servers i ≡ Some was → (t.cell.hosts i).down ≡ None
       → HasTimedOut (Server i) t.cell.clock callee (t.cell.hosts i) (IsSeatStep seen may_leave limit (Server i) now [] outs) → ServerLinked seen may_leave faults limit (IsGiven i (server.TimeOut callee) t) t i was now [] outs
   link_late t w i callee was now outs cell here up (inl (b, (called, good))) = record {
     input = usual (server_waits i callee);
@@ -119,7 +119,7 @@ module _ {D : Type 0} (seen : D → Option (List ℕ)) (may_leave : D → List �
   }
 
   -- what it is given else
-  pub link_input : (t : Turn) (w : WorldState D) (i : ℕ) (input : ServerInput) (was now : ServerSeat D) (outs : Outs) → IsCell seen may_leave limit w t.cell → at_place w.servers i ≡ Some was
+  pub link_input : (t : ScheduleState) (w : WorldState D) (i : ℕ) (input : ServerInput) (was now : ServerSeat D) (outs : Outs) → IsCell seen may_leave limit w t.cell → at_place w.servers i ≡ Some was
       → HasStep (Server i) t.cell.clock t.cell.count input (t.cell.hosts i) (IsSeatStep seen may_leave limit (Server i) now [] outs) (Rose (faults (seat_disk was)) (faults (seat_disk now)))
       → ServerLinked seen may_leave faults limit (IsGiven i input t) t i was now [] outs
   link_input t w i (server.TimeOut callee) was now outs cell here h = link_late t w i callee was now outs cell here h.0 h.1
@@ -210,7 +210,7 @@ up_void : (c : NodeCell) (i : ℕ) (after : Bool) (outcome : Outcome) → (has_h
 up_void c i after outcome (inl e) = inl e
 up_void c i after outcome (inr up) = inr (ap (server_restarted c i after outcome) up)
 
-void_restart : (c : NodeCell) (i : ℕ) (after : Bool) → (has_host c i ≡ false) ⊎ ((c.hosts i).down ≡ None) → node_moved c (usual (at_server i (starts_again i after comes_up))) ≡ voided c
+void_restart : (c : NodeCell) (i : ℕ) (after : Bool) → (has_host c i ≡ false) ⊎ ((c.hosts i).down ≡ None) → node_moved c (usual (server_input i (starts_again i after comes_up))) ≡ voided c
 unfolding usually_moved
 void_restart c zero after none = refl
 void_restart c (suc i) after none = gone c (suc i) (server_restarted c (suc i) after comes_up (c.hosts (suc i)).down) (up_void c (suc i) after comes_up none)
@@ -235,26 +235,26 @@ some_begin (Some (in_step m clock b)) = (leaves_after b, λ set. refl)
 some_begin (Some in_boot) = (false, tt)
 
 -- an input that nothing comes of
-pub record Voided (is : CellInput → Type 0) (t : Turn) : Type 0 where
+pub record Voided (is : CellInput → Type 0) (t : ScheduleState) : Type 0 where
   pub input : CellInput
   pub is_one : is input
   pub moves : node_moved t.cell input ≡ voided t.cell
   pub left : left_by input t.left ≡ t.left
-  pub harmless : falls input ≡ 0
+  pub harmless : own_failures input ≡ 0
 
-pub link_void_message : (t : Turn) (i place : ℕ) (m : Message) → message_at t.cell.sent place ≡ Some m → m.head.to ≡ Server i → (has_host t.cell i ≡ false) ⊎ IsFallen (t.cell.hosts i) → Voided (IsInput t (events.Deliver place)) t
+pub link_void_message : (t : ScheduleState) (i place : ℕ) (m : Message) → message_at t.cell.sent place ≡ Some m → m.head.to ≡ Server i → (has_host t.cell i ≡ false) ⊎ IsFallen (t.cell.hosts i) → Voided (IsInput t (events.Deliver place)) t
 link_void_message t i place m at to none = record { input = usual (gives place steady); is_one = (steady, (refl, tt)); moves = void_message t.cell i place m at to none; left = refl; harmless = refl }
 
-numbered_void : (t : Turn) (i : ℕ) (x : Input) (is : CellInput → Type 0) → is (usual (at_server i x)) → node_moved t.cell (usual (at_server i x)) ≡ voided t.cell → left_by (usual x) t.left ≡ t.left → falls (usual x) ≡ 0 → Voided is t
+numbered_void : (t : ScheduleState) (i : ℕ) (x : Input) (is : CellInput → Type 0) → is (usual (server_input i x)) → node_moved t.cell (usual (server_input i x)) ≡ voided t.cell → left_by (usual x) t.left ≡ t.left → own_failures (usual x) ≡ 0 → Voided is t
 numbered_void t i x is one moves left harmless = record {
-  input = usual (at_server i x);
+  input = usual (server_input i x);
   is_one = one;
   moves = moves;
   left = at_any (λ (y : Input). left_by (usual y) t.left ≡ t.left) i x refl left;
-  harmless = at_any (λ (y : Input). falls (usual y) ≡ 0) i x refl harmless;
+  harmless = at_any (λ (y : Input). own_failures (usual y) ≡ 0) i x refl harmless;
 }
 
-pub link_void : (t : Turn) (i : ℕ) (input : ServerInput) → (has_host t.cell i ≡ false) ⊎ IsVoidServer input (t.cell.hosts i) → Voided (IsGiven i input t) t
+pub link_void : (t : ScheduleState) (i : ℕ) (input : ServerInput) → (has_host t.cell i ≡ false) ⊎ IsVoidServer input (t.cell.hosts i) → Voided (IsGiven i input t) t
 link_void t i (server.TimeOut callee) none = record { input = usual (server_waits i callee); is_one = refl; moves = void_input t.cell i (server.TimeOut callee) none; left = refl; harmless = refl }
 link_void t i server.Wake none = record { input = usual (wakes i); is_one = refl; moves = void_input t.cell i server.Wake none; left = refl; harmless = refl }
 link_void t i (server.Crash pick) none = numbered_void t i (stops i) (λ (y : CellInput). IsGiven i (server.Crash pick) t y) refl (void_input t.cell i (server.Crash pick) none) refl refl

@@ -1,14 +1,14 @@
 -- The next event of a schedule, whatever was let go before.
 use Rattle.std.proofs.Common.{ap, arith, refl, sym, subst, ◌∙◌, ◌≡◌, ◌≤◌, ◌<◌, ◌⊎◌, ◌+◌, inl, inr, ℕ, List, ◌++◌, length, Option, Some, None, Result, Ok, Err}
 use Rattle.std.proofs.lemmas.List.{length-append}
-use Rattle.afs_history.specs.declared.scripts.Event.{Event}
-use Rattle.afs_history.specs.declared.scripts.Event.TheVariants as events
-use Rattle.afs_history.specs.declared.scripts.Script.{Script}
+use Rattle.spec_history.specs.declared.scripts.Event.{Event}
+use Rattle.spec_history.specs.declared.scripts.Event.TheVariants as events
+use Rattle.spec_history.specs.declared.scripts.Script.{Script}
 use Rattle.afs_grammar.specs.CellScripts.{counts_of, FitsEvent}
 use Rattle.afs_grammar.specs.Lines.{ticks_of}
-use Rattle.afs_runs.specs.NodeRuns.{CellInput}
-use Rattle.afs_schedule.specs.Schedules.{IsInput, Turn}
-use Rattle.afs_schedule.specs.Settled.{settled, DeliversBehind, IsBehind, IsBehindEach}
+use Rattle.spec_runs.specs.NodeRuns.{CellInput}
+use Rattle.afs_schedule.specs.Schedules.{IsInput, ScheduleState}
+use Rattle.afs_schedule.specs.Settled.{places_settled, DeliversBehind, IsBehind, IsBehindEach}
 use Rattle.afs_schedule.specs.Taking.{IsLeft, Takes}
 use Rattle.afs_schedule.specs.declared.schedule.Schedule.{Schedule}
 use Rattle.afs_words.specs.declared.nodes.Counts as words
@@ -16,7 +16,7 @@ use Rattle.afs_cell.specs.Since.{whole, DeliversKept, GoesOnSince, IsBefore, IsS
 use Rattle.afs_cell.specs.Steps.{Stays}
 use Rattle.afs_cell.specs.UnderWay.{GoesSo, IsUnderWay}
 use Rattle.afs_cell.specs.UnderWaySince.{GoesSoSince, IsUnderWaySince}
-use Rattle.afs_cell.specs.Worlds.{most_entries, most_ticks, AllTell, Counts, HistoryTold, IsSafe, IsWorld, WorldState}
+use Rattle.afs_cell.specs.Worlds.{most_history_entries, most_ticks, AllTell, Counts, HistoryTold, IsSafe, IsWorld, WorldState}
 use Rattle.afs_cell.specs.declared.faults.WorldFault.{WorldFault}
 use Rattle.afs_cell.specs.declared.faults.WorldFault.TheVariants as faulty
 use Rattle.afs_cell.specs.declared.playing.Played.TheVariants as played
@@ -27,10 +27,10 @@ pub count_whole : {D : Type 0} (b : HistoryTold) (w : WorldState D) (n : ℕ) �
 count_whole {D} b w n before is = omega (arith, is, before.messages, length-append b.wire w.wire)
 
 -- its history isn't too long
-pub within_whole : {D : Type 0} (limit : D → ℕ) (b : HistoryTold) (w : WorldState D) → IsBefore b w → IsSafe limit w.script (whole b w) → w.gone.entries + length w.history ≤ most_entries
+pub within_whole : {D : Type 0} (limit : D → ℕ) (b : HistoryTold) (w : WorldState D) → IsBefore b w → IsSafe limit w.script (whole b w) → w.gone.entries + length w.history ≤ most_history_entries
 within_whole {D} limit b w before safe = omega (arith, safe.entries, before.entries, length-append b.history w.history)
 
-pub full_whole : {D : Type 0} (b : HistoryTold) (w : WorldState D) → IsBefore b w → w.gone.entries + length w.history ≡ most_entries → length (b.history ++ w.history) ≡ most_entries
+pub full_whole : {D : Type 0} (b : HistoryTold) (w : WorldState D) → IsBefore b w → w.gone.entries + length w.history ≡ most_history_entries → length (b.history ++ w.history) ≡ most_history_entries
 full_whole {D} b w before full = omega (arith, full, before.entries, length-append b.history w.history)
 
 -- a deliver of the schedule gives a message that wasn't let go
@@ -78,15 +78,15 @@ module _ {D : Type 0} (seen : D → Option (List ℕ)) (may_leave : D → List �
   pub ticks_since : (since : IsUnderWaySince seen may_leave faults limit w old) (o : Option Event) (event : Event) → o ≡ Some event → Takes sent old left o → w.clock + ticks_of event ≤ most_ticks
   ticks_since since o event is takes = fits_within seen may_leave faults limit w.script (whole since.before w) old left event since.way (taken_some since.before since.is o event is takes)
 
-  pub kept_since : (since : IsUnderWaySince seen may_leave faults limit w old) (o : Option Event) (event : Event) → o ≡ Some event → Takes sent old left o → IsBehind old left o → w.gone.messages ≤ settled old → DeliversKept w event
+  pub kept_since : (since : IsUnderWaySince seen may_leave faults limit w old) (o : Option Event) (event : Event) → o ≡ Some event → Takes sent old left o → IsBehind old left o → w.gone.messages ≤ places_settled old → DeliversKept w event
   kept_since since o event is takes behind few =
-      kept_by w (counts_of w.script) (settled old) event few (behind_some old left o event is behind since.way.events since.way.named since.way.is_left).1 (fits_since since o event is takes)
+      kept_by w (counts_of w.script) (places_settled old) event few (behind_some old left o event is behind since.way.events since.way.named since.way.is_left).1 (fits_since since o event is takes)
 
-  pub settled_since : (since : IsUnderWaySince seen may_leave faults limit w old) (o : Option Event) → IsBehind old left o → settled old ≤ settled left
+  pub settled_since : (since : IsUnderWaySince seen may_leave faults limit w old) (o : Option Event) → IsBehind old left o → places_settled old ≤ places_settled left
   settled_since since o behind = (behind since.way.events since.way.named since.way.is_left).0
 
   -- it was played
-  pub goes_since : (new : WorldState D) (o : Option Event) (event : Event) → o ≡ Some event → Takes sent old left o → GoesOnSince seen may_leave faults limit w new → StepsSince seen may_leave faults limit (λ (t : Turn). IsInput t event) w new (Ok tt)
+  pub goes_since : (new : WorldState D) (o : Option Event) (event : Event) → o ≡ Some event → Takes sent old left o → GoesOnSince seen may_leave faults limit w new → StepsSince seen may_leave faults limit (λ (t : ScheduleState). IsInput t event) w new (Ok tt)
       → (AllTell seen new → AllTell seen w) → new.clock ≤ w.clock + ticks_of event → GoesSoSince seen may_leave faults limit w new old left played.Event
   goes_since new o event is takes world steps tells clock b before way =
       let one = steps b before way.world in (
@@ -95,14 +95,14 @@ module _ {D : Type 0} (seen : D → Option (List ℕ)) (may_leave : D → List �
       )
 
   -- its history was full
-  pub full_since : (new : WorldState D) (o : Option Event) (event : Event) (fault : WorldFault) → o ≡ Some event → Takes sent old left o → fault ≡ faulty.Limit → StepsSince seen may_leave faults limit (λ (t : Turn). IsInput t event) w new (Err fault)
+  pub full_since : (new : WorldState D) (o : Option Event) (event : Event) (fault : WorldFault) → o ≡ Some event → Takes sent old left o → fault ≡ faulty.Limit → StepsSince seen may_leave faults limit (λ (t : ScheduleState). IsInput t event) w new (Err fault)
       → GoesSoSince seen may_leave faults limit w new old left played.Limit
   full_since new o event fault is takes limited steps b before way =
       ends_full seen may_leave faults limit w.script (whole b w) (whole b new) old left event way (taken_some b before o event is takes)
       (stays_full seen may_leave limit (whole b w) (whole b new) fault limited (steps b before way.world))
 
   -- memory was wanting
-  pub wants_since : (new : WorldState D) (is : Turn → CellInput → Type 0) (fault : WorldFault) → fault ≡ faulty.OutOfMemory → GoesOnSince seen may_leave faults limit w new → StepsSince seen may_leave faults limit is w new (Err fault) → (AllTell seen new → AllTell seen w)
+  pub wants_since : (new : WorldState D) (is : ScheduleState → CellInput → Type 0) (fault : WorldFault) → fault ≡ faulty.OutOfMemory → GoesOnSince seen may_leave faults limit w new → StepsSince seen may_leave faults limit is w new (Err fault) → (AllTell seen new → AllTell seen w)
       → ((own : ℕ → ℕ) → Counts faults own w → Counts faults own new) → GoesSoSince seen may_leave faults limit w new old left played.OutOfMemory
   wants_since new is fault wanting world steps tells counts b before way =
       ends_some seen may_leave faults limit w.script (whole b w) (whole b new) old left way (world b before way.world) (stays_wanting seen may_leave limit (whole b w) (whole b new) fault wanting (steps b before way.world)) tells counts

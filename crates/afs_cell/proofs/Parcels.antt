@@ -2,16 +2,16 @@
 use Rattle.std.proofs.Common.{◌≡◌, ℕ, zero, suc, ◌+◌, ◌≤◌, List, [], ◌∷◌, ◌++◌, Option, Some, None, length, take, drop, refl, sym, ap, subst, ◌∙◌, arith}
 use Rattle.std.proofs.lemmas.List.{append-nil, take-append-le, drop-append-le, length-drop, take_all}
 use Rattle.afs_num.specs.Places.{at_place}
-use Rattle.afs_history.specs.declared.lines.Entry as kept
+use Rattle.spec_history.specs.declared.lines.Entry as kept
 use Rattle.afs_num.specs.declared.types.Head.{Head}
 use Rattle.afs_num.specs.declared.types.Parcel.{Parcel}
 use Rattle.afs_num.specs.declared.messages.Message.{Message}
 use Rattle.afs_num.specs.declared.messages.Received.{Received}
 use Rattle.afs_num.specs.declared.messages.Received.TheVariants.{Nothing, Unserved, Unreadable, Whole}
-use Rattle.afs_model.specs.Messages.{received, spelled, parcels_read, messages_spelled}
-use Rattle.afs_rows.specs.Runs.{Entry}
-use Rattle.afs_model.specs.Telling.{with_received, messages_of, AreRead}
-use Rattle.afs_text.specs.Telling.{told, sent_by}
+use Rattle.spec_model.specs.Messages.{received, spelled, parcels_read, messages_spelled}
+use Rattle.spec_rows.specs.Runs.{Entry}
+use Rattle.spec_model.specs.Telling.{with_received, messages_of, AreRead}
+use Rattle.afs_text.specs.Telling.{entries_as_told, sent_by}
 
 -- a parcel's header, its bytes, and what is read in them
 abbrev Seen : Type 0
@@ -93,7 +93,7 @@ abbrev pub with_messages : kept.Entry → List Message → Entry
 with_messages e ms = record { actor = e.actor; lines = e.lines; sent = ms; volumes = [] }
 
 -- an entry more tells its own messages, and changes nothing of what was told before
-pub told-push : (ps qs : List Parcel) (es : List kept.Entry) (e : kept.Entry) → sent_by es ≡ length ps → e.sent ≡ length qs → told (ps ++ qs) (es ++ e ∷ []) ≡ told ps es ++ with_messages e (messages_of qs) ∷ []
+pub told-push : (ps qs : List Parcel) (es : List kept.Entry) (e : kept.Entry) → sent_by es ≡ length ps → e.sent ≡ length qs → entries_as_told (ps ++ qs) (es ++ e ∷ []) ≡ entries_as_told ps es ++ with_messages e (messages_of qs) ∷ []
 told-push [] qs [] e all own =
     let whole : take e.sent qs ≡ qs = take_all e.sent qs (omega (arith, own)) in
     ap (λ (ts : List Parcel). with_messages e (messages_of ts) ∷ []) whole
@@ -101,10 +101,10 @@ told-push (p ∷ ps) qs [] e all own = absurd (omega (arith, all))
 told-push ps qs (x ∷ es) e all own =
     let fits : x.sent ≤ length ps = omega (arith, all) in
     let rest : sent_by es ≡ length (drop x.sent ps) = omega (arith, all, length-drop x.sent ps) in
-    ap (λ (ts : List Parcel). with_messages x (messages_of ts) ∷ told (drop x.sent (ps ++ qs)) (es ++ e ∷ [])) (take-append-le x.sent ps qs fits)
+    ap (λ (ts : List Parcel). with_messages x (messages_of ts) ∷ entries_as_told (drop x.sent (ps ++ qs)) (es ++ e ∷ [])) (take-append-le x.sent ps qs fits)
     ∙ ap (λ (ts : List Entry). with_messages x (messages_of (take x.sent ps)) ∷ ts)
-    (ap (λ (ts : List Parcel). told ts (es ++ e ∷ [])) (drop-append-le x.sent ps qs fits) ∙ told-push (drop x.sent ps) qs es e rest own)
+    (ap (λ (ts : List Parcel). entries_as_told ts (es ++ e ∷ [])) (drop-append-le x.sent ps qs fits) ∙ told-push (drop x.sent ps) qs es e rest own)
 
 -- an entry that sent nothing
-pub told-still : (ps : List Parcel) (es : List kept.Entry) (e : kept.Entry) → sent_by es ≡ length ps → e.sent ≡ 0 → told ps (es ++ e ∷ []) ≡ told ps es ++ with_messages e [] ∷ []
-told-still ps es e all own = subst (λ (qs : List Parcel). told qs (es ++ e ∷ []) ≡ told ps es ++ with_messages e [] ∷ []) (append-nil ps) (told-push ps [] es e all own)
+pub told-still : (ps : List Parcel) (es : List kept.Entry) (e : kept.Entry) → sent_by es ≡ length ps → e.sent ≡ 0 → entries_as_told ps (es ++ e ∷ []) ≡ entries_as_told ps es ++ with_messages e [] ∷ []
+told-still ps es e all own = subst (λ (qs : List Parcel). entries_as_told qs (es ++ e ∷ []) ≡ entries_as_told ps es ++ with_messages e [] ∷ []) (append-nil ps) (told-push ps [] es e all own)

@@ -2,7 +2,7 @@
 use Rattle.std.proofs.Common.{refl, ap, sym, subst, ◌∙◌, ◌≡◌, inl, inr, ℕ, List, [], Option, Some, None, Result, Ok, Err}
 use Rattle.afs_num.specs.Places.{at_place}
 use Rattle.afs_num.specs.declared.types.Node.TheVariants.{Server}
-use Rattle.afs_volrows.specs.NodeHosts.{NodeHost}
+use Rattle.spec_volrows.specs.NodeHosts.{NodeHost}
 use Rattle.afs_node.specs.Seen.{node_seen}
 use Rattle.afs_serverhost.specs.Seats.{ServerRunning}
 use Rattle.afs_host.specs.declared.seats.Seat.TheVariants.{Up}

@@ -2,12 +2,12 @@
 use Rattle.std.specs.Prelude.{◌≡◌, ℕ, ◌+◌, List, length, Bool, false, Option}
 use Rattle.std.proofs.Common.{sym, subst, ◌∙◌, arith}
 use Rattle.std.proofs.lemmas.List.{length-append}
-use Rattle.afs_history.specs.declared.scripts.Script.{Script}
+use Rattle.spec_history.specs.declared.scripts.Script.{Script}
 use Rattle.afs_cell.specs.Since.{whole, IsWorldSince}
 use Rattle.afs_cell.specs.Steps.{HasPlayedAll, HasPlayedFirst, HasPlayedSome}
-use Rattle.afs_cell.specs.Worlds.{most_entries, AllTell, IsWorld, WorldState}
+use Rattle.afs_cell.specs.Worlds.{most_history_entries, AllTell, IsWorld, WorldState}
 use Rattle.afs_lending.specs.Outside.{Outside}
-use Rattle.afs_cell.specs.Writing.{EndsSo, IsTold, IsWritten}
+use Rattle.afs_cell.specs.Writing.{EndsSo, HistoryIsWritten, IsWritten}
 use Rattle.afs_cell.specs.Replays.{EndsRun}
 use Rattle.afs_cell.specs.declared.writing.Ended.{Ended}
 use Rattle.afs_cell.specs.declared.writing.Ended.TheVariants as ended
@@ -15,7 +15,7 @@ use Rattle.afs_cell.specs.declared.writing.Told.{Told}
 use Rattle.afs_command.specs.declared.statuses.Status.{Status}
 use Rattle.afs_cell.proofs.Ended.{played_on}
 
-module _ {D : Type 0} (seen : D → Option (List ℕ)) (may_leave : D → List ℕ → Type 0) (faults limit : D → ℕ) (s : Script) (wire : Bool) (tells : Type 0) (old new : Option (List ℕ)) (before after : ℕ) (t : Told (WorldState D)) (told : IsTold seen may_leave faults limit s wire tells old new before after t) where
+module _ {D : Type 0} (seen : D → Option (List ℕ)) (may_leave : D → List ℕ → Type 0) (faults limit : D → ℕ) (s : Script) (wire : Bool) (tells : Type 0) (old new : Option (List ℕ)) (before after : ℕ) (t : Told (WorldState D)) (told : HistoryIsWritten seen may_leave faults limit s wire tells old new before after t) where
   script_of : t.world.script ≡ s
   script_of = told.world.safe.script
 
@@ -37,7 +37,7 @@ module _ {D : Type 0} (seen : D → Option (List ℕ)) (may_leave : D → List �
   pub going_first : t.ended ≡ ended.Limit → t.world.is_lost ≡ false
   going_first is = (ends_as ended.Limit is).0
 
-  pub full_first : t.ended ≡ ended.Limit → t.world.gone.entries + length t.world.history ≡ most_entries
+  pub full_first : t.ended ≡ ended.Limit → t.world.gone.entries + length t.world.history ≡ most_history_entries
   full_first is = omega (arith, (ends_as ended.Limit is).1.0, told.is.entries, length-append told.gone.history t.world.history)
 
   module _ (script : Script) (same : s ≡ script) (tells_too left : Type 0) (tell : tells_too → tells) (o : Outside) (status : Status) where

@@ -3,7 +3,7 @@ use Rattle.std.specs.Prelude.{◌≡◌, ◌≤◌, ◌⊎◌, ℕ, suc, ◌+◌
 use Rattle.std.proofs.Common.{refl, ap, sym, subst, inr, arith}
 use Rattle.std.proofs.lemmas.List.{length-append}
 use Rattle.afs_num.specs.declared.devices.Failed as bank
-use Rattle.afs_history.specs.declared.scripts.Script.{Script}
+use Rattle.spec_history.specs.declared.scripts.Script.{Script}
 use Rattle.afs_disk.specs.Disk.{Rose}
 use Rattle.afs_disk.specs.declared.disks.Lent.{Lent}
 use Rattle.afs_outside.specs.declared.outside.Failed.{Failed}
@@ -13,7 +13,7 @@ use Rattle.afs_cell.specs.Since.{whole, StandsSince}
 use Rattle.afs_cell.specs.Steps.{AreStanding, HasPlayedAll, HasPlayedFirst, HasPlayedSome}
 use Rattle.afs_cell.specs.Lends.{disks_of, lent_from}
 use Rattle.afs_host.specs.LocSeated.{loc_seat_disk}
-use Rattle.afs_cell.specs.Worlds.{most_entries, AllTell, HistoryTold, IsWorld, WorldState}
+use Rattle.afs_cell.specs.Worlds.{most_history_entries, AllTell, HistoryTold, IsWorld, WorldState}
 use Rattle.afs_final.specs.Reading.{fault_in, part, AreFound}
 use Rattle.afs_final.specs.declared.reading.Left.{Left}
 use Rattle.afs_lending.specs.Lending.{all_kept, with_faults, GivesBackBut, GoBack}
@@ -76,11 +76,11 @@ module _ {D : Type 0} (seen : D → Option (List ℕ)) (may_leave : D → List �
     entries : WritesEntries IsFew wire o
     entries = entries_of seen may_leave faults limit w.script (whole gone w) IsFew wire o told.world told.world.safe.entries writes
 
-    full_by : w.gone.entries + length w.history ≡ most_entries → length (whole gone w).history ≡ most_entries
+    full_by : w.gone.entries + length w.history ≡ most_history_entries → length (whole gone w).history ≡ most_history_entries
     full_by full = omega (arith, full, told.is.entries, length-append gone.history w.history)
 
     -- its history was full before its end
-    pub cut_of : w.is_lost ≡ false → w.gone.entries + length w.history ≡ most_entries → result ≡ statuses.Limit → EndsRun w.script wire (AllTell seen w × HasPlayedFirst seen may_leave faults limit w.script (whole gone w)) ⊥ o result
+    pub cut_of : w.is_lost ≡ false → w.gone.entries + length w.history ≡ most_history_entries → result ≡ statuses.Limit → EndsRun w.script wire (AllTell seen w × HasPlayedFirst seen may_leave faults limit w.script (whole gone w)) ⊥ o result
     cut_of going full are =
         subst (λ (x : Status). EndsRun w.script wire (AllTell seen w × HasPlayedFirst seen may_leave faults limit w.script (whole gone w)) ⊥ o x) (sym are)
         (was_cut seen may_leave faults limit w.script (whole gone w) wire o (has_ended seen may_leave faults limit wire start count gone w now counted written disks going told over) (full_by full) writes gone_back)

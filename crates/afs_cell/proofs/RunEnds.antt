@@ -5,27 +5,27 @@ use Rattle.std.proofs.Common.{refl, ap, sym, subst, ◌∙◌, inl, inr, append_
 use Rattle.std.proofs.lemmas.List.{append-nil}
 use Rattle.afs_num.specs.Places.{at_place}
 use Rattle.afs_num.specs.declared.types.Parcel.{Parcel}
-use Rattle.afs_history.specs.declared.lines.Entry as kept
-use Rattle.afs_history.specs.declared.scripts.Script.{Script}
+use Rattle.spec_history.specs.declared.lines.Entry as kept
+use Rattle.spec_history.specs.declared.scripts.Script.{Script}
 use Rattle.afs_disk.specs.Banks as banks
 use Rattle.afs_disk.specs.declared.bank.LendFault.{LendFault}
 use Rattle.afs_disk.specs.declared.disks.Lent.{Lent}
 use Rattle.afs_journal.specs.Records.{whole_records}
-use Rattle.afs_records.specs.Durable.{Durable}
-use Rattle.afs_fold.specs.Fold.{fold_all}
-use Rattle.afs_records.specs.LocDurable.{LocDurable}
-use Rattle.afs_volstore.specs.Stands.{Stands}
-use Rattle.afs_records.proofs.Forms.{some_is}
-use Rattle.afs_rows.specs.Runs.{Entry}
-use Rattle.afs_runs.specs.NodeRuns.{CellInput, NodeCell}
-use Rattle.afs_text.specs.Telling.{told}
+use Rattle.spec_records.specs.Durable.{Durable}
+use Rattle.spec_fold.specs.Fold.{fold_all}
+use Rattle.spec_records.specs.LocDurable.{LocDurable}
+use Rattle.afs_volstore.specs.Stands.{StandsForVolumes}
+use Rattle.spec_records.proofs.Forms.{some_is}
+use Rattle.spec_rows.specs.Runs.{Entry}
+use Rattle.spec_runs.specs.NodeRuns.{CellInput, NodeCell}
+use Rattle.afs_text.specs.Telling.{entries_as_told}
 use Rattle.afs_volstore.specs.Stores.{Store}
 use Rattle.afs_clients.specs.Places.{Each}
 use Rattle.afs_cell.specs.Steps.{AreStanding, HasPlayed, IsStanding, IsStandingAtLoc, LocStands, MayBeRead, MayBeReadAtLoc}
 use Rattle.afs_cell.specs.Lends.{disks_of, lent_from}
 use Rattle.afs_host.specs.LocSeated.{loc_seat_disk}
 use Rattle.afs_serverhost.specs.Seated.{seat_disk, ServerSeat}
-use Rattle.afs_cell.specs.Worlds.{most_entries, own_falls, AllTell, IsCell, WorldState}
+use Rattle.afs_cell.specs.Worlds.{most_history_entries, own_falls, AllTell, IsCell, WorldState}
 use Rattle.afs_final.specs.Reading.{fault_in, kept_disk, part, AreFound, IsRead}
 use Rattle.afs_final.specs.declared.reading.Left.{Left}
 use Rattle.afs_final.specs.declared.reading.Left.TheVariants as left
@@ -105,13 +105,13 @@ all_left {D} seen faults limit c i (l ∷ ls) (f ∷ fs) stand tells found none 
 abbrev StandFor : {D : Type 0} → (D → Option (List ℕ)) → ℕ → List (Lent D) → List Durable → Type 0
 StandFor {D} seen i [] ds = ds ≡ []
 StandFor {D} seen i (l ∷ ls) [] = ⊥
-StandFor {D} seen i (l ∷ ls) (d ∷ ds) = ((l.node ≡ i) × (IsSome (seen l.disk) × ((bytes : List ℕ) → seen l.disk ≡ Some bytes → Stands bytes d))) × StandFor seen (i + 1) ls ds
+StandFor {D} seen i (l ∷ ls) (d ∷ ds) = ((l.node ≡ i) × (IsSome (seen l.disk) × ((bytes : List ℕ) → seen l.disk ≡ Some bytes → StandsForVolumes bytes d))) × StandFor seen (i + 1) ls ds
 
 abbrev Given : Type 0
 Given = List (ℕ × List ℕ)
 
-given_next : (told : Option (List ℕ)) (i : ℕ) (given : Given) (next : Option Given) (bytes : List ℕ) → told ≡ Some bytes → banks.GivesBack i told (Some given) next → next ≡ Some (given ++ (i, bytes) ∷ [])
-given_next told i given next bytes e back = subst (λ (o : Option (List ℕ)). banks.GivesBack i o (Some given) next) e back
+given_next : (told : Option (List ℕ)) (i : ℕ) (given : Given) (next : Option Given) (bytes : List ℕ) → told ≡ Some bytes → banks.IsTakenBack i told (Some given) next → next ≡ Some (given ++ (i, bytes) ∷ [])
+given_next told i given next bytes e back = subst (λ (o : Option (List ℕ)). banks.IsTakenBack i o (Some given) next) e back
 
 -- these were given back, and so many of so many are missing
 abbrev Returned : (List (ℕ × List ℕ) → Type 0) → ℕ → ℕ → Given → Option Given → Type 0
@@ -184,7 +184,7 @@ loc_so {D} seen limit c disk tells stand =
     record { loc = d.0; keep = d.1.0; stand = (refl, (tells, λ bs e. subst (λ (xs : List ℕ). LocStands xs d.0) (some_is bytes.0 bs (sym bytes.1 ∙ e)) d.1.1.0)) }
 
 one_stands : {D : Type 0} (seen : D → Option (List ℕ)) (faults limit : D → ℕ) (c : NodeCell) (i : ℕ) (l : Lent D) (f : Left (Store D) D) (fs : List (Left (Store D) D)) → Stand seen limit c i l → Tells seen i l → IsRead seen faults limit l.disk f → fault_in (f ∷ fs) ≡ None →
-    IsSome (seen (kept_disk f)) × ((bytes : List ℕ) → seen (kept_disk f) ≡ Some bytes → Stands bytes (part f))
+    IsSome (seen (kept_disk f)) × ((bytes : List ℕ) → seen (kept_disk f) ≡ Some bytes → StandsForVolumes bytes (part f))
 one_stands {D} seen faults limit c i l (left.Kept s) fs stand tells read none = (read.told.1 tells, λ bytes e. read.is.after bytes e)
 one_stands {D} seen faults limit c i l (left.Bad d) fs stand tells read none =
     let bytes = some_of (seen l.disk) tells in
@@ -228,7 +228,7 @@ parts_stand {D} seen limit c i (l ∷ ls) stand tells numbered counted =
     let bytes = some_of (seen l.disk) tells.0 in
     let d = stand.0 bytes.0 bytes.1 in
     let more = parts_stand seen limit c (i + 1) ls stand.1 tells.1 numbered.1 (omega (arith, counted)) in
-    (d.0 ∷ more.0, ((d.1.0, more.1.0), ((numbered.0, (tells.0, λ bs e. subst (λ (xs : List ℕ). Stands xs d.0) (some_is bytes.0 bs (sym bytes.1 ∙ e)) d.1.1.0)), more.1.1)))
+    (d.0 ∷ more.0, ((d.1.0, more.1.0), ((numbered.0, (tells.0, λ bs e. subst (λ (xs : List ℕ). StandsForVolumes xs d.0) (some_is bytes.0 bs (sym bytes.1 ∙ e)) d.1.1.0)), more.1.1)))
 
 numbered_from : {D : Type 0} (i : ℕ) (ss : List (ServerSeat D)) → EachFrom i Numbered (lent_from i ss)
 numbered_from {D} i [] = tt
@@ -299,19 +299,19 @@ found_come {D} MayBeMissing seen faults limit count w fs old new are tell found 
 
 -- ---- the history
 
-pub length_told : (ps : List Parcel) (es : List kept.Entry) → length (told ps es) ≡ length es
+pub length_told : (ps : List Parcel) (es : List kept.Entry) → length (entries_as_told ps es) ≡ length es
 length_told ps [] = refl
 length_told ps (e ∷ es) = ap suc (length_told (drop e.sent ps) es)
 
 -- what a world has played is a run of its script, as far as it was played
-pub is_run : {D : Type 0} (seen : D → Option (List ℕ)) (may_leave : D → List ℕ → Type 0) (faults limit : D → ℕ) (IsSoFar : List CellInput → Type 0) (others : ℕ → ℕ) (s : Script) (w : WorldState D) (counts : ℕ → Span ℕ) → length w.history ≤ most_entries → (p : HasPlayed seen may_leave faults limit IsSoFar s w) → ((i : ℕ) → HasDisk s i → RoseBy (own_falls i p.inputs (told w.wire w.history) + others i) (counts i))
+pub is_run : {D : Type 0} (seen : D → Option (List ℕ)) (may_leave : D → List ℕ → Type 0) (faults limit : D → ℕ) (IsSoFar : List CellInput → Type 0) (others : ℕ → ℕ) (s : Script) (w : WorldState D) (counts : ℕ → Span ℕ) → length w.history ≤ most_history_entries → (p : HasPlayed seen may_leave faults limit IsSoFar s w) → ((i : ℕ) → HasDisk s i → RoseBy (own_falls i p.inputs (entries_as_told w.wire w.history) + others i) (counts i))
     → IsRun s IsSoFar others counts p.runs.history p.cell
 is_run {D} seen may_leave faults limit IsSoFar others s w counts few p failures = record {
   inputs = p.inputs;
   leads = p.runs.leads;
   so_far = p.played;
-  few = omega (arith, told_length p.runs.history (told w.wire w.history) p.runs.tells, length_told w.wire w.history, few);
-  failures = λ i has. subst (λ (n : ℕ). RoseBy (n + others i) (counts i)) (told_falls i p.inputs p.runs.history (told w.wire w.history) p.runs.tells) (failures i has);
+  few = omega (arith, told_length p.runs.history (entries_as_told w.wire w.history) p.runs.tells, length_told w.wire w.history, few);
+  failures = λ i has. subst (λ (n : ℕ). RoseBy (n + others i) (counts i)) (told_falls i p.inputs p.runs.history (entries_as_told w.wire w.history) p.runs.tells) (failures i has);
 }
 
 -- its failures are all

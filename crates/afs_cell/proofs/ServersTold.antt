@@ -3,24 +3,24 @@ use Rattle.std.proofs.Common.{refl, ap, sym, subst, ◌∙◌, ◌≡◌, ◌<�
 use Rattle.afs_num.specs.Places.{at_place}
 use Rattle.afs_num.specs.declared.types.Node.TheVariants.{Server}
 use Rattle.afs_num.specs.declared.types.Parcel.{Parcel}
-use Rattle.afs_history.specs.declared.lines.Line.{Line}
-use Rattle.afs_history.specs.declared.lines.Line.TheVariants as lines
-use Rattle.afs_history.specs.declared.lines.Outs.{Outs}
-use Rattle.afs_history.specs.declared.scripts.Event.TheVariants as events
-use Rattle.afs_history.specs.declared.scripts.Script.{Script}
+use Rattle.spec_history.specs.declared.lines.Line.{Line}
+use Rattle.spec_history.specs.declared.lines.Line.TheVariants as lines
+use Rattle.spec_history.specs.declared.lines.Outs.{Outs}
+use Rattle.spec_history.specs.declared.scripts.Event.TheVariants as events
+use Rattle.spec_history.specs.declared.scripts.Script.{Script}
 use Rattle.afs_disk.specs.Disk.{Rose}
-use Rattle.afs_runs.specs.NodeRuns.{has_host, CellInput}
-use Rattle.afs_schedule.specs.Schedules.{IsInput, Turn}
-use Rattle.afs_rows.specs.Hosts.{HostStep}
-use Rattle.afs_volrows.specs.NodeHosts.{NodeHost}
-use Rattle.afs_volrows.specs.VolStates.{NodeState}
+use Rattle.spec_runs.specs.NodeRuns.{has_host, CellInput}
+use Rattle.afs_schedule.specs.Schedules.{IsInput, ScheduleState}
+use Rattle.spec_rows.specs.Hosts.{HostStep}
+use Rattle.spec_volrows.specs.NodeHosts.{NodeHost}
+use Rattle.spec_volrows.specs.VolStates.{NodeState}
 use Rattle.afs_clients.specs.Happening.{front_lines, IsGiven}
 use Rattle.afs_cell.specs.Happening.{Settles}
 use Rattle.afs_cell.specs.SeatSteps.{HasHeard, HasStep, IsFallen, IsSeatStep, IsVoidServer, OneHappened, ServersHappened}
 use Rattle.afs_cell.specs.Steps.{IsAt, Stepped}
 use Rattle.afs_clients.specs.Places.{put_place}
 use Rattle.afs_serverhost.specs.Seated.{seat_disk, IsHost, ServerSeat}
-use Rattle.afs_cell.specs.Worlds.{most_entries, AllTell, IsSafe, WorldState}
+use Rattle.afs_cell.specs.Worlds.{most_history_entries, AllTell, IsSafe, WorldState}
 use Rattle.afs_cell.specs.declared.faults.WorldFault.{WorldFault}
 use Rattle.afs_clients.specs.declared.happening.Happened.{Happened}
 use Rattle.afs_clients.specs.declared.happening.Happened.TheVariants as happened
@@ -34,13 +34,13 @@ use Rattle.afs_cell.proofs.Settled.{loc_ready_more, node_settles, ready_more, se
 abbrev with_servers : {D : Type 0} → WorldState D → List (ServerSeat D) → WorldState D
 with_servers {D} w servers = record w { servers = servers }
 
-module _ {D : Type 0} (seen : D → Option (List ℕ)) (may_leave : D → List ℕ → Type 0) (faults limit : D → ℕ) (s : Script) (is : Turn → CellInput → Type 0) (w : WorldState D) (i : ℕ) (front : Option Line)
+module _ {D : Type 0} (seen : D → Option (List ℕ)) (may_leave : D → List ℕ → Type 0) (faults limit : D → ℕ) (s : Script) (is : ScheduleState → CellInput → Type 0) (w : WorldState D) (i : ℕ) (front : Option Line)
     (IsVoid : NodeHost → Type 0) (Has : NodeHost → (HostStep NodeState → Type 0) → Type 0 → Type 0) where
   abbrev Voids : Type 0
-  Voids = AllTell seen w → (t : Turn) → IsAt seen may_leave limit w t.cell t.left → (has_host t.cell i ≡ false) ⊎ IsVoid (t.cell.hosts i) → Voided (is t) t
+  Voids = AllTell seen w → (t : ScheduleState) → IsAt seen may_leave limit w t.cell t.left → (has_host t.cell i ≡ false) ⊎ IsVoid (t.cell.hosts i) → Voided (is t) t
 
   abbrev Links : Type 0
-  Links = AllTell seen w → (t : Turn) → IsAt seen may_leave limit w t.cell t.left → (was now : ServerSeat D) (outs : Outs) → at_place w.servers i ≡ Some was
+  Links = AllTell seen w → (t : ScheduleState) → IsAt seen may_leave limit w t.cell t.left → (was now : ServerSeat D) (outs : Outs) → at_place w.servers i ≡ Some was
       → Has (t.cell.hosts i) (IsSeatStep seen may_leave limit (Server i) now (front_lines front) outs) (Rose (faults (seat_disk was)) (faults (seat_disk now))) → ServerLinked seen may_leave faults limit (is t) t i was now (front_lines front) outs
 
   abbrev One : List (ServerSeat D) → Happened → Type 0
@@ -100,7 +100,7 @@ module _ {D : Type 0} (seen : D → Option (List ℕ)) (may_leave : D → List �
   none_leaves : Voids → (at_place w.servers i ≡ None) → Leaves seen may_leave faults limit s is w w.database w.servers (Server i) (front_lines front) happened.Nothing
   none_leaves voids none = (refl, λ tell t at. voids tell t at (inl (no_host w.servers i t.cell none at.cell.host_count)))
 
-  server_settles : (servers : List (ServerSeat D)) (what : Happened) (new : WorldState D) (result : Result (Unit {0}) WorldFault) → IsSafe limit s w → w.is_lost ≡ false → length w.history < most_entries
+  server_settles : (servers : List (ServerSeat D)) (what : Happened) (new : WorldState D) (result : Result (Unit {0}) WorldFault) → IsSafe limit s w → w.is_lost ≡ false → length w.history < most_history_entries
       → ServersHappened seen may_leave faults limit i (front_lines front) IsVoid Has w.servers servers what → Voids → Links → Settles (Server i) front what (with_servers w servers) new result → Stepped seen may_leave faults limit s is w new result
   server_settles servers what new result safe going place (inl none) voids links settles =
       node_settles seen may_leave faults limit s is w safe going place new w.database w.servers (Server i) front happened.Nothing result (none_leaves voids none.none)
@@ -112,11 +112,11 @@ module _ {D : Type 0} (seen : D → Option (List ℕ)) (may_leave : D → List �
 
 module _ {D : Type 0} (seen : D → Option (List ℕ)) (may_leave : D → List ℕ → Type 0) (faults limit : D → ℕ) (s : Script) (w : WorldState D) (i : ℕ) where
   -- a server was given something
-  pub input_settles : (input : ServerInput) (servers : List (ServerSeat D)) (what : Happened) (new : WorldState D) (result : Result (Unit {0}) WorldFault) → IsSafe limit s w → w.is_lost ≡ false → length w.history < most_entries
+  pub input_settles : (input : ServerInput) (servers : List (ServerSeat D)) (what : Happened) (new : WorldState D) (result : Result (Unit {0}) WorldFault) → IsSafe limit s w → w.is_lost ≡ false → length w.history < most_history_entries
       → ServersHappened seen may_leave faults limit i [] (IsVoidServer input) (HasStep (Server i) w.clock s.clients input) w.servers servers what → Settles (Server i) None what (with_servers w servers) new result
-      → Stepped seen may_leave faults limit s (λ (t : Turn). IsGiven i input t) w new result
+      → Stepped seen may_leave faults limit s (λ (t : ScheduleState). IsGiven i input t) w new result
   input_settles input servers what new result safe going place happens settles =
-      server_settles seen may_leave faults limit s (λ (t : Turn). IsGiven i input t) w i None (IsVoidServer input) (HasStep (Server i) w.clock s.clients input) servers what new result safe going place happens
+      server_settles seen may_leave faults limit s (λ (t : ScheduleState). IsGiven i input t) w i None (IsVoidServer input) (HasStep (Server i) w.clock s.clients input) servers what new result safe going place happens
       (λ tell t at none. link_void t i input none)
       (λ tell t at was now outs found has. link_input seen may_leave faults limit t w i input was now outs at.cell found
       (subst (λ (k : ℕ). HasStep (Server i) t.cell.clock k input (t.cell.hosts i) (IsSeatStep seen may_leave limit (Server i) now [] outs) (Rose (faults (seat_disk was)) (faults (seat_disk now)))) (sym (at.cell.count ∙ safe.client_count))
@@ -124,12 +124,12 @@ module _ {D : Type 0} (seen : D → Option (List ℕ)) (may_leave : D → List �
       settles
 
   -- a server was given the message of a place
-  pub message_settles : (place : ℕ) (p : Parcel) (servers : List (ServerSeat D)) (what : Happened) (new : WorldState D) (result : Result (Unit {0}) WorldFault) → IsSafe limit s w → w.is_lost ≡ false → length w.history < most_entries
+  pub message_settles : (place : ℕ) (p : Parcel) (servers : List (ServerSeat D)) (what : Happened) (new : WorldState D) (result : Result (Unit {0}) WorldFault) → IsSafe limit s w → w.is_lost ≡ false → length w.history < most_history_entries
       → at_place w.wire place ≡ Some p → p.head.to ≡ Server i
       → ServersHappened seen may_leave faults limit i (lines.Given place ∷ []) IsFallen (HasHeard (Server i) w.clock place p.bytes) w.servers servers what → Settles (Server i) (Some (lines.Given place)) what (with_servers w servers) new result
-      → Stepped seen may_leave faults limit s (λ (t : Turn). IsInput t (events.Deliver place)) w new result
+      → Stepped seen may_leave faults limit s (λ (t : ScheduleState). IsInput t (events.Deliver place)) w new result
   message_settles place p servers what new result safe going few found to happens settles =
-      server_settles seen may_leave faults limit s (λ (t : Turn). IsInput t (events.Deliver place)) w i (Some (lines.Given place)) IsFallen (HasHeard (Server i) w.clock place p.bytes) servers what new result safe going few happens
+      server_settles seen may_leave faults limit s (λ (t : ScheduleState). IsInput t (events.Deliver place)) w i (Some (lines.Given place)) IsFallen (HasHeard (Server i) w.clock place p.bytes) servers what new result safe going few happens
       (λ tell t at none.
       let f = message_found seen may_leave faults limit w t.cell place p at.cell found in
       link_void_message t i place f.message f.at (sym (ap (λ h. h.to) f.carries.head) ∙ to) none)

@@ -5,22 +5,22 @@ use Rattle.std.proofs.lemmas.List.{length-append}
 use Rattle.afs_num.specs.Places.{at_place}
 use Rattle.afs_num.specs.declared.types.Node.TheVariants.{Server}
 use Rattle.afs_num.specs.declared.types.Node.{Node}
-use Rattle.afs_history.specs.declared.scripts.Task.{Task}
-use Rattle.afs_history.specs.declared.lines.Entry as kept
-use Rattle.afs_history.specs.declared.lines.Line.{Line}
-use Rattle.afs_history.specs.declared.lines.Outs.{Outs}
-use Rattle.afs_history.specs.declared.scripts.Script.{Script}
-use Rattle.afs_rows.specs.Runs.{Entry}
-use Rattle.afs_runs.specs.NodeRuns.{bare_entry, node_moved, voided, CellInput, NodeCell, NodeMoved}
-use Rattle.afs_schedule.specs.Schedules.{Turn}
-use Rattle.afs_text.specs.Telling.{told, sent_by}
+use Rattle.spec_history.specs.declared.scripts.Task.{Task}
+use Rattle.spec_history.specs.declared.lines.Entry as kept
+use Rattle.spec_history.specs.declared.lines.Line.{Line}
+use Rattle.spec_history.specs.declared.lines.Outs.{Outs}
+use Rattle.spec_history.specs.declared.scripts.Script.{Script}
+use Rattle.spec_rows.specs.Runs.{Entry}
+use Rattle.spec_runs.specs.NodeRuns.{bare_entry, node_moved, voided, CellInput, NodeCell, NodeMoved}
+use Rattle.afs_schedule.specs.Schedules.{ScheduleState}
+use Rattle.afs_text.specs.Telling.{entries_as_told, sent_by}
 use Rattle.afs_host.specs.declared.seats.Seat.TheVariants.{Up, Down}
 use Rattle.afs_clients.specs.Happening.{entry_of, front_lines, void_entry}
 use Rattle.afs_cell.specs.Happening.{Settles}
 use Rattle.afs_cell.specs.SeatSteps.{DiskKeeps}
 use Rattle.afs_clients.specs.Places.{put_place, Each}
 use Rattle.afs_cell.specs.Steps.{IsAt, Plays, Stepped}
-use Rattle.afs_cell.specs.Worlds.{most_entries, AllHold, AllTell, Counts, IsCell, IsReadyAdmin, IsReadyClient, IsSafe, WorldState}
+use Rattle.afs_cell.specs.Worlds.{most_history_entries, AllHold, AllTell, Counts, IsCell, IsReadyAdmin, IsReadyClient, IsSafe, WorldState}
 use Rattle.afs_host.specs.LocSeated.{loc_seat_disk, DatabaseSeat, IsLocReadySeat}
 use Rattle.afs_serverhost.specs.Seated.{seat_disk, IsReadySeat, ServerSeat}
 use Rattle.afs_clients.specs.declared.clients.ClientSeat.{ClientSeat}
@@ -94,7 +94,7 @@ module _ {D : Type 0} (seen : D → Option (List ℕ)) (may_leave : D → List �
   abbrev pub after_nothing : WorldState D → WorldState D
   after_nothing w = record w { history = w.history ++ void_entry ∷ [] }
 
-  safe_nothing : (s : Script) (w : WorldState D) → IsSafe limit s w → length w.history < most_entries → IsSafe limit s (after_nothing w)
+  safe_nothing : (s : Script) (w : WorldState D) → IsSafe limit s w → length w.history < most_history_entries → IsSafe limit s (after_nothing w)
   safe_nothing s w safe place = record {
     script = safe.script;
     cell_script = safe.cell_script;
@@ -118,13 +118,13 @@ module _ {D : Type 0} (seen : D → Option (List ℕ)) (may_leave : D → List �
   abbrev void_step : NodeCell → Entry
   void_step c = (voided c).entry
 
-  void_plays : (is : CellInput → Type 0) (t : Turn) (w : WorldState D) → sent_by w.history ≡ length w.wire → IsAt seen may_leave limit w t.cell t.left → Voided is t → Plays seen may_leave faults limit is t w (after_nothing w)
+  void_plays : (is : CellInput → Type 0) (t : ScheduleState) (w : WorldState D) → sent_by w.history ≡ length w.wire → IsAt seen may_leave limit w t.cell t.left → Voided is t → Plays seen may_leave faults limit is t w (after_nothing w)
   void_plays is t w all at v = record {
     input = v.input;
     is_one = v.is_one;
     history =
         told-still w.wire w.history void_entry all refl
-        ∙ ap (λ (m : NodeMoved). told w.wire w.history ++ bare_entry m.entry ∷ []) (sym v.moves);
+        ∙ ap (λ (m : NodeMoved). entries_as_told w.wire w.history ++ bare_entry m.entry ∷ []) (sym v.moves);
     at =
         subst (λ (left : Node → List Task). IsAt seen may_leave limit (after_nothing w) (node_moved t.cell v.input).cell left) (sym v.left)
         (subst (λ (m : NodeMoved). IsAt seen may_leave limit (after_nothing w) m.cell t.left) (sym v.moves)
@@ -136,8 +136,8 @@ module _ {D : Type 0} (seen : D → Option (List ℕ)) (may_leave : D → List �
     counts = counts_still faults v.input (node_moved t.cell v.input).entry w v.harmless;
   }
 
-  pub nothing_happens : (s : Script) (is : Turn → CellInput → Type 0) (w : WorldState D) → IsSafe limit s w → w.is_lost ≡ false → length w.history < most_entries
-      → (AllTell seen w → (t : Turn) → IsAt seen may_leave limit w t.cell t.left → Voided (is t) t) → Stepped seen may_leave faults limit s is w (after_nothing w) (Ok tt)
+  pub nothing_happens : (s : Script) (is : ScheduleState → CellInput → Type 0) (w : WorldState D) → IsSafe limit s w → w.is_lost ≡ false → length w.history < most_history_entries
+      → (AllTell seen w → (t : ScheduleState) → IsAt seen may_leave limit w t.cell t.left → Voided (is t) t) → Stepped seen may_leave faults limit s is w (after_nothing w) (Ok tt)
   nothing_happens s is w safe going place void = record {
     steps = record {
       count = one_longer w.history void_entry;
@@ -150,7 +150,7 @@ module _ {D : Type 0} (seen : D → Option (List ℕ)) (may_leave : D → List �
   }
 
   -- memory was wanting, and nothing changed
-  pub nothing_changes : (s : Script) (is : Turn → CellInput → Type 0) (w : WorldState D) → IsSafe limit s w → Stepped seen may_leave faults limit s is w w (Err faulty.OutOfMemory)
+  pub nothing_changes : (s : Script) (is : ScheduleState → CellInput → Type 0) (w : WorldState D) → IsSafe limit s w → Stepped seen may_leave faults limit s is w w (Err faulty.OutOfMemory)
   nothing_changes s is w safe = record {
     steps = (record { script = refl; history = refl; wire = refl; clock = refl }, inr (record { lost_as = refl; clients = refl; admins = refl; at = λ c left at. at }));
     safe = safe;
@@ -202,7 +202,7 @@ module _ {D : Type 0} (seen : D → Option (List ℕ)) (may_leave : D → List �
 
   -- ---- what is told of it
 
-  safe_step : (s : Script) (w : WorldState D) (d : DatabaseSeat D) (ss : List (ServerSeat D)) (node : Node) (front : List Line) (outs : Outs) → IsSafe limit s w → w.is_lost ≡ false → length w.history < most_entries → HostsKeep s w d ss → HostsReady (length w.history + 1) d ss
+  safe_step : (s : Script) (w : WorldState D) (d : DatabaseSeat D) (ss : List (ServerSeat D)) (node : Node) (front : List Line) (outs : Outs) → IsSafe limit s w → w.is_lost ≡ false → length w.history < most_history_entries → HostsKeep s w d ss → HostsReady (length w.history + 1) d ss
       → IsSafe limit s (after_step w d ss node front outs)
   safe_step s w d ss node front outs safe going place keep ready = record {
     script = safe.script;
@@ -225,8 +225,8 @@ module _ {D : Type 0} (seen : D → Option (List ℕ)) (may_leave : D → List �
     ticks = safe.ticks;
   }
 
-  step_told : (s : Script) (is : Turn → CellInput → Type 0) (w : WorldState D) (d : DatabaseSeat D) (ss : List (ServerSeat D)) (node : Node) (front : List Line) (outs : Outs) → IsSafe limit s w → w.is_lost ≡ false → length w.history < most_entries → HostsKeep s w d ss → HostsReady (length w.history + 1) d ss
-      → (AllTell seen w → (t : Turn) → IsAt seen may_leave limit w t.cell t.left → Plays seen may_leave faults limit (is t) t w (after_step w d ss node front outs)) → Stepped seen may_leave faults limit s is w (after_step w d ss node front outs) (Ok tt)
+  step_told : (s : Script) (is : ScheduleState → CellInput → Type 0) (w : WorldState D) (d : DatabaseSeat D) (ss : List (ServerSeat D)) (node : Node) (front : List Line) (outs : Outs) → IsSafe limit s w → w.is_lost ≡ false → length w.history < most_history_entries → HostsKeep s w d ss → HostsReady (length w.history + 1) d ss
+      → (AllTell seen w → (t : ScheduleState) → IsAt seen may_leave limit w t.cell t.left → Plays seen may_leave faults limit (is t) t w (after_step w d ss node front outs)) → Stepped seen may_leave faults limit s is w (after_step w d ss node front outs) (Ok tt)
   step_told s is w d ss node front outs safe going place keep ready plays = record {
     steps = record { count = one_longer w.history (entry_of node (front ++ outs.lines) (length outs.parcels)); going = going; plays = plays };
     safe = safe_step s w d ss node front outs safe going place keep ready;
@@ -235,7 +235,7 @@ module _ {D : Type 0} (seen : D → Option (List ℕ)) (may_leave : D → List �
   }
 
   -- memory was wanting
-  step_wants : (s : Script) (is : Turn → CellInput → Type 0) (w : WorldState D) (d : DatabaseSeat D) (ss : List (ServerSeat D)) → IsSafe limit s w → w.is_lost ≡ false → HostsKeep s w d ss → HostsReady (length w.history) d ss
+  step_wants : (s : Script) (is : ScheduleState → CellInput → Type 0) (w : WorldState D) (d : DatabaseSeat D) (ss : List (ServerSeat D)) → IsSafe limit s w → w.is_lost ≡ false → HostsKeep s w d ss → HostsReady (length w.history) d ss
       → ((c : NodeCell) → IsCell seen may_leave limit w c → IsCell seen may_leave limit (with_hosts w d ss) c) → Stepped seen may_leave faults limit s is w (with_hosts w d ss) (Err faulty.OutOfMemory)
   step_wants s is w d ss safe going keep ready same = record {
     steps = (
@@ -267,7 +267,7 @@ module _ {D : Type 0} (seen : D → Option (List ℕ)) (may_leave : D → List �
   true_false : true ≡ false → ⊥
   true_false e = absurd cc
 
-  step_loses : (s : Script) (is : Turn → CellInput → Type 0) (w : WorldState D) (d : DatabaseSeat D) (ss : List (ServerSeat D)) → IsSafe limit s w → HostsKeep s w d ss → Stepped seen may_leave faults limit s is w (lost_with w d ss) (Err faulty.OutOfMemory)
+  step_loses : (s : Script) (is : ScheduleState → CellInput → Type 0) (w : WorldState D) (d : DatabaseSeat D) (ss : List (ServerSeat D)) → IsSafe limit s w → HostsKeep s w d ss → Stepped seen may_leave faults limit s is w (lost_with w d ss) (Err faulty.OutOfMemory)
   step_loses s is w d ss safe keep = record {
     steps = (record { script = refl; history = refl; wire = refl; clock = refl }, inl refl);
     safe = record {
@@ -293,14 +293,14 @@ module _ {D : Type 0} (seen : D → Option (List ℕ)) (may_leave : D → List �
 
   -- Nothing came of the input, and the nodes are what they were; or a step was told; or memory was wanting, and they stand for what
   -- they stood for, or the cell is lost.
-  abbrev pub Leaves : Script → (Turn → CellInput → Type 0) → WorldState D → DatabaseSeat D → List (ServerSeat D) → Node → List Line → Happened → Type 0
-  Leaves s is w d ss node front happened.Nothing = (with_hosts w d ss ≡ w) × (AllTell seen w → (t : Turn) → IsAt seen may_leave limit w t.cell t.left → Voided (is t) t)
+  abbrev pub Leaves : Script → (ScheduleState → CellInput → Type 0) → WorldState D → DatabaseSeat D → List (ServerSeat D) → Node → List Line → Happened → Type 0
+  Leaves s is w d ss node front happened.Nothing = (with_hosts w d ss ≡ w) × (AllTell seen w → (t : ScheduleState) → IsAt seen may_leave limit w t.cell t.left → Voided (is t) t)
   Leaves s is w d ss node front (happened.Step outs) =
-      HostsKeep s w d ss × (HostsReady (length w.history + 1) d ss × (AllTell seen w → (t : Turn) → IsAt seen may_leave limit w t.cell t.left → Plays seen may_leave faults limit (is t) t w (after_step w d ss node front outs)))
+      HostsKeep s w d ss × (HostsReady (length w.history + 1) d ss × (AllTell seen w → (t : ScheduleState) → IsAt seen may_leave limit w t.cell t.left → Plays seen may_leave faults limit (is t) t w (after_step w d ss node front outs)))
   Leaves s is w d ss node front happened.Unchanged = HostsKeep s w d ss × (HostsReady (length w.history) d ss × ((c : NodeCell) → IsCell seen may_leave limit w c → IsCell seen may_leave limit (with_hosts w d ss) c))
   Leaves s is w d ss node front happened.Lost = HostsKeep s w d ss
 
-  module _ (s : Script) (is : Turn → CellInput → Type 0) (w : WorldState D) (safe : IsSafe limit s w) (going : w.is_lost ≡ false) (place : length w.history < most_entries) (new : WorldState D) where
+  module _ (s : Script) (is : ScheduleState → CellInput → Type 0) (w : WorldState D) (safe : IsSafe limit s w) (going : w.is_lost ≡ false) (place : length w.history < most_history_entries) (new : WorldState D) where
     -- this is the world, where memory was wanting
     wants_as : (e : WorldFault) (v : WorldState D) → e ≡ faulty.OutOfMemory → new ≡ v → Stepped seen may_leave faults limit s is w v (Err faulty.OutOfMemory) → Stepped seen may_leave faults limit s is w new (Err e)
     wants_as e v fault same stepped =

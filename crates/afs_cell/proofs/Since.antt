@@ -7,16 +7,16 @@ use Rattle.afs_num.specs.declared.histories.Actor.TheVariants as actors
 use Rattle.afs_num.specs.declared.types.Node.{Node}
 use Rattle.afs_num.specs.declared.types.Node.TheVariants.{Admin, Client, Loc, Server}
 use Rattle.afs_num.specs.declared.types.Parcel.{Parcel}
-use Rattle.afs_history.specs.declared.lines.Entry as kept
-use Rattle.afs_history.specs.declared.lines.Line.{Line}
-use Rattle.afs_history.specs.declared.lines.Line.TheVariants as lines
-use Rattle.afs_history.specs.declared.scripts.Event.{Event}
-use Rattle.afs_history.specs.declared.scripts.Event.TheVariants as events
+use Rattle.spec_history.specs.declared.lines.Entry as kept
+use Rattle.spec_history.specs.declared.lines.Line.{Line}
+use Rattle.spec_history.specs.declared.lines.Line.TheVariants as lines
+use Rattle.spec_history.specs.declared.scripts.Event.{Event}
+use Rattle.spec_history.specs.declared.scripts.Event.TheVariants as events
 use Rattle.afs_grammar.specs.CellScripts.{counts_of, FitsEvent}
 use Rattle.afs_wire.specs.Sent as wire
 use Rattle.afs_wire.specs.Sent.{Sent}
-use Rattle.afs_schedule.specs.Schedules.{IsInput, Turn}
-use Rattle.afs_clients.specs.Happening.{ClientHears, ClientsHappened, ClientTakes, IsAsked, IsAskedOfAdmin, IsGiven, IsGivenToLoc, IsVoidClient}
+use Rattle.afs_schedule.specs.Schedules.{IsInput, ScheduleState}
+use Rattle.afs_clients.specs.Happening.{ClientHears, ClientsHappened, ClientTakes, IsBegunOrGiven, IsAskedOfAdmin, IsGiven, IsGivenToLoc, IsVoidClient}
 use Rattle.afs_admins.specs.Happening.{AdminHears, AdminsHappened, AdminTakes, IsVoidAdmin}
 use Rattle.afs_admins.specs.Ready.{AllReadyAdmins}
 use Rattle.afs_cell.specs.Happening.{NothingSettles, Settles}
@@ -29,7 +29,7 @@ use Rattle.afs_clients.specs.Meaning.{IsMeant}
 use Rattle.afs_cell.specs.Since.{whole, DeliversKept, IsBefore, IsSafeSince, Keeps, LetsGo, SteppedSince}
 use Rattle.afs_host.specs.LocSeated.{DatabaseSeat}
 use Rattle.afs_serverhost.specs.Seated.{ServerSeat}
-use Rattle.afs_cell.specs.Worlds.{most_entries, most_ticks, HistoryTold, LetGo, WorldState}
+use Rattle.afs_cell.specs.Worlds.{most_history_entries, most_ticks, HistoryTold, LetGo, WorldState}
 use Rattle.afs_clients.specs.declared.clients.ClientSeat.{ClientSeat}
 use Rattle.afs_admins.specs.declared.admins.AdminSeat.{AdminSeat}
 use Rattle.afs_clients.specs.declared.events.Given.TheVariants as given
@@ -110,16 +110,16 @@ module _ {D : Type 0} (limit : D → ℕ) (parts w : WorldState D) (same : parts
   pub inside_admins_since : (n : ℕ) → (1 ≤ n) × (n ≤ w.script.admins) → at_place parts.admins n ≡ None → ⊥
   inside_admins_since = inside_admins limit (whole safe.before parts) (whole safe.before w) (ap (whole safe.before) same) safe.safe
 
-  pub can_since : w.is_lost ≡ false → w.gone.entries + length w.history < most_entries → AllCanStep limit parts.servers
+  pub can_since : w.is_lost ≡ false → w.gone.entries + length w.history < most_history_entries → AllCanStep limit parts.servers
   can_since going few = can_all limit (whole safe.before parts) (whole safe.before w) (ap (whole safe.before) same) safe.safe going (few_whole safe.before w safe.is few)
 
-  pub can_manage_since : w.is_lost ≡ false → w.gone.entries + length w.history < most_entries → CanTakeAtLoc limit parts.database
+  pub can_manage_since : w.is_lost ≡ false → w.gone.entries + length w.history < most_history_entries → CanTakeAtLoc limit parts.database
   can_manage_since going few = can_manage limit (whole safe.before parts) (whole safe.before w) (ap (whole safe.before) same) safe.safe going (few_whole safe.before w safe.is few)
 
-  pub ready_since : w.is_lost ≡ false → w.gone.entries + length w.history < most_entries → AllReady parts.script parts.clients
+  pub ready_since : w.is_lost ≡ false → w.gone.entries + length w.history < most_history_entries → AllReady parts.script parts.clients
   ready_since going few = ready_all limit (whole safe.before parts) (whole safe.before w) (ap (whole safe.before) same) safe.safe going (few_whole safe.before w safe.is few)
 
-  pub admins_ready_since : w.is_lost ≡ false → w.gone.entries + length w.history < most_entries → AllReadyAdmins parts.script parts.admins
+  pub admins_ready_since : w.is_lost ≡ false → w.gone.entries + length w.history < most_history_entries → AllReadyAdmins parts.script parts.admins
   admins_ready_since going few = ready_admins limit (whole safe.before parts) (whole safe.before w) (ap (whole safe.before) same) safe.safe going (few_whole safe.before w safe.is few)
 
 -- the message at a place of the whole world is the one that is kept
@@ -129,25 +129,25 @@ found_whole {D} b parts w same place o before kept found =
     let kept_here : length b.wire < place = subst (λ (n : ℕ). n < place) (sym before.messages) kept in
     at_behind b.wire parts.wire place kept_here ∙ (ap (λ (n : ℕ). at_place parts.wire (place - n)) gone ∙ sym found)
 
-module _ {D : Type 0} (seen : D → Option (List ℕ)) (may_leave : D → List ℕ → Type 0) (faults limit : D → ℕ) (parts w : WorldState D) (same : parts ≡ w) (going : w.is_lost ≡ false) (few : w.gone.entries + length w.history < most_entries)
+module _ {D : Type 0} (seen : D → Option (List ℕ)) (may_leave : D → List ℕ → Type 0) (faults limit : D → ℕ) (parts w : WorldState D) (same : parts ≡ w) (going : w.is_lost ≡ false) (few : w.gone.entries + length w.history < most_history_entries)
     (new : WorldState D) (result : Result (Unit {0}) WorldFault) where
   pub served_since : (i : ℕ) (input : ServerInput) (servers : List (ServerSeat D)) (what : Happened)
       → ServersHappened seen may_leave faults limit i [] (IsVoidServer input) (HasStep (Server i) parts.clock parts.script.clients input) parts.servers servers what → Settles (Server i) None what (record parts { servers = servers }) new result
-      → SteppedSince seen may_leave faults limit (λ (t : Turn). IsGiven i input t) w new result
+      → SteppedSince seen may_leave faults limit (λ (t : ScheduleState). IsGiven i input t) w new result
   served_since i input servers what happened settled b before safe =
       served seen may_leave faults limit (whole b parts) (whole b w) (ap (whole b) same) safe going (few_whole b w before few) (whole b new) result i input servers what happened
       (settles_whole b (Server i) None what (record parts { servers = servers }) new result settled)
 
   pub managed_since : (input : DatabaseInput) (database : DatabaseSeat D) (what : Happened)
       → ((clock count : ℕ) → LocTakes seen may_leave faults limit [] (IsVoidAtLoc input) (HasLocStep clock count input) parts.database database what) → Settles Loc None what (record parts { database = database }) new result
-      → SteppedSince seen may_leave faults limit (λ (t : Turn). IsGivenToLoc input t) w new result
+      → SteppedSince seen may_leave faults limit (λ (t : ScheduleState). IsGivenToLoc input t) w new result
   managed_since input database what takes settled b before safe =
       managed seen may_leave faults limit (whole b parts) (whole b w) (ap (whole b) same) safe going (few_whole b w before few) (whole b new) result input database what takes
       (settles_whole b Loc None what (record parts { database = database }) new result settled)
 
   pub asked_since : (n : ℕ) (input : ClientInput) (clients : List ClientSeat) (what : Happened) → (at_place parts.clients n ≡ None → ⊥)
       → ClientsHappened parts.script n (IsVoidClient input) (ClientTakes parts.script n parts.clock input) parts.clients clients what → Settles (Client n) None what (record parts { clients = clients }) new result
-      → SteppedSince seen may_leave faults limit (IsAsked input n) w new result
+      → SteppedSince seen may_leave faults limit (IsBegunOrGiven input n) w new result
   asked_since n input clients what inside happened settled b before safe =
       asked seen may_leave faults limit (whole b parts) (whole b w) (ap (whole b) same) safe going (few_whole b w before few) (whole b new) result n input clients what inside happened
       (settles_whole b (Client n) None what (record parts { clients = clients }) new result settled)
@@ -162,7 +162,7 @@ module _ {D : Type 0} (seen : D → Option (List ℕ)) (may_leave : D → List �
   pub message_served_since : (place : ℕ) (p : Parcel) (i : ℕ) (bytes : List ℕ) (servers : List (ServerSeat D)) (what : Happened) → w.gone.messages < place → Some p ≡ at_place parts.wire (place - parts.gone.messages) → p.head.to ≡ Server i → bytes ≡ p.bytes
       → ServersHappened seen may_leave faults limit i (lines.Given place ∷ []) IsFallen (HasHeard (Server i) parts.clock place bytes) parts.servers servers what
       → Settles (Server i) (Some (lines.Given place)) what (record parts { servers = servers }) new result
-      → SteppedSince seen may_leave faults limit (λ (t : Turn). IsInput t (events.Deliver place)) w new result
+      → SteppedSince seen may_leave faults limit (λ (t : ScheduleState). IsInput t (events.Deliver place)) w new result
   message_served_since place p i bytes servers what kept found to spelled happened settled b before safe =
       message_served seen may_leave faults limit (whole b parts) (whole b w) (ap (whole b) same) safe going (few_whole b w before few) (whole b new) result place p i bytes servers what
       (found_whole b parts w same place (Some p) before kept found) to spelled happened (settles_whole b (Server i) (Some (lines.Given place)) what (record parts { servers = servers }) new result settled)
@@ -170,7 +170,7 @@ module _ {D : Type 0} (seen : D → Option (List ℕ)) (may_leave : D → List �
   pub message_managed_since : (place : ℕ) (p : Parcel) (bytes : List ℕ) (database : DatabaseSeat D) (what : Happened) → w.gone.messages < place → Some p ≡ at_place parts.wire (place - parts.gone.messages) → p.head.to ≡ Loc → bytes ≡ p.bytes
       → ((clock : ℕ) → LocTakes seen may_leave faults limit (lines.Given place ∷ []) IsLocFallen (HasLocHeard clock place bytes) parts.database database what)
       → Settles Loc (Some (lines.Given place)) what (record parts { database = database }) new result
-      → SteppedSince seen may_leave faults limit (λ (t : Turn). IsInput t (events.Deliver place)) w new result
+      → SteppedSince seen may_leave faults limit (λ (t : ScheduleState). IsInput t (events.Deliver place)) w new result
   message_managed_since place p bytes database what kept found to spelled takes settled b before safe =
       message_managed seen may_leave faults limit (whole b parts) (whole b w) (ap (whole b) same) safe going (few_whole b w before few) (whole b new) result place p bytes database what
       (found_whole b parts w same place (Some p) before kept found) to spelled takes (settles_whole b Loc (Some (lines.Given place)) what (record parts { database = database }) new result settled)
@@ -178,19 +178,19 @@ module _ {D : Type 0} (seen : D → Option (List ℕ)) (may_leave : D → List �
   pub message_heard_since : (place : ℕ) (p : Parcel) (n : ℕ) (bytes : List ℕ) (clients : List ClientSeat) (what : Happened) → w.gone.messages < place → Some p ≡ at_place parts.wire (place - parts.gone.messages) → p.head.to ≡ Client n → bytes ≡ p.bytes
       → ClientsHappened parts.script n (λ (seat : ClientSeat). seat.is_away ≡ true) (ClientHears n parts.clock place bytes) parts.clients clients what
       → Settles (Client n) (Some (lines.Given place)) what (record parts { clients = clients }) new result
-      → SteppedSince seen may_leave faults limit (λ (t : Turn). IsInput t (events.Deliver place)) w new result
+      → SteppedSince seen may_leave faults limit (λ (t : ScheduleState). IsInput t (events.Deliver place)) w new result
   message_heard_since place p n bytes clients what kept found to spelled happened settled b before safe =
       message_heard seen may_leave faults limit (whole b parts) (whole b w) (ap (whole b) same) safe going (few_whole b w before few) (whole b new) result place p n bytes clients what
       (found_whole b parts w same place (Some p) before kept found) to spelled happened (settles_whole b (Client n) (Some (lines.Given place)) what (record parts { clients = clients }) new result settled)
 
-  pub nobody_since : (place : ℕ) → w.gone.messages < place → None ≡ at_place parts.wire (place - parts.gone.messages) → NothingSettles w new result → SteppedSince seen may_leave faults limit (λ (t : Turn). IsInput t (events.Deliver place)) w new result
+  pub nobody_since : (place : ℕ) → w.gone.messages < place → None ≡ at_place parts.wire (place - parts.gone.messages) → NothingSettles w new result → SteppedSince seen may_leave faults limit (λ (t : ScheduleState). IsInput t (events.Deliver place)) w new result
   nobody_since place kept none settled b before safe =
       nobody_heard seen may_leave faults limit (whole b parts) (whole b w) (ap (whole b) same) safe going (few_whole b w before few) (whole b new) result place (found_whole b parts w same place None before kept none) (nothing_whole b w new result settled)
 
   pub admin_heard_since : (place : ℕ) (p : Parcel) (n : ℕ) (bytes : List ℕ) (admins : List AdminSeat) (what : Happened) → w.gone.messages < place → Some p ≡ at_place parts.wire (place - parts.gone.messages) → p.head.to ≡ Admin n → bytes ≡ p.bytes
       → AdminsHappened parts.script n (λ (seat : AdminSeat). seat.is_away ≡ true) (AdminHears n place bytes) parts.admins admins what
       → Settles (Admin n) (Some (lines.Given place)) what (record parts { admins = admins }) new result
-      → SteppedSince seen may_leave faults limit (λ (t : Turn). IsInput t (events.Deliver place)) w new result
+      → SteppedSince seen may_leave faults limit (λ (t : ScheduleState). IsInput t (events.Deliver place)) w new result
   admin_heard_since place p n bytes admins what kept found to spelled happened settled b before safe =
       admin_heard seen may_leave faults limit (whole b parts) (whole b w) (ap (whole b) same) safe going (few_whole b w before few) (whole b new) result place p n bytes admins what
       (found_whole b parts w same place (Some p) before kept found) to spelled happened (settles_whole b (Admin n) (Some (lines.Given place)) what (record parts { admins = admins }) new result settled)
@@ -198,18 +198,18 @@ module _ {D : Type 0} (seen : D → Option (List ℕ)) (may_leave : D → List �
 -- ---- the clock rises
 
 module _ {D : Type 0} (seen : D → Option (List ℕ)) (may_leave : D → List ℕ → Type 0) (faults limit : D → ℕ) (n : ℕ) (w : WorldState D) where
-  pub ticked_since : (noted : WorldState D) → Notes actors.Clock (lines.Tick n) w noted (Ok tt) → (new : WorldState D) → new ≡ record noted { clock = noted.clock + n } → 1 ≤ n → w.is_lost ≡ false → w.gone.entries + length w.history < most_entries → w.clock + n ≤ most_ticks
-      → SteppedSince seen may_leave faults limit (λ (t : Turn). IsInput t (events.Tick n)) w new (Ok tt)
+  pub ticked_since : (noted : WorldState D) → Notes actors.Clock (lines.Tick n) w noted (Ok tt) → (new : WorldState D) → new ≡ record noted { clock = noted.clock + n } → 1 ≤ n → w.is_lost ≡ false → w.gone.entries + length w.history < most_history_entries → w.clock + n ≤ most_ticks
+      → SteppedSince seen may_leave faults limit (λ (t : ScheduleState). IsInput t (events.Tick n)) w new (Ok tt)
   ticked_since noted notes new is some going few within b before safe =
       ticked seen may_leave faults limit n (whole b w) safe (whole b noted) (notes_whole b actors.Clock (lines.Tick n) w noted (Ok tt) notes) (whole b new) (ap (whole b) is) some going (few_whole b w before few) within
 
-  pub not_ticked_since : (new : WorldState D) (e : WorldFault) → Notes actors.Clock (lines.Tick n) w new (Err e) → SteppedSince seen may_leave faults limit (λ (t : Turn). IsInput t (events.Tick n)) w new (Err e)
+  pub not_ticked_since : (new : WorldState D) (e : WorldFault) → Notes actors.Clock (lines.Tick n) w new (Err e) → SteppedSince seen may_leave faults limit (λ (t : ScheduleState). IsInput t (events.Tick n)) w new (Err e)
   not_ticked_since new e notes b before safe = not_ticked seen may_leave faults limit n (whole b w) safe (whole b new) e (notes_whole b actors.Clock (lines.Tick n) w new (Err e) notes)
 
 -- ---- one event
 
-pub as_nothing_since : {D : Type 0} (seen : D → Option (List ℕ)) (may_leave : D → List ℕ → Type 0) (faults limit : D → ℕ) (w new : WorldState D) (result : Result (Unit {0}) WorldFault) (event : Event) → w.is_lost ≡ false → w.gone.entries + length w.history < most_entries → IsMeant event given.Nothing → NothingSettles w new result
-    → SteppedSince seen may_leave faults limit (λ (t : Turn). IsInput t event) w new result
+pub as_nothing_since : {D : Type 0} (seen : D → Option (List ℕ)) (may_leave : D → List ℕ → Type 0) (faults limit : D → ℕ) (w new : WorldState D) (result : Result (Unit {0}) WorldFault) (event : Event) → w.is_lost ≡ false → w.gone.entries + length w.history < most_history_entries → IsMeant event given.Nothing → NothingSettles w new result
+    → SteppedSince seen may_leave faults limit (λ (t : ScheduleState). IsInput t event) w new result
 as_nothing_since {D} seen may_leave faults limit w new result event going few meant settled b before safe =
     as_nothing seen may_leave faults limit (whole b w) (whole b new) result event safe going (few_whole b w before few) meant (nothing_whole b w new result settled)
 

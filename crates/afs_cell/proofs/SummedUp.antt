@@ -2,14 +2,14 @@
 use Rattle.std.specs.Prelude.{◌≡◌, ◌≤◌, ◌<◌, ◌⊎◌, ℕ, ◌+◌, List, ◌++◌, length, map, false, Option, Some, None, Result, Ok, Err, OnOk, OnErr}
 use Rattle.std.proofs.Common.{refl, ap, sym, subst, ◌∙◌, inl, inr, arith}
 use Rattle.afs_num.specs.declared.devices.Failed as bank
-use Rattle.afs_history.specs.declared.scripts.Script.{Script}
+use Rattle.spec_history.specs.declared.scripts.Script.{Script}
 use Rattle.afs_disk.specs.Disk.{Rose}
 use Rattle.afs_disk.specs.declared.bank.Lend.{Lend}
 use Rattle.afs_disk.specs.declared.disks.Lent.{Lent}
 use Rattle.afs_outside.specs.Outside.{AppendsFront, Puts}
 use Rattle.afs_outside.specs.declared.outside.Failed.{Failed}
-use Rattle.afs_runs.specs.NodeRuns.{bare_entry, CellInput, NodeCell}
-use Rattle.afs_text.specs.Telling.{told}
+use Rattle.spec_runs.specs.NodeRuns.{bare_entry, CellInput, NodeCell}
+use Rattle.afs_text.specs.Telling.{entries_as_told}
 use Rattle.afs_command.specs.Spans.{span, IsUnchanged, RoseBy, Span}
 use Rattle.afs_command.specs.declared.statuses.Status.{Status}
 use Rattle.afs_command.specs.declared.statuses.Status.TheVariants as statuses
@@ -87,7 +87,7 @@ summary_is : {D : Type 0} (seen : D → Option (List ℕ)) (may_leave : D → Li
     → kept_summary number s w.history ≡ summary number s runs.history
 summary_is {D} seen may_leave faults limit number s w inputs end is runs =
     ap (λ (c : Counts). summary_text (record { number = number; acts = length s.tasks; counts = c }))
-    (sym (told_counts w.wire w.history runs.read is.safe.sent) ∙ bare_counts bare_entry (λ e. refl) runs.history (told w.wire w.history) runs.tells)
+    (sym (told_counts w.wire w.history runs.read is.safe.sent) ∙ bare_counts bare_entry (λ e. refl) runs.history (entries_as_told w.wire w.history) runs.tells)
 
 -- ---- the ends
 

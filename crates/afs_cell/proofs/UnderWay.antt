@@ -2,20 +2,20 @@
 use Rattle.std.proofs.Common.{refl, arith, ap, ap₂, sym, subst, ◌∙◌, ◌≡◌, ◌≤◌, ◌+◌, ◌⊎◌, inl, inr, ℕ, List, [], ◌∷◌, ◌++◌, length, Option, Some, None}
 use Rattle.std.specs.List.{All}
 use Rattle.afs_num.specs.declared.types.Parcel.{Parcel}
-use Rattle.afs_history.specs.declared.lines.Entry as kept
-use Rattle.afs_history.specs.declared.scripts.Event.{Event}
-use Rattle.afs_history.specs.declared.scripts.Script.{Script}
-use Rattle.afs_history.specs.declared.scripts.Event.TheVariants as events
+use Rattle.spec_history.specs.declared.lines.Entry as kept
+use Rattle.spec_history.specs.declared.scripts.Event.{Event}
+use Rattle.spec_history.specs.declared.scripts.Script.{Script}
+use Rattle.spec_history.specs.declared.scripts.Event.TheVariants as events
 use Rattle.afs_grammar.specs.CellScripts.{counts_of, FitsEvent}
 use Rattle.afs_grammar.specs.Lines.{schedule_so_far, ticks_in, ticks_of}
-use Rattle.afs_runs.specs.NodeRuns.{node_start, CellInput}
-use Rattle.afs_schedule.specs.Schedules.{events_in, events_of, first_turn, lowest, named_by, next_event, turned, waiting, AreFirst, AreInputs, IsInput, Turn}
+use Rattle.spec_runs.specs.NodeRuns.{node_start, CellInput}
+use Rattle.afs_schedule.specs.Schedules.{events_in, events_of, first_turn, lowest, named_by, next_event, schedule_behind, waiting, AreFirst, AreInputs, IsInput, ScheduleState}
 use Rattle.afs_schedule.specs.Taking.{IsLeft, Takes}
 use Rattle.afs_schedule.specs.declared.schedule.Schedule.{Schedule}
-use Rattle.afs_text.specs.Telling.{told, AreRead}
+use Rattle.afs_text.specs.Telling.{entries_as_told, AreRead}
 use Rattle.afs_cell.specs.Steps.{IsFirst, PlaysOne, Stays, TellsNothing}
 use Rattle.afs_cell.specs.UnderWay.{GoesSo, HasCome, IsUnderWay, SoFar}
-use Rattle.afs_cell.specs.Worlds.{most_entries, most_ticks, AllTell, Counts, IsWorld, Runs, WorldState}
+use Rattle.afs_cell.specs.Worlds.{most_history_entries, most_ticks, AllTell, Counts, IsWorld, Runs, WorldState}
 use Rattle.afs_cell.specs.declared.faults.WorldFault.{WorldFault}
 use Rattle.afs_cell.specs.declared.faults.WorldFault.TheVariants as faulty
 use Rattle.afs_cell.specs.declared.playing.Played.TheVariants as played
@@ -37,7 +37,7 @@ takes_some n m old new o event same is takes = subst (λ (q : Option Event). Tak
 pub takes_none : (n m : ℕ) (old new : Schedule) (o : Option Event) → n ≡ m → o ≡ None → Takes n old new o → Takes m old new None
 takes_none n m old new o same is takes = subst (λ (q : Option Event). Takes m old new q) is (subst (λ (k : ℕ). Takes k old new o) same takes)
 
-pub stays_full : {D : Type 0} (seen : D → Option (List ℕ)) (may_leave : D → List ℕ → Type 0) (limit : D → ℕ) (old new : WorldState D) (fault : WorldFault) → fault ≡ faulty.Limit → Stays seen may_leave limit old new fault → (length old.history ≡ most_entries) × (new ≡ old)
+pub stays_full : {D : Type 0} (seen : D → Option (List ℕ)) (may_leave : D → List ℕ → Type 0) (limit : D → ℕ) (old new : WorldState D) (fault : WorldFault) → fault ≡ faulty.Limit → Stays seen may_leave limit old new fault → (length old.history ≡ most_history_entries) × (new ≡ old)
 stays_full {D} seen may_leave limit old new fault is stays = subst (λ (f : WorldFault). Stays seen may_leave limit old new f) is stays
 
 module _ {D : Type 0} (seen : D → Option (List ℕ)) (may_leave : D → List ℕ → Type 0) (faults limit : D → ℕ) (s : Script) where
@@ -47,7 +47,7 @@ module _ {D : Type 0} (seen : D → Option (List ℕ)) (may_leave : D → List �
   runs_none w first tell = record {
     history = [];
     leads = refl;
-    tells = sym (ap₂ (λ (ps : List Parcel) (es : List kept.Entry). told ps es) first.wire first.history);
+    tells = sym (ap₂ (λ (ps : List Parcel) (es : List kept.Entry). entries_as_told ps es) first.wire first.history);
     read = subst (λ (ps : List Parcel). AreRead ps) (sym first.wire) refl;
     cell_is = λ going. first.cell tell;
     counts = (inl (omega arith), λ n seat found. inl (omega arith));
@@ -107,12 +107,12 @@ module _ {D : Type 0} (seen : D → Option (List ℕ)) (may_leave : D → List �
 
   -- one more was played
   comes : (w new : WorldState D) (event : Event) (es behind : List Event) (named : List ℕ) → next_event (lowest (length w.wire) 1 named) es ≡ Some (event, behind) → AllTell seen w
-      → PlaysOne seen may_leave faults limit (λ (t : Turn). IsInput t event) w new → HasCome seen may_leave faults limit s w es named → HasCome seen may_leave faults limit s new behind (named_by event named)
+      → PlaysOne seen may_leave faults limit (λ (t : ScheduleState). IsInput t event) w new → HasCome seen may_leave faults limit s w es named → HasCome seen may_leave faults limit s new behind (named_by event named)
   comes w new event es behind named next tell one come =
       let p = one.plays tell come.turn come.at in
       record {
         inputs = come.inputs ++ p.input ∷ [];
-        turn = turned come.turn event p.input;
+        turn = schedule_behind come.turn event p.input;
         runs = runs_on seen may_leave faults limit s (IsInput come.turn event) come.turn w new come.inputs come.runs p;
         at = p.at;
         named_so = ap (named_by event) come.named_so;
@@ -120,7 +120,7 @@ module _ {D : Type 0} (seen : D → Option (List ℕ)) (may_leave : D → List �
       }
 
   pub goes_on : (w new : WorldState D) (old left : Schedule) (event : Event) → IsUnderWay seen may_leave faults limit s w old → Takes (length w.wire) old left (Some event) → IsWorld seen may_leave faults limit s new
-      → PlaysOne seen may_leave faults limit (λ (t : Turn). IsInput t event) w new → (AllTell seen new → AllTell seen w) → new.clock ≤ w.clock + ticks_of event → IsUnderWay seen may_leave faults limit s new left
+      → PlaysOne seen may_leave faults limit (λ (t : ScheduleState). IsInput t event) w new → (AllTell seen new → AllTell seen w) → new.clock ≤ w.clock + ticks_of event → IsUnderWay seen may_leave faults limit s new left
   goes_on w new old left event way takes world one tells clock =
       let taken = takes_one w old left event way takes in
       let next = next_of w old left event way taken in
@@ -156,7 +156,7 @@ module _ {D : Type 0} (seen : D → Option (List ℕ)) (may_leave : D → List �
   )
 
   -- an event is left, and the history is as long as one may be
-  pub ends_first : (w : WorldState D) (old new : Schedule) (event : Event) → IsUnderWay seen may_leave faults limit s w old → Takes (length w.wire) old new (Some event) → length w.history ≡ most_entries → GoesSo seen may_leave faults limit s w w new played.Limit
+  pub ends_first : (w : WorldState D) (old new : Schedule) (event : Event) → IsUnderWay seen may_leave faults limit s w old → Takes (length w.wire) old new (Some event) → length w.history ≡ most_history_entries → GoesSo seen may_leave faults limit s w w new played.Limit
   ends_first w old new event way takes full = (
     (way.world, told_nothing w),
     (
@@ -178,11 +178,11 @@ module _ {D : Type 0} (seen : D → Option (List ℕ)) (may_leave : D → List �
     ),
   )
 
-  pub ends_full : (w new : WorldState D) (old left : Schedule) (event : Event) → IsUnderWay seen may_leave faults limit s w old → Takes (length w.wire) old left (Some event) → (length w.history ≡ most_entries) × (new ≡ w) → GoesSo seen may_leave faults limit s w new left played.Limit
+  pub ends_full : (w new : WorldState D) (old left : Schedule) (event : Event) → IsUnderWay seen may_leave faults limit s w old → Takes (length w.wire) old left (Some event) → (length w.history ≡ most_history_entries) × (new ≡ w) → GoesSo seen may_leave faults limit s w new left played.Limit
   ends_full w new old left event way takes full = subst (λ (x : WorldState D). GoesSo seen may_leave faults limit s w x left played.Limit) (sym full.1) (ends_first w old left event way takes full.0)
 
   -- memory was wanting
-  some_played : (xs : List CellInput) (t : Turn) (es : List Event) (o : Option (Event × List Event)) → next_event (waiting t) es ≡ o → SoFar s xs t es → AreInputs (first_turn s) (events_of s) xs ⊎ AreFirst (first_turn s) (events_of s) xs
+  some_played : (xs : List CellInput) (t : ScheduleState) (es : List Event) (o : Option (Event × List Event)) → next_event (waiting t) es ≡ o → SoFar s xs t es → AreInputs (first_turn s) (events_of s) xs ⊎ AreFirst (first_turn s) (events_of s) xs
   some_played xs t es None e far = inl (all_played s xs t es far e)
   some_played xs t es (Some x) e far = inr (first_played s xs t es far (none_or (next_event (waiting t) es) x e))
 

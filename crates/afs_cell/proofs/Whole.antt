@@ -5,14 +5,14 @@ use Rattle.afs_num.specs.Places.{at_place}
 use Rattle.afs_num.specs.declared.histories.Actor.{Actor}
 use Rattle.afs_num.specs.declared.types.Node.{Node}
 use Rattle.afs_num.specs.declared.types.Parcel.{Parcel}
-use Rattle.afs_history.specs.declared.lines.Entry as kept
-use Rattle.afs_history.specs.declared.lines.Line.{Line}
+use Rattle.spec_history.specs.declared.lines.Entry as kept
+use Rattle.spec_history.specs.declared.lines.Line.{Line}
 use Rattle.afs_text.specs.Telling.{sent_by}
 use Rattle.afs_clients.specs.Happening.{entry_of, front_lines, void_entry}
 use Rattle.afs_cell.specs.Happening.{NothingSettles, Settles}
 use Rattle.afs_cell.specs.Noting.{one_entry, Notes}
 use Rattle.afs_cell.specs.Since.{whole, IsBefore, LetsGo}
-use Rattle.afs_cell.specs.Worlds.{most_entries, HistoryTold, IsSafe, WorldState}
+use Rattle.afs_cell.specs.Worlds.{most_history_entries, HistoryTold, IsSafe, WorldState}
 use Rattle.afs_cell.specs.declared.faults.WorldFault.{WorldFault}
 use Rattle.afs_clients.specs.declared.happening.Happened.{Happened}
 use Rattle.afs_clients.specs.declared.happening.Happened.TheVariants as happened
@@ -48,7 +48,7 @@ module _ {D : Type 0} (b : HistoryTold) where
   settles_whole node front happened.Lost w new (Ok done) never = absurd never
   settles_whole node front happened.Lost w new (Err e) wants = (wants.0, ap (whole b) wants.1)
 
-  pub few_whole : (w : WorldState D) → IsBefore b w → w.gone.entries + length w.history < most_entries → length (b.history ++ w.history) < most_entries
+  pub few_whole : (w : WorldState D) → IsBefore b w → w.gone.entries + length w.history < most_history_entries → length (b.history ++ w.history) < most_history_entries
   few_whole w before few = omega (arith, length-append b.history w.history, before.entries, few)
 
 -- a message behind those that were let go

@@ -4,13 +4,13 @@ use Rattle.std.proofs.Common.{refl, ap, ap₂, sym, subst, ◌∙◌, inl, inr, 
 use Rattle.std.proofs.Math.Seq.{drop-append-add}
 use Rattle.std.proofs.lemmas.List.{length-append}
 use Rattle.afs_num.specs.declared.types.Parcel.{Parcel}
-use Rattle.afs_history.specs.declared.lines.Entry as kept
-use Rattle.afs_history.specs.declared.scripts.Script.{Script}
+use Rattle.spec_history.specs.declared.lines.Entry as kept
+use Rattle.spec_history.specs.declared.scripts.Script.{Script}
 use Rattle.afs_outside.specs.Outside.{Puts}
 use Rattle.afs_outside.specs.declared.outside.Failed.{Failed}
 use Rattle.afs_outside.proofs.Puts.{puts_nothing}
 use Rattle.afs_schedule.specs.Schedules.{events_of}
-use Rattle.afs_schedule.specs.Settled.{settled}
+use Rattle.afs_schedule.specs.Settled.{places_settled}
 use Rattle.afs_schedule.specs.Taking.{IsLeft}
 use Rattle.afs_schedule.specs.declared.schedule.Schedule.{Schedule}
 use Rattle.afs_text.specs.KeptText.{kept_entries_text, kept_history_text}
@@ -20,11 +20,11 @@ use Rattle.afs_cell.specs.Since.{whole, IsBefore, Keeps, LetsGo}
 use Rattle.afs_cell.specs.Steps.{IsFirst, TellsNothing}
 use Rattle.afs_cell.specs.UnderWay.{GoesSo, IsUnderWay}
 use Rattle.afs_cell.specs.UnderWaySince.{GoesSoSince, IsUnderWaySince}
-use Rattle.afs_cell.specs.Worlds.{most_entries, none_gone, AllTell, HistoryTold, IsSafe, IsWorld, LetGo, WorldState}
+use Rattle.afs_cell.specs.Worlds.{most_history_entries, none_gone, AllTell, HistoryTold, IsSafe, IsWorld, LetGo, WorldState}
 use Rattle.afs_cell.specs.declared.playing.Played.TheVariants as played
 use Rattle.afs_cell.proofs.UnderWay.{begins}
 use Rattle.afs_cell.proofs.Whole.{before_more, sent_by-append, whole_more, with_more}
-use Rattle.afs_cell.specs.Writing.{world_text, IsTold, PlaysOn}
+use Rattle.afs_cell.specs.Writing.{world_text, HistoryIsWritten, PlaysOn}
 use Rattle.afs_lending.specs.Behind.{PutsBehind}
 use Rattle.afs_cell.specs.declared.writing.Ended.TheVariants as ended
 
@@ -117,7 +117,7 @@ module _ {D : Type 0} (seen : D → Option (List ℕ)) (may_leave : D → List �
         safe_new : IsSafe limit w.script (whole p.gone new)
         safe_new = went.0.world.safe
 
-        pub few_now : new.gone.entries + length new.history ≤ most_entries
+        pub few_now : new.gone.entries + length new.history ≤ most_history_entries
         few_now = omega (arith, safe_new.entries, is_new.entries, length-append p.gone.history new.history)
 
         pub all_now : new.gone.sent + sent_by new.history ≡ new.gone.messages + length new.wire
@@ -125,7 +125,7 @@ module _ {D : Type 0} (seen : D → Option (List ℕ)) (may_leave : D → List �
 
         pub plays_on : (c : Option (List ℕ)) (h : ℕ) (later : Result (Unit {0}) Failed)
             → PutsBehind (kept_entries_text wire (new.gone.entries + 1) (new.gone.sent + 1) (drop (new.gone.sent - new.gone.messages) new.wire) new.history) b c g h written later
-            → settled schedule ≤ settled after → (end : WorldState D) (places : ℕ) → places ≡ settled after → LetsGo places new end → PlaysOn seen may_leave faults limit s wire tells a c f h end after later
+            → places_settled schedule ≤ places_settled after → (end : WorldState D) (places : ℕ) → places ≡ places_settled after → LetsGo places new end → PlaysOn seen may_leave faults limit s wire tells a c f h end after later
         plays_on c h later puts grows end places is go =
             let script : end.script ≡ w.script = ap (λ (v : WorldState D). v.script) go.is ∙ k.script in
             let same = whole_more p.gone places new end go in
@@ -144,12 +144,12 @@ module _ {D : Type 0} (seen : D → Option (List ℕ)) (may_leave : D → List �
                   subst (λ (v : WorldState D). Puts (world_text wire v) a c f h later) (sym same)
                   (subst (λ (x : List ℕ). Puts x a c f h later) (text_goes_on wire p.gone w new p.is p.way.world.safe.sent p.none k) (puts (world_text wire (whole p.gone w)) a f p.text));
             } where
-              kept_now : (end.gone.messages ≡ new.gone.messages) ⊎ (end.gone.messages ≤ places) → end.gone.messages ≤ settled after
+              kept_now : (end.gone.messages ≡ new.gone.messages) ⊎ (end.gone.messages ≤ places) → end.gone.messages ≤ places_settled after
               kept_now (inl same) = omega (arith, same, ap (λ (x : LetGo). x.messages) k.gone, p.kept, grows)
               kept_now (inr few) = omega (arith, few, is)
 
         -- the history grew by one entry
-        pub smaller : (end : WorldState D) (places : ℕ) → LetsGo places new end → most_entries - (end.gone.entries + length end.history) < most_entries - (w.gone.entries + length w.history)
+        pub smaller : (end : WorldState D) (places : ℕ) → LetsGo places new end → most_history_entries - (end.gone.entries + length end.history) < most_history_entries - (w.gone.entries + length w.history)
         smaller end places go =
             let entries : end.gone.entries ≡ new.gone.entries + length new.history = ap (λ (v : WorldState D). v.gone.entries) go.is in
             let none : length end.history ≡ 0 = ap (λ (v : WorldState D). length v.history) go.is in
@@ -160,10 +160,10 @@ module _ {D : Type 0} (seen : D → Option (List ℕ)) (may_leave : D → List �
       text_stays : TellsNothing (whole p.gone w) (whole p.gone new) → Puts (world_text wire (whole p.gone new)) a b f g written
       text_stays nothing = subst (λ (x : List ℕ). Puts x a b f g written) (sym (ap₂ (λ (ps : List Parcel) (es : List kept.Entry). kept_history_text wire ps es) nothing.wire nothing.history)) p.text
 
-      pub told_all : GoesSoSince seen may_leave faults limit w new schedule after played.All → IsTold seen may_leave faults limit s wire tells a b f g (record { world = new; ended = ended.All; written = written })
+      pub told_all : GoesSoSince seen may_leave faults limit w new schedule after played.All → HistoryIsWritten seen may_leave faults limit s wire tells a b f g (record { world = new; ended = ended.All; written = written })
       told_all goes =
           let went = goes p.gone p.is p.way in
-          subst (λ (x : Script). IsTold seen may_leave faults limit x wire tells a b f g (record { world = new; ended = ended.All; written = written })) p.script
+          subst (λ (x : Script). HistoryIsWritten seen may_leave faults limit x wire tells a b f g (record { world = new; ended = ended.All; written = written })) p.script
           (record {
             gone = p.gone;
             is = is_new;
@@ -172,10 +172,10 @@ module _ {D : Type 0} (seen : D → Option (List ℕ)) (may_leave : D → List �
             ended = (went.1.0, λ t. (tell (p.tell t), went.1.1 (tell (p.tell t))));
           })
 
-      pub told_first : GoesSoSince seen may_leave faults limit w new schedule after played.Limit → IsTold seen may_leave faults limit s wire tells a b f g (record { world = new; ended = ended.Limit; written = written })
+      pub told_first : GoesSoSince seen may_leave faults limit w new schedule after played.Limit → HistoryIsWritten seen may_leave faults limit s wire tells a b f g (record { world = new; ended = ended.Limit; written = written })
       told_first goes =
           let went = goes p.gone p.is p.way in
-          subst (λ (x : Script). IsTold seen may_leave faults limit x wire tells a b f g (record { world = new; ended = ended.Limit; written = written })) p.script
+          subst (λ (x : Script). HistoryIsWritten seen may_leave faults limit x wire tells a b f g (record { world = new; ended = ended.Limit; written = written })) p.script
           (record {
             gone = p.gone;
             is = is_new;
@@ -184,10 +184,10 @@ module _ {D : Type 0} (seen : D → Option (List ℕ)) (may_leave : D → List �
             ended = (went.1.0, (went.1.1.0, λ t. (tell (p.tell t), went.1.1.1 (tell (p.tell t)))));
           })
 
-      pub told_some : GoesSoSince seen may_leave faults limit w new schedule after played.OutOfMemory → IsTold seen may_leave faults limit s wire tells a b f g (record { world = new; ended = ended.OutOfMemory; written = written })
+      pub told_some : GoesSoSince seen may_leave faults limit w new schedule after played.OutOfMemory → HistoryIsWritten seen may_leave faults limit s wire tells a b f g (record { world = new; ended = ended.OutOfMemory; written = written })
       told_some goes =
           let went = goes p.gone p.is p.way in
-          subst (λ (x : Script). IsTold seen may_leave faults limit x wire tells a b f g (record { world = new; ended = ended.OutOfMemory; written = written })) p.script
+          subst (λ (x : Script). HistoryIsWritten seen may_leave faults limit x wire tells a b f g (record { world = new; ended = ended.OutOfMemory; written = written })) p.script
           (record {
             gone = p.gone;
             is = is_new;

@@ -1,8 +1,8 @@
 -- How a made script is played: its history is counted, and nothing is written but its summary at the end.
 use Rattle.std.specs.Prelude.{◌≡◌, ◌≤◌, ℕ, List, [], ◌++◌, length, false, Option, Some, None}
-use Rattle.afs_history.specs.declared.scripts.Script.{Script}
+use Rattle.spec_history.specs.declared.scripts.Script.{Script}
 use Rattle.afs_outside.specs.Outside.{AppendsFront}
-use Rattle.afs_schedule.specs.Settled.{settled}
+use Rattle.afs_schedule.specs.Settled.{places_settled}
 use Rattle.afs_schedule.specs.declared.schedule.Schedule.{Schedule}
 use Rattle.afs_command.specs.Spans.{IsUnchanged, RoseBy, Span}
 use Rattle.afs_command.specs.declared.statuses.Status.{Status}
@@ -16,7 +16,7 @@ use Rattle.afs_cell.specs.Lends.{disks_of}
 use Rattle.afs_cell.specs.Since.{whole, IsBefore, StandsSince}
 use Rattle.afs_cell.specs.Steps.{HasPlayedAll, HasPlayedFirst, HasPlayedSome}
 use Rattle.afs_cell.specs.UnderWay.{IsUnderWay}
-use Rattle.afs_cell.specs.Worlds.{most_entries, AllTell, HistoryTold, IsWorld, WorldState}
+use Rattle.afs_cell.specs.Worlds.{most_history_entries, AllTell, HistoryTold, IsWorld, WorldState}
 use Rattle.afs_cell.specs.declared.made.Counted.{Counted}
 use Rattle.afs_cell.specs.declared.made.Ended.{Ended}
 use Rattle.afs_cell.specs.declared.made.Ended.TheVariants as ended
@@ -30,14 +30,14 @@ pub record CountsOn {D : Type 0} (seen : D → Option (List ℕ)) (may_leave : D
   pub is : IsBefore gone w
   pub way : IsUnderWay seen may_leave faults limit w.script (whole gone w) schedule
   pub none : w.history ≡ []
-  pub kept : w.gone.messages ≤ settled schedule
+  pub kept : w.gone.messages ≤ places_settled schedule
   pub tell : tells → AllTell seen w
   pub counted : AreCounted counts gone.history
 
 -- how far it was played, where its disks tell
 abbrev pub EndsAs : {D : Type 0} → (D → Option (List ℕ)) → (D → List ℕ → Type 0) → (D → ℕ) → (D → ℕ) → Script → Type 0 → Ended → WorldState D → Type 0
 EndsAs {D} seen may_leave faults limit s tells ended.All w = (w.is_lost ≡ false) × (tells → AllTell seen w × HasPlayedAll seen may_leave faults limit s w)
-EndsAs {D} seen may_leave faults limit s tells ended.Limit w = (w.is_lost ≡ false) × ((length w.history ≡ most_entries) × (tells → AllTell seen w × HasPlayedFirst seen may_leave faults limit s w))
+EndsAs {D} seen may_leave faults limit s tells ended.Limit w = (w.is_lost ≡ false) × ((length w.history ≡ most_history_entries) × (tells → AllTell seen w × HasPlayedFirst seen may_leave faults limit s w))
 EndsAs {D} seen may_leave faults limit s tells ended.OutOfMemory w = tells → AllTell seen w × HasPlayedSome seen may_leave faults limit s w
 
 -- The script was played so, and the whole history is counted.

@@ -1,7 +1,7 @@
 -- What becomes of the seat of the location database, which is given a message or crashes.
 use Rattle.std.specs.Prelude.{◌≡◌, ◌<◌, ◌≤◌, ◌^◌, ℕ, List, Option, Some, None, Result, Ok, Err}
 use Rattle.afs_disk.specs.declared.disk.Disk.{Ghosts}
-use Rattle.afs_history.specs.declared.lines.Line.{Line}
+use Rattle.spec_history.specs.declared.lines.Line.{Line}
 use Rattle.afs_host.specs.LocSeated.{loc_seat_disk, DatabaseSeat}
 use Rattle.afs_host.specs.LocSeats.{loc_disk_of, DatabaseRunning}
 use Rattle.afs_host.specs.LocServing.{LocHasFallen}

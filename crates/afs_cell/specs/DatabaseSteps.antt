@@ -2,11 +2,11 @@
 use Rattle.std.specs.Prelude.{◌≡◌, ◌<◌, ◌^◌, ℕ, List, Option, Some, None}
 use Rattle.afs_num.specs.declared.messages.Message.{Message}
 use Rattle.afs_num.specs.declared.messages.Received.TheVariants.{Whole}
-use Rattle.afs_history.specs.declared.lines.Line.{Line}
-use Rattle.afs_model.specs.Messages.{received}
-use Rattle.afs_rows.specs.Hosts.{Fall, crashed, set_to_fail, set_to_stop, HostStep}
-use Rattle.afs_rows.specs.LocRow.{LocState}
-use Rattle.afs_rows.specs.LocSteps.{loc_kind, LocHost}
+use Rattle.spec_history.specs.declared.lines.Line.{Line}
+use Rattle.spec_model.specs.Messages.{received}
+use Rattle.spec_rows.specs.Hosts.{Fall, crashed, set_to_fail, set_to_stop, HostStep}
+use Rattle.spec_rows.specs.LocRow.{LocState}
+use Rattle.spec_rows.specs.LocSteps.{loc_kind, LocHost}
 use Rattle.afs_host.specs.LocSeated.{loc_seat_disk, DatabaseSeat, IsLocHost, IsLocReadySeat}
 use Rattle.afs_host.specs.LocSeats.{LocCanRun}
 use Rattle.afs_host.specs.Serving.{HasServed}

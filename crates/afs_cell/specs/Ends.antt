@@ -2,10 +2,10 @@
 use Rattle.std.specs.Prelude.{◌≡◌, ◌≤◌, ◌⊎◌, ◌+◌, ◌↔◌, ℕ, zero, suc, List, [], ◌∷◌, false, Option, Some, IsSome}
 use Rattle.afs_num.specs.declared.types.Node.{Node}
 use Rattle.afs_num.specs.declared.types.Node.TheVariants.{Loc, Server}
-use Rattle.afs_history.specs.declared.scripts.Script.{Script}
+use Rattle.spec_history.specs.declared.scripts.Script.{Script}
 use Rattle.afs_disk.specs.Disk.{LeavesJust, Rose}
 use Rattle.afs_disk.specs.declared.disks.Lent.{Lent}
-use Rattle.afs_grammar.specs.Lines.{volumes_at}
+use Rattle.afs_grammar.specs.Lines.{lines_of_server}
 use Rattle.afs_volstore.specs.Opening.{IsSetUpSoFar}
 use Rattle.afs_cell.specs.Founding.{IsLocLeft}
 use Rattle.afs_cell.specs.declared.faults.SetupFault.{SetupFault}
@@ -50,7 +50,7 @@ IsRefused {D} faults i disks e = NoneFell faults disks e.1 × IsRefusedBy faults
 -- A disk that set-up hands back tells as before. Where it was empty, it holds no record, or just that of the set-up.
 pub record IsLeftAt {D : Type 0} (seen : D → Option (List ℕ)) (may_leave : D → List ℕ → Type 0) (s : Script) (i : ℕ) (old new : D) : Type 0 where
   pub told : IsSome (seen new) ↔ IsSome (seen old)
-  pub holds : seen old ≡ Some [] → LeavesJust [] (may_leave old) → (bytes : List ℕ) → seen new ≡ Some bytes → IsSetUpSoFar s.capacity (volumes_at i s.volumes) bytes
+  pub holds : seen old ≡ Some [] → LeavesJust [] (may_leave old) → (bytes : List ℕ) → seen new ≡ Some bytes → IsSetUpSoFar s.capacity (lines_of_server i s.volumes) bytes
 
 -- so it is of each server's, in order of number from this one on
 abbrev pub AreLeft : {D : Type 0} → (D → Option (List ℕ)) → (D → List ℕ → Type 0) → Script → ℕ → List (Lent D) → List (Lent D) → Type 0

@@ -1,13 +1,13 @@
 -- The location database and the servers of a cell at set-up, and the disks that a refused set-up hands back.
 use Rattle.std.specs.Prelude.{◌≡◌, ◌≤◌, ◌+◌, ℕ, List, [], ◌∷◌, false, None, Option}
 use Rattle.afs_num.specs.declared.types.Node.TheVariants.{Server}
-use Rattle.afs_history.specs.declared.scripts.Script.{Script}
+use Rattle.spec_history.specs.declared.scripts.Script.{Script}
 use Rattle.afs_disk.specs.Disk.{Rose}
 use Rattle.afs_disk.specs.Fuses.{Fused}
 use Rattle.afs_disk.specs.declared.disks.Lent.{Lent}
-use Rattle.afs_rows.specs.Runs.{first_lasting, first_stored, volumes_at}
-use Rattle.afs_runs.specs.NodeRuns.{first_node}
-use Rattle.afs_rows.specs.States.{durable_of}
+use Rattle.spec_rows.specs.Runs.{first_lasting, first_stored, first_volumes_at}
+use Rattle.spec_runs.specs.NodeRuns.{first_node}
+use Rattle.spec_rows.specs.States.{durable_of}
 use Rattle.afs_volstore.specs.Stores.{IsKept, Store}
 use Rattle.afs_locstore.specs.LocFold.{loc_fold}
 use Rattle.afs_store.specs.Stores as kept
@@ -25,7 +25,7 @@ use Rattle.afs_cell.specs.declared.faults.SetupFault.TheVariants as setup
 
 -- A server's store at set-up, over the disk that was lent for it.
 pub record IsFirstStore {D : Type 0} (seen : D → Option (List ℕ)) (may_leave : D → List ℕ → Type 0) (faults limit : D → ℕ) (s : Script) (i : ℕ) (old : D) (t : Store (Fused D)) : Type 0 where
-  pub durable_is : t.durable ≡ durable_of (first_lasting s.capacity (first_stored (volumes_at i s.volumes)))
+  pub durable_is : t.durable ≡ durable_of (first_lasting s.capacity (first_stored (first_volumes_at i s.volumes)))
   pub rest : t ≡ record { durable = t.durable; disk = t.disk; node = Server i; prepared = None; closed = false; count = 1; drawn = 0; holds = t.holds }
   pub free : t.holds.table ≡ []
   pub unset : (t.disk.stop ≡ None) × (t.disk.fail ≡ None)

@@ -1,9 +1,9 @@
 -- The location database at set-up.
 use Rattle.std.specs.Prelude.{◌≡◌, ◌≤◌, ◌↔◌, ℕ, List, [], Option, Some, IsSome}
 use Rattle.afs_num.specs.declared.types.Node.TheVariants.{Loc}
-use Rattle.afs_history.specs.declared.scripts.Script.{Script}
+use Rattle.spec_history.specs.declared.scripts.Script.{Script}
 use Rattle.afs_disk.specs.Disk.{LeavesJust, Rose}
-use Rattle.afs_runs.specs.NodeRuns.{node_start}
+use Rattle.spec_runs.specs.NodeRuns.{node_start}
 use Rattle.afs_locdb.specs.Creating.{IsSetUpSoFar}
 use Rattle.afs_host.specs.LocSeated.{IsLocReady}
 use Rattle.afs_host.specs.LocSeats.{loc_disk_of, DatabaseRunning, IsLocUp}

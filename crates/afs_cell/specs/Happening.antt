@@ -1,7 +1,7 @@
 -- How what happened at a node is told.
 use Rattle.std.specs.Prelude.{◌≡◌, ◌+◌, [], ◌∷◌, ◌++◌, true, length, Option, Result, Ok, Err}
 use Rattle.afs_num.specs.declared.types.Node.{Node}
-use Rattle.afs_history.specs.declared.lines.Line.{Line}
+use Rattle.spec_history.specs.declared.lines.Line.{Line}
 use Rattle.afs_cell.specs.Worlds.{WorldState}
 use Rattle.afs_cell.specs.declared.faults.WorldFault.{WorldFault}
 use Rattle.afs_cell.specs.declared.faults.WorldFault.TheVariants as faults

@@ -1,7 +1,7 @@
 -- What becomes of the seat of a server that is given a message.
 use Rattle.std.specs.Prelude.{◌≡◌, ℕ, List, Option, Some, None}
 use Rattle.afs_num.specs.Places.{at_place}
-use Rattle.afs_history.specs.declared.lines.Line.{Line}
+use Rattle.spec_history.specs.declared.lines.Line.{Line}
 use Rattle.afs_serverhost.specs.Serving.{HasFallen}
 use Rattle.afs_host.specs.declared.seats.Seat.TheVariants.{Up, Down}
 use Rattle.afs_clients.specs.Happening.{ClientTells}

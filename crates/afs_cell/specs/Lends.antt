@@ -1,15 +1,10 @@
 -- The disks of a cell's nodes, as they are lent and go back.
-use Rattle.std.specs.Prelude.{◌≡◌, ◌+◌, ℕ, List, [], ◌∷◌, Option, IsSome}
+use Rattle.std.specs.Prelude.{◌+◌, ℕ, List, [], ◌∷◌, Option, IsSome}
 use Rattle.afs_disk.specs.declared.disks.Lent.{Lent}
 use Rattle.afs_clients.specs.Places.{Each}
 use Rattle.afs_host.specs.LocSeated.{loc_seat_disk}
 use Rattle.afs_serverhost.specs.Seated.{seat_disk, ServerSeat}
 use Rattle.afs_cell.specs.Worlds.{WorldState}
-
--- the disks of these nodes, in order of number from this one on, each for so many bytes; number 0 is the location database
-abbrev pub AreLent : {D : Type 0} → (D → ℕ) → ℕ → ℕ → List (Lent D) → Type 0
-AreLent {D} limit capacity i [] = Unit {0}
-AreLent {D} limit capacity i (l ∷ ls) = (l.node ≡ i) × ((limit l.disk ≡ capacity) × AreLent limit capacity (i + 1) ls)
 
 abbrev pub LentTell : {D : Type 0} → (D → Option (List ℕ)) → List (Lent D) → Type 0
 LentTell {D} seen lent = Each (λ (i : ℕ) (l : Lent D). IsSome (seen l.disk)) lent

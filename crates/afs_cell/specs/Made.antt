@@ -1,13 +1,13 @@
 -- How the run of a made script ends: its summary is written, and nothing else.
 use Rattle.std.specs.Prelude.{◌≡◌, ◌≤◌, ◌⊎◌, ℕ, List, false, Option, None, length}
-use Rattle.afs_history.specs.declared.lines.Entry as kept
-use Rattle.afs_history.specs.declared.scripts.Script.{Script}
+use Rattle.spec_history.specs.declared.lines.Entry as kept
+use Rattle.spec_history.specs.declared.scripts.Script.{Script}
 use Rattle.afs_disk.specs.declared.bank.Place.TheVariants.{Memory}
 use Rattle.afs_outside.specs.Outside.{AppendsFront}
-use Rattle.afs_records.specs.Durable.{Durable}
-use Rattle.afs_records.specs.LocDurable.{LocDurable}
-use Rattle.afs_rows.specs.Runs.{Entry}
-use Rattle.afs_runs.specs.NodeRuns.{NodeCell}
+use Rattle.spec_records.specs.Durable.{Durable}
+use Rattle.spec_records.specs.LocDurable.{LocDurable}
+use Rattle.spec_rows.specs.Runs.{Entry}
+use Rattle.spec_runs.specs.NodeRuns.{NodeCell}
 use Rattle.afs_command.specs.Spans.{span, IsUnchanged, RoseBy}
 use Rattle.afs_command.specs.declared.statuses.Status.{Status}
 use Rattle.afs_command.specs.declared.statuses.Status.TheVariants as statuses
@@ -15,7 +15,7 @@ use Rattle.afs_lending.specs.Outside.{Outside, WritesAll}
 use Rattle.afs_summary.specs.Summary.{kept_summary, summary}
 use Rattle.afs_cell.specs.Replays.{no_other, AtLimit, AtOutOfMemory, GivesBack, IsRun, LendingFails, LendsAll, MayKeep, MissedByTheBank, NoneIsMissing, SettingUpFails, ToItsEnd}
 use Rattle.afs_cell.specs.Steps.{MayBeReadAtLoc}
-use Rattle.afs_cell.specs.Worlds.{most_entries}
+use Rattle.afs_cell.specs.Worlds.{most_history_entries}
 
 -- what is done outside, but for the sink
 abbrev pub unseen : Outside → Outside
@@ -37,7 +37,7 @@ pub record IsSummed (number : ℕ) (s : Script) (Writes : List ℕ → Type 0) (
 -- whatever the disks tell: the summary is that of some entries
 pub record SumsEntries (number : ℕ) (s : Script) (Writes : List ℕ → Type 0) : Type 0 where
   pub entries : List kept.Entry
-  pub few : length entries ≤ most_entries
+  pub few : length entries ≤ most_history_entries
   pub written : Writes (kept_summary number s entries)
 
 -- All is done: the summary was written and passed on, and each disk given back; neither the sink nor the bank failed.

@@ -1,9 +1,9 @@
 -- An entry of one line, which no message goes with.
 use Rattle.std.specs.Prelude.{◌≡◌, ℕ, [], ◌∷◌, ◌++◌, Option, Some, None, Result, Ok, Err}
 use Rattle.afs_num.specs.declared.histories.Actor.{Actor}
-use Rattle.afs_history.specs.declared.lines.Entry as kept
-use Rattle.afs_history.specs.declared.lines.Line.{Line}
-use Rattle.afs_history.specs.declared.lines.Line.TheVariants as lines
+use Rattle.spec_history.specs.declared.lines.Entry as kept
+use Rattle.spec_history.specs.declared.lines.Line.{Line}
+use Rattle.spec_history.specs.declared.lines.Line.TheVariants as lines
 use Rattle.afs_cell.specs.Happening.{Wants}
 use Rattle.afs_cell.specs.Worlds.{WorldState}
 use Rattle.afs_cell.specs.declared.faults.WorldFault.{WorldFault}

@@ -3,17 +3,17 @@
 use Rattle.std.specs.Prelude.{◌≡◌, ◌≤◌, ◌<◌, ◌⊎◌, ℕ, zero, suc, ◌+◌, List, [], ◌∷◌, ◌++◌, length, Bool, false, nat_eq, if◌then◌else◌, Option, Some, None}
 use Rattle.std.specs.Option.{option_map}
 use Rattle.afs_num.specs.declared.types.Parcel.{Parcel}
-use Rattle.afs_history.specs.declared.lines.Entry as kept
-use Rattle.afs_history.specs.declared.scripts.Script.{Script}
+use Rattle.spec_history.specs.declared.lines.Entry as kept
+use Rattle.spec_history.specs.declared.scripts.Script.{Script}
 use Rattle.afs_disk.specs.declared.bank.Lend.{Lend}
 use Rattle.afs_disk.specs.declared.bank.Place.{Place}
 use Rattle.afs_disk.specs.declared.disks.Lent.{Lent}
 use Rattle.afs_outside.specs.Outside.{AppendsFront}
-use Rattle.afs_records.specs.Durable.{Durable}
-use Rattle.afs_records.specs.LocDurable.{LocDurable}
-use Rattle.afs_volstore.specs.Stands.{Stands}
-use Rattle.afs_rows.specs.Runs.{Entry}
-use Rattle.afs_runs.specs.NodeRuns.{node_start, CellInput, NodeCell, NodeLeads}
+use Rattle.spec_records.specs.Durable.{Durable}
+use Rattle.spec_records.specs.LocDurable.{LocDurable}
+use Rattle.afs_volstore.specs.Stands.{StandsForVolumes}
+use Rattle.spec_rows.specs.Runs.{Entry}
+use Rattle.spec_runs.specs.NodeRuns.{node_start, CellInput, NodeCell, NodeLeads}
 use Rattle.afs_text.specs.FinalText.{final_text}
 use Rattle.afs_text.specs.HistoryText.{history_text, text}
 use Rattle.afs_text.specs.KeptText.{kept_history_text}
@@ -21,7 +21,7 @@ use Rattle.afs_text.specs.Telling.{sent_by}
 use Rattle.afs_schedule.specs.Schedules.{events_of, first_turn, AreFirst, AreInputs}
 use Rattle.afs_cell.specs.Ends.{AreAllLeft, OneRoseAtMost}
 use Rattle.afs_cell.specs.Steps.{LocStands, MayBeRead, MayBeReadAtLoc}
-use Rattle.afs_cell.specs.Worlds.{most_entries, own_falls}
+use Rattle.afs_cell.specs.Worlds.{most_history_entries, own_falls}
 use Rattle.afs_lending.specs.Lending.{lends, AreLent, AreUnused, GivesBackBut}
 use Rattle.afs_command.specs.Spans.{IsUnchanged, RoseBy, Span}
 use Rattle.afs_lending.specs.Outside.{DidNotRise, Outside, SoManyFailed, Writes, WritesAll}
@@ -39,7 +39,7 @@ MayKeep end i (d ∷ ds) = MayBeRead end i d × MayKeep end (i + 1) ds
 -- the first of these disks is that of this server and stands for this, and of the others this is so
 abbrev pub FirstIsKept : ℕ → Durable → List (ℕ × List ℕ) → (List (ℕ × List ℕ) → Type 0) → Type 0
 FirstIsKept i d [] rest = ⊥
-FirstIsKept i d (disk ∷ disks) rest = ((disk.0 ≡ i) × Stands disk.1 d) × rest disks
+FirstIsKept i d (disk ∷ disks) rest = ((disk.0 ≡ i) × StandsForVolumes disk.1 d) × rest disks
 
 -- Each of these disks, by its node and its bytes, stands for what is kept at its server, and they come in order of the servers' numbers,
 -- from this one on. Some may be missing.
@@ -122,7 +122,7 @@ pub record IsRun (s : Script) (IsSoFar : List CellInput → Type 0) (others : �
   pub inputs : List CellInput
   pub leads : NodeLeads (node_start s) inputs history end
   pub so_far : IsSoFar inputs
-  pub few : length history ≤ most_entries
+  pub few : length history ≤ most_history_entries
   pub failures : (i : ℕ) → HasDisk s i → RoseBy (own_falls i inputs history + others i) (disk_faults i)
 
 -- The inputs are the events of the script's schedule, one for one, with each drain as its deliveries.
@@ -155,7 +155,7 @@ pub record ReplaysFirst (s : Script) (wire : Bool) (o : Outside) : Type 0 where
   pub history : List Entry
   pub end : NodeCell
   pub run : IsRun s (NotToItsEnd s) no_other o.disk_faults history end
-  pub full : length history ≡ most_entries
+  pub full : length history ≡ most_history_entries
   pub kept : List Durable
   pub keep : MayKeep end 1 kept
   pub loc : LocDurable
@@ -185,10 +185,10 @@ pub record ReplaysUnread (s : Script) (wire : Bool) (server : ℕ) (o : Outside)
 
 -- no more entries than a history may have, or just as many
 abbrev pub IsFew : ℕ → Type 0
-IsFew count = count ≤ most_entries
+IsFew count = count ≤ most_history_entries
 
 abbrev pub IsFull : ℕ → Type 0
-IsFull count = count ≡ most_entries
+IsFull count = count ≡ most_history_entries
 
 -- The text of so many entries was written, with all messages that they sent, or where the sink failed, a beginning of it. Nothing of the
 -- final part stands there.
@@ -205,7 +205,7 @@ pub record WritesRun (s : Script) (wire : Bool) (Writes : List ℕ → Type 0) :
   pub sent : List Parcel
   pub entries : List kept.Entry
   pub all : sent_by entries ≡ length sent
-  pub few : length entries ≤ most_entries
+  pub few : length entries ≤ most_history_entries
   pub kept : List Durable
   pub each : length kept ≡ s.servers
   pub written : Writes (kept_history_text wire sent entries ++ final_text kept)

@@ -5,14 +5,14 @@ use Rattle.afs_num.specs.declared.messages.Message.{Message}
 use Rattle.afs_num.specs.declared.messages.Received.TheVariants.{Whole}
 use Rattle.afs_num.specs.declared.types.Node.{Node}
 use Rattle.afs_num.specs.declared.types.Node.TheVariants.{Server}
-use Rattle.afs_history.specs.declared.lines.Line.{Line}
-use Rattle.afs_history.specs.declared.lines.Outs.{Outs}
+use Rattle.spec_history.specs.declared.lines.Line.{Line}
+use Rattle.spec_history.specs.declared.lines.Outs.{Outs}
 use Rattle.afs_disk.specs.Disk.{Rose}
-use Rattle.afs_model.specs.Messages.{messages_spelled, parcels_read, received}
-use Rattle.afs_rows.specs.Hosts.{Fall, Host, crashed, set_to_fail, set_to_stop, HostStep}
-use Rattle.afs_rows.specs.States.{BackCall}
-use Rattle.afs_volrows.specs.NodeHosts.{node_kind, node_timed_out, node_woken, piece_timed_out, NodeHost}
-use Rattle.afs_volrows.specs.VolStates.{NodeState, PieceCall}
+use Rattle.spec_model.specs.Messages.{messages_spelled, parcels_read, received}
+use Rattle.spec_rows.specs.Hosts.{Fall, Host, crashed, set_to_fail, set_to_stop, HostStep}
+use Rattle.spec_rows.specs.States.{BackCall}
+use Rattle.spec_volrows.specs.NodeHosts.{node_kind, node_timed_out, node_woken, piece_timed_out, NodeHost}
+use Rattle.spec_volrows.specs.VolStates.{NodeState, PieceCall}
 use Rattle.afs_server.specs.Seen.{CanDraw}
 use Rattle.afs_serverhost.specs.Seats.{CanRun}
 use Rattle.afs_host.specs.Serving.{HasServed}

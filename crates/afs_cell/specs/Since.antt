@@ -1,11 +1,11 @@
 -- A world of which the first entries, and the first messages, were let go: what is so of it together with these.
 use Rattle.std.specs.Prelude.{◌≡◌, ◌≤◌, ◌<◌, ◌⊎◌, ◌+◌, ◌/◌, ◌^◌, ℕ, List, [], ◌++◌, drop, length, false, Option, Result}
 use Rattle.afs_num.specs.declared.types.Parcel.{Parcel}
-use Rattle.afs_history.specs.declared.scripts.Event.{Event}
-use Rattle.afs_history.specs.declared.scripts.Event.TheVariants as events
+use Rattle.spec_history.specs.declared.scripts.Event.{Event}
+use Rattle.spec_history.specs.declared.scripts.Event.TheVariants as events
 use Rattle.afs_disk.specs.declared.disks.Lent.{Lent}
-use Rattle.afs_runs.specs.NodeRuns.{CellInput, NodeCell}
-use Rattle.afs_schedule.specs.Schedules.{Turn}
+use Rattle.spec_runs.specs.NodeRuns.{CellInput, NodeCell}
+use Rattle.afs_schedule.specs.Schedules.{ScheduleState}
 use Rattle.afs_text.specs.Telling.{sent_by}
 use Rattle.afs_cell.specs.Steps.{AreStanding, Stepped, Steps}
 use Rattle.afs_cell.specs.Worlds.{none_gone, HistoryTold, IsCell, IsSafe, IsWorld, WorldState}
@@ -46,7 +46,7 @@ pub record Keeps {D : Type 0} (old new : WorldState D) : Type 0 where
 
 -- ---- a step, whatever was let go before
 
-abbrev pub SteppedSince : {D : Type 0} → (D → Option (List ℕ)) → (D → List ℕ → Type 0) → (D → ℕ) → (D → ℕ) → (Turn → CellInput → Type 0) → WorldState D → WorldState D → Result (Unit {0}) WorldFault → Type 0
+abbrev pub SteppedSince : {D : Type 0} → (D → Option (List ℕ)) → (D → List ℕ → Type 0) → (D → ℕ) → (D → ℕ) → (ScheduleState → CellInput → Type 0) → WorldState D → WorldState D → Result (Unit {0}) WorldFault → Type 0
 SteppedSince {D} seen may_leave faults limit is w new result =
     (before : HistoryTold) → IsBefore before w → IsSafe limit w.script (whole before w) → Stepped seen may_leave faults limit w.script is (whole before w) (whole before new) result
 
@@ -54,12 +54,12 @@ abbrev pub GoesOnSince : {D : Type 0} → (D → Option (List ℕ)) → (D → L
 GoesOnSince {D} seen may_leave faults limit w new =
     (before : HistoryTold) → IsBefore before w → IsWorld seen may_leave faults limit w.script (whole before w) → IsWorld seen may_leave faults limit w.script (whole before new)
 
-abbrev pub StepsSince : {D : Type 0} → (D → Option (List ℕ)) → (D → List ℕ → Type 0) → (D → ℕ) → (D → ℕ) → (Turn → CellInput → Type 0) → WorldState D → WorldState D → Result (Unit {0}) WorldFault → Type 0
+abbrev pub StepsSince : {D : Type 0} → (D → Option (List ℕ)) → (D → List ℕ → Type 0) → (D → ℕ) → (D → ℕ) → (ScheduleState → CellInput → Type 0) → WorldState D → WorldState D → Result (Unit {0}) WorldFault → Type 0
 StepsSince {D} seen may_leave faults limit is w new result =
     (before : HistoryTold) → IsBefore before w → IsWorld seen may_leave faults limit w.script (whole before w) → Steps seen may_leave faults limit is (whole before w) (whole before new) result
 
 -- So it was, whatever was let go before: nothing is let go, and the clock rose by so many ticks at most.
-pub record PlaysSince {D : Type 0} (seen : D → Option (List ℕ)) (may_leave : D → List ℕ → Type 0) (faults limit : D → ℕ) (is : Turn → CellInput → Type 0) (ticks : ℕ) (old new : WorldState D) (result : Result (Unit {0}) WorldFault) : Type 0 where
+pub record PlaysSince {D : Type 0} (seen : D → Option (List ℕ)) (may_leave : D → List ℕ → Type 0) (faults limit : D → ℕ) (is : ScheduleState → CellInput → Type 0) (ticks : ℕ) (old new : WorldState D) (result : Result (Unit {0}) WorldFault) : Type 0 where
   pub stepped : SteppedSince seen may_leave faults limit is old new result
   pub keeps : Keeps old new
   pub clock : new.clock ≤ old.clock + ticks

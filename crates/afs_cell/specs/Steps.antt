@@ -1,26 +1,26 @@
 -- What the calls of a world promise.
 use Rattle.std.specs.Prelude.{◌≡◌, ◌+◌, ◌⊎◌, ◌↔◌, ℕ, List, [], ◌∷◌, ◌++◌, length, Bool, true, false, Option, Some, None, Result, Ok, Err, IsSome}
-use Rattle.afs_history.specs.declared.scripts.Task.{Task}
-use Rattle.afs_history.specs.declared.scripts.Script.{Script}
+use Rattle.spec_history.specs.declared.scripts.Task.{Task}
+use Rattle.spec_history.specs.declared.scripts.Script.{Script}
 use Rattle.afs_disk.specs.declared.disks.Lent.{Lent}
 use Rattle.afs_num.specs.declared.types.Node.{Node}
 use Rattle.afs_num.specs.declared.types.Node.TheVariants.{Admin, Client, Server}
-use Rattle.afs_runs.specs.NodeRuns.{bare_entry, node_moved, node_start, CellInput, NodeCell}
-use Rattle.afs_rows.specs.Hosts.{begun_from, Fall, MayBegin}
-use Rattle.afs_rows.specs.LocRow.{LocState}
-use Rattle.afs_volrows.specs.NodeHosts.{node_kind}
-use Rattle.afs_volrows.specs.VolStates.{NodeState}
+use Rattle.spec_runs.specs.NodeRuns.{bare_entry, node_moved, node_start, CellInput, NodeCell}
+use Rattle.spec_rows.specs.Hosts.{begun_from, Fall, MayBegin}
+use Rattle.spec_rows.specs.LocRow.{LocState}
+use Rattle.spec_volrows.specs.NodeHosts.{node_kind}
+use Rattle.spec_volrows.specs.VolStates.{NodeState}
 use Rattle.afs_server.specs.Seen.{lasting_of}
 use Rattle.afs_journal.specs.Records.{whole_records}
 use Rattle.afs_locdb.specs.Seen as loc
-use Rattle.afs_records.specs.Durable.{Durable}
-use Rattle.afs_records.specs.LocDurable.{LocDurable, LocStandFor}
+use Rattle.spec_records.specs.Durable.{Durable}
+use Rattle.spec_records.specs.LocDurable.{LocDurable, LocStandFor}
 use Rattle.afs_host.specs.LocStanding.{loc_begun_by_disk}
-use Rattle.afs_volstore.specs.Stands.{Stands}
-use Rattle.afs_schedule.specs.Schedules.{events_of, first_turn, left_by, tasks_of, AreFirst, AreInputs, Turn}
+use Rattle.afs_volstore.specs.Stands.{StandsForVolumes}
+use Rattle.afs_schedule.specs.Schedules.{events_of, first_turn, left_by, tasks_of, AreFirst, AreInputs, ScheduleState}
 use Rattle.afs_clients.specs.Places.{Each}
-use Rattle.afs_text.specs.Telling.{told}
-use Rattle.afs_cell.specs.Worlds.{falls_at, most_entries, none_gone, AllTell, Counts, IsCell, IsSafe, Runs, WorldState}
+use Rattle.afs_text.specs.Telling.{entries_as_told}
+use Rattle.afs_cell.specs.Worlds.{falls_at, most_history_entries, none_gone, AllTell, Counts, IsCell, IsSafe, Runs, WorldState}
 use Rattle.afs_serverhost.specs.Seated.{seat_disk, ServerSeat}
 use Rattle.afs_clients.specs.declared.clients.ClientSeat.{ClientSeat}
 use Rattle.afs_admins.specs.declared.admins.AdminSeat.{AdminSeat}
@@ -49,18 +49,18 @@ pub record IsAt {D : Type 0} (seen : D → Option (List ℕ)) (may_leave : D →
   pub orders : Each (λ (n : ℕ) (s : AdminSeat). left (Admin n) ≡ s.plan) w.admins
 
 -- One entry more, that of such an input; the world stands for what comes of it. Where a disk fails by itself, that disk counts it.
-pub record Plays {D : Type 0} (seen : D → Option (List ℕ)) (may_leave : D → List ℕ → Type 0) (faults limit : D → ℕ) (is : CellInput → Type 0) (t : Turn) (old new : WorldState D) : Type 0 where
+pub record Plays {D : Type 0} (seen : D → Option (List ℕ)) (may_leave : D → List ℕ → Type 0) (faults limit : D → ℕ) (is : CellInput → Type 0) (t : ScheduleState) (old new : WorldState D) : Type 0 where
   pub input : CellInput
   pub is_one : is input
-  pub history : told new.wire new.history ≡ told old.wire old.history ++ bare_entry (node_moved t.cell input).entry ∷ []
+  pub history : entries_as_told new.wire new.history ≡ entries_as_told old.wire old.history ++ bare_entry (node_moved t.cell input).entry ∷ []
   pub at : IsAt seen may_leave limit new (node_moved t.cell input).cell (left_by input t.left)
   pub counts : (own : ℕ → ℕ) → Counts faults own old → Counts faults (λ (i : ℕ). own i + falls_at i input (node_moved t.cell input).entry) new
 
 -- So it is for each cell and the acts for which the world stands, while its disks tell.
-pub record PlaysOne {D : Type 0} (seen : D → Option (List ℕ)) (may_leave : D → List ℕ → Type 0) (faults limit : D → ℕ) (is : Turn → CellInput → Type 0) (old new : WorldState D) : Type 0 where
+pub record PlaysOne {D : Type 0} (seen : D → Option (List ℕ)) (may_leave : D → List ℕ → Type 0) (faults limit : D → ℕ) (is : ScheduleState → CellInput → Type 0) (old new : WorldState D) : Type 0 where
   pub count : length new.history ≡ length old.history + 1
   pub going : new.is_lost ≡ false
-  pub plays : AllTell seen old → (t : Turn) → IsAt seen may_leave limit old t.cell t.left → Plays seen may_leave faults limit (is t) t old new
+  pub plays : AllTell seen old → (t : ScheduleState) → IsAt seen may_leave limit old t.cell t.left → Plays seen may_leave faults limit (is t) t old new
 
 -- nothing was told and nothing was sent
 pub record TellsNothing {D : Type 0} (old new : WorldState D) : Type 0 where
@@ -79,15 +79,15 @@ pub record StandsStill {D : Type 0} (seen : D → Option (List ℕ)) (may_leave 
 -- Memory was wanting: the world can't go on, or is what it was. Its last entry was made: nothing changes.
 abbrev pub Stays : {D : Type 0} → (D → Option (List ℕ)) → (D → List ℕ → Type 0) → (D → ℕ) → WorldState D → WorldState D → WorldFault → Type 0
 Stays {D} seen may_leave limit old new faults.OutOfMemory = TellsNothing old new × ((new.is_lost ≡ true) ⊎ StandsStill seen may_leave limit old new)
-Stays {D} seen may_leave limit old new faults.Limit = (length old.history ≡ most_entries) × (new ≡ old)
+Stays {D} seen may_leave limit old new faults.Limit = (length old.history ≡ most_history_entries) × (new ≡ old)
 
 -- such an input was played, or nothing was told
-abbrev pub Steps : {D : Type 0} → (D → Option (List ℕ)) → (D → List ℕ → Type 0) → (D → ℕ) → (D → ℕ) → (Turn → CellInput → Type 0) → WorldState D → WorldState D → Result (Unit {0}) WorldFault → Type 0
+abbrev pub Steps : {D : Type 0} → (D → Option (List ℕ)) → (D → List ℕ → Type 0) → (D → ℕ) → (D → ℕ) → (ScheduleState → CellInput → Type 0) → WorldState D → WorldState D → Result (Unit {0}) WorldFault → Type 0
 Steps {D} seen may_leave faults limit is old new (Ok done) = PlaysOne seen may_leave faults limit is old new
 Steps {D} seen may_leave faults limit is old new (Err fault) = Stays seen may_leave limit old new fault
 
 -- A step of a world of this script, whatever came of it: it is safe, its disks tell as before, and no count of faults fell.
-pub record Stepped {D : Type 0} (seen : D → Option (List ℕ)) (may_leave : D → List ℕ → Type 0) (faults limit : D → ℕ) (s : Script) (is : Turn → CellInput → Type 0) (w new : WorldState D) (result : Result (Unit {0}) WorldFault) : Type 0 where
+pub record Stepped {D : Type 0} (seen : D → Option (List ℕ)) (may_leave : D → List ℕ → Type 0) (faults limit : D → ℕ) (s : Script) (is : ScheduleState → CellInput → Type 0) (w new : WorldState D) (result : Result (Unit {0}) WorldFault) : Type 0 where
   pub steps : Steps seen may_leave faults limit is w new result
   pub safe : IsSafe limit s new
   pub tells : AllTell seen w ↔ AllTell seen new
@@ -128,7 +128,7 @@ LocStands bytes d = LocStandFor (whole_records bytes) d
 
 -- the disk of the server of this number stands for such a part, of the capacity that the disk has; and so does the database's
 abbrev pub IsStanding : {D : Type 0} → (D → Option (List ℕ)) → (D → ℕ) → NodeCell → ℕ → D → Type 0
-IsStanding {D} seen limit c i disk = (bytes : List ℕ) → seen disk ≡ Some bytes → (d : Durable) × (MayBeRead c i d × (Stands bytes d × (d.capacity ≡ limit disk)))
+IsStanding {D} seen limit c i disk = (bytes : List ℕ) → seen disk ≡ Some bytes → (d : Durable) × (MayBeRead c i d × (StandsForVolumes bytes d × (d.capacity ≡ limit disk)))
 
 abbrev pub IsStandingAtLoc : {D : Type 0} → (D → Option (List ℕ)) → (D → ℕ) → NodeCell → D → Type 0
 IsStandingAtLoc {D} seen limit c disk = (bytes : List ℕ) → seen disk ≡ Some bytes → (d : LocDurable) × (MayBeReadAtLoc c d × (LocStands bytes d × (d.capacity ≡ limit disk)))
@@ -152,7 +152,7 @@ abbrev pub HasPlayedAll : {D : Type 0} → (D → Option (List ℕ)) → (D → 
 HasPlayedAll {D} seen may_leave faults limit s w = HasPlayed seen may_leave faults limit (AreInputs (first_turn s) (events_of s)) s w
 
 abbrev pub HasPlayedFirst : {D : Type 0} → (D → Option (List ℕ)) → (D → List ℕ → Type 0) → (D → ℕ) → (D → ℕ) → Script → WorldState D → Type 0
-HasPlayedFirst {D} seen may_leave faults limit s w = HasPlayed seen may_leave faults limit (AreFirst (first_turn s) (events_of s)) s w × (length w.history ≡ most_entries)
+HasPlayedFirst {D} seen may_leave faults limit s w = HasPlayed seen may_leave faults limit (AreFirst (first_turn s) (events_of s)) s w × (length w.history ≡ most_history_entries)
 
 -- the first of them, however many
 abbrev pub HasPlayedSome : {D : Type 0} → (D → Option (List ℕ)) → (D → List ℕ → Type 0) → (D → ℕ) → (D → ℕ) → Script → WorldState D → Type 0

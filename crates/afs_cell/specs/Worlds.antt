@@ -4,19 +4,19 @@ use Rattle.afs_num.specs.declared.histories.Actor.{Actor}
 use Rattle.afs_num.specs.declared.histories.Actor.TheVariants as actors
 use Rattle.afs_num.specs.declared.types.Node.TheVariants.{Loc, Server}
 use Rattle.afs_num.specs.declared.types.Parcel.{Parcel}
-use Rattle.afs_history.specs.declared.lines.Entry as kept
-use Rattle.afs_history.specs.declared.scripts.Script.{Script}
+use Rattle.spec_history.specs.declared.lines.Entry as kept
+use Rattle.spec_history.specs.declared.scripts.Script.{Script}
 use Rattle.afs_grammar.specs.CellScripts.{IsCellScript}
-use Rattle.afs_model.specs.Messages.{messages_spelled, parcels_read}
-use Rattle.afs_copyrows.specs.Sites.{CopyState}
-use Rattle.afs_adminrows.specs.AdminRow.{AdminState}
-use Rattle.afs_rows.specs.Runs.{gives, starts_again, Entry, locations}
-use Rattle.afs_runs.specs.NodeRuns.{bare_entry, node_start, usual, CellInput, NodeCell, NodeLeads}
-use Rattle.afs_rows.specs.Hosts.{fails_early, fails_midway, gives_out}
+use Rattle.spec_model.specs.Messages.{messages_spelled, parcels_read}
+use Rattle.spec_copyrows.specs.Sites.{CopyState}
+use Rattle.spec_adminrows.specs.AdminRow.{AdminState}
+use Rattle.spec_rows.specs.Runs.{gives, starts_again, Entry, locations}
+use Rattle.spec_runs.specs.NodeRuns.{bare_entry, node_start, usual, CellInput, NodeCell, NodeLeads}
+use Rattle.spec_rows.specs.Hosts.{fails_early, fails_midway, gives_out}
 use Rattle.afs_host.specs.LocSeated.{loc_seat_disk, DatabaseSeat, IsLocHost, IsLocReadySeat}
 use Rattle.afs_serverhost.specs.Seated.{seat_disk, IsHost, IsReadySeat, ServerSeat}
 use Rattle.afs_clients.specs.Places.{Each}
-use Rattle.afs_text.specs.Telling.{told, sent_by, AreRead}
+use Rattle.afs_text.specs.Telling.{entries_as_told, sent_by, AreRead}
 use Rattle.afs_clients.specs.declared.clients.ClientSeat.{ClientSeat}
 use Rattle.afs_clients.specs.Seating.{IsHanded}
 use Rattle.afs_admins.specs.Seating.{IsSeated}
@@ -108,22 +108,22 @@ abbrev pub Counts : {D : Type 0} → (D → ℕ) → (ℕ → ℕ) → WorldStat
 Counts {D} faults own w = IsCounted (own 0) (faults (loc_seat_disk w.database)) × Each (λ (i : ℕ) (s : ServerSeat D). IsCounted (own i) (faults (seat_disk s))) w.servers
 
 -- the disk of a node fails by itself with this input
-abbrev pub falls : CellInput → ℕ
-falls (usual (gives place (gives_out call))) = 1
-falls (usual (starts_again i after fails_early)) = 1
-falls (usual (starts_again i after fails_midway)) = 1
-falls x = 0
+abbrev pub own_failures : CellInput → ℕ
+own_failures (usual (gives place (gives_out call))) = 1
+own_failures (usual (starts_again i after fails_early)) = 1
+own_failures (usual (starts_again i after fails_midway)) = 1
+own_failures x = 0
 
 -- Whether this is a node with a disk, and another than that of this number. The database has number 0.
-abbrev pub is_other : ℕ → Actor → Bool
-is_other i (actors.Node Loc) = not (nat_eq 0 i)
-is_other i (actors.Node (Server j)) = not (nat_eq j i)
-is_other i actor = false
+abbrev pub is_other_node : ℕ → Actor → Bool
+is_other_node i (actors.Node Loc) = not (nat_eq 0 i)
+is_other_node i (actors.Node (Server j)) = not (nat_eq j i)
+is_other_node i actor = false
 
 -- The disk of the node of this number fails by itself with this input, which made this entry. Where the entry is of no node with a disk,
 -- such a failure counts for each.
 abbrev pub falls_at : ℕ → CellInput → Entry → ℕ
-falls_at i x e = if is_other i e.actor then 0 else falls x
+falls_at i x e = if is_other_node i e.actor then 0 else own_failures x
 
 -- how often it failed by itself with these inputs, each of which made an entry
 abbrev pub own_falls : ℕ → List CellInput → List Entry → ℕ
@@ -132,8 +132,8 @@ own_falls i xs es = 0
 
 -- ---- what every world is, between any two of its steps
 
-abbrev pub most_entries : ℕ
-most_entries = 4194304
+abbrev pub most_history_entries : ℕ
+most_history_entries = 4194304
 
 abbrev pub most_ticks : ℕ
 most_ticks = 1000000000
@@ -151,7 +151,7 @@ pub record IsSafe {D : Type 0} (limit : D → ℕ) (s : Script) (w : WorldState 
   pub admins : w.is_lost ≡ false → Each (λ (n : ℕ) (seat : AdminSeat). IsReadyAdmin s n (length w.history) seat) w.admins
   pub disks : AllHold limit s.capacity w
   pub sent : sent_by w.history ≡ length w.wire
-  pub entries : length w.history ≤ most_entries
+  pub entries : length w.history ≤ most_history_entries
   pub ticks : w.clock ≤ most_ticks
 
 -- These inputs lead from the script's set-up through a history to this cell, and the world stands for it. What the world tells is that
@@ -159,10 +159,10 @@ pub record IsSafe {D : Type 0} (limit : D → ℕ) (s : Script) (w : WorldState 
 pub record Runs {D : Type 0} (seen : D → Option (List ℕ)) (may_leave : D → List ℕ → Type 0) (faults limit : D → ℕ) (s : Script) (w : WorldState D) (inputs : List CellInput) (cell : NodeCell) : Type 0 where
   pub history : List Entry
   pub leads : NodeLeads (node_start s) inputs history cell
-  pub tells : map bare_entry history ≡ told w.wire w.history
+  pub tells : map bare_entry history ≡ entries_as_told w.wire w.history
   pub read : AreRead w.wire
   pub cell_is : w.is_lost ≡ false → IsCell seen may_leave limit w cell
-  pub counts : Counts faults (λ (i : ℕ). own_falls i inputs (told w.wire w.history)) w
+  pub counts : Counts faults (λ (i : ℕ). own_falls i inputs (entries_as_told w.wire w.history)) w
 
 pub record HasRun {D : Type 0} (seen : D → Option (List ℕ)) (may_leave : D → List ℕ → Type 0) (faults limit : D → ℕ) (s : Script) (w : WorldState D) : Type 0 where
   pub inputs : List CellInput

@@ -2,7 +2,7 @@
 
 ghost use Rattle.std.specs.Prelude.{◌≡◌, ◌≤◌, [], ◌∷◌, ℕ, IfNone};
 ghost use Rattle.afs_num.specs.declared.types.Node.TheVariants.{Loc};
-ghost use Rattle.afs_history.specs.declared.lines.Line.TheVariants as lines;
+ghost use Rattle.spec_history.specs.declared.lines.Line.TheVariants as lines;
 ghost use Rattle.afs_host.specs.declared.seats.Seat.TheVariants as seat;
 ghost use Rattle.afs_host.specs.LocSeated.{loc_seat_disk};
 ghost use Rattle.afs_clients.specs.Happening.{IsDueAtLoc};
@@ -13,11 +13,11 @@ ghost use Rattle.afs_cell.specs.DatabaseSteps.{HasLocHeard, HasLocStep, IsLocFal
 use afs_clients::happening::{DatabaseInput, Happened};
 use afs_clients::telling::told_alone;
 use afs_disk::Disk;
-use afs_history::lines::{Line, Outs};
 use afs_host::{DatabaseRunning, DatabaseSeat, Resting, Seat, Start};
 use afs_num::sequences::Sequence;
 use afs_num::types::Node;
 use afs_server_parts::faults::NodeFault;
+use spec_history::lines::{Line, Outs};
 use std::alloc::Global;
 
 /// The database is given a message, if it is up. `None` where its disk ended the step: then it is to fall.

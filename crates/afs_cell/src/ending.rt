@@ -1,9 +1,10 @@
 //! The end of a cell's run: its disks, and what they keep.
 
+ghost use Rattle.afs_lending.specs.Lending.{AreLent};
 ghost use Rattle.std.specs.Prelude.{◌≡◌, ◌≤◌, ◌+◌, [], false, IfErr, IfOk};
 ghost use Rattle.std.specs.Vec.{vec_capacity};
 ghost use Rattle.afs_final.specs.Reading.{AreFound};
-ghost use Rattle.afs_cell.specs.Lends.{disks_of, lent_from, AreLent};
+ghost use Rattle.afs_cell.specs.Lends.{disks_of, lent_from};
 ghost use Rattle.afs_cell.specs.Since.{IsWorldSince, StandsSince};
 ghost use Rattle.afs_host.specs.LocSeated.{loc_seat_disk};
 

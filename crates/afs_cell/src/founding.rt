@@ -7,12 +7,12 @@ ghost use Rattle.afs_cell.specs.Founding.{IsFirstDatabase, IsLocRefused};
 use crate::faults::SetupFault;
 use crate::seating::refusal;
 use afs_disk::{Disk, Fuse};
-use afs_history::scripts::Script;
 use afs_host::{DatabaseRunning, Running};
-use afs_law::laws::loc_set_ups_are_first;
 use afs_locdb::LocDb;
 use afs_num::types::Node;
-use afs_scripts::laws::{loc_set_ups_are_accepted, numbers_ascend};
+use law_legal::laws::loc_set_ups_are_first;
+use law_scripts::laws::{loc_set_ups_are_accepted, numbers_ascend};
+use spec_history::scripts::Script;
 use std::alloc::Global;
 
 /// The location database with an entry for each volume of the script, over a disk that is cut to nothing. A refusal hands the disk

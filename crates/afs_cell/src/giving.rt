@@ -2,7 +2,7 @@
 
 ghost use Rattle.std.specs.Prelude.{◌≤◌, ℕ, [], ◌∷◌};
 ghost use Rattle.afs_num.specs.declared.types.Node.TheVariants.{Server};
-ghost use Rattle.afs_history.specs.declared.lines.Line.TheVariants as lines;
+ghost use Rattle.spec_history.specs.declared.lines.Line.TheVariants as lines;
 ghost use Rattle.afs_clients.specs.Happening.{IsDue, IsDueAtLoc};
 ghost use Rattle.afs_cell.specs.DatabaseHearing.{LocLeavesPick};
 ghost use Rattle.afs_cell.specs.DatabaseSteps.{HasLocHeard, HasLocStep, IsLocFallen, IsVoidAtLoc, LocTakes};

@@ -18,12 +18,12 @@ use crate::setup::set_up;
 use crate::world::World;
 use afs_command::statuses::Status;
 use afs_disk::{Bank, Disk, Disks, Place};
-use afs_history::scripts::Script;
 use afs_lending::telling::{give_up, returned, status_of_lend};
 use afs_lending::{give_back_all, lend_all};
 use afs_outside::outside::{Failed, Sink};
 use afs_summary::counts::{Counts, counted_on};
 use afs_summary::summary::{Summary, put_summary};
+use spec_history::scripts::Script;
 use std::alloc::Global;
 
 /// How a script was played: to its end; as far as a history may go, and an event is left; or memory ran out.

@@ -2,7 +2,7 @@
 
 ghost use Rattle.std.specs.Prelude.{◌≡◌, ◌≤◌, []};
 ghost use Rattle.afs_schedule.specs.Schedules.{events_of};
-ghost use Rattle.afs_schedule.specs.Settled.{settled};
+ghost use Rattle.afs_schedule.specs.Settled.{places_settled};
 ghost use Rattle.afs_schedule.specs.Taking.{IsLeft};
 ghost use Rattle.afs_cell.specs.Since.{Keeps};
 ghost use Rattle.afs_cell.specs.UnderWaySince.{GoesSoSince, IsUnderWaySince};
@@ -11,8 +11,8 @@ ghost use Rattle.afs_cell.specs.Worlds.{AllTell};
 use crate::faults::WorldFault;
 use crate::world::World;
 use afs_disk::Disk;
-use afs_history::scripts::{Event, Script};
 use afs_schedule::Schedule;
+use spec_history::scripts::{Event, Script};
 
 /// How the next event went: it was played; none is left; one is, and the history is as long as one may be; or memory was wanting.
 #[derive(Clone, Copy, Debug)]
@@ -44,10 +44,10 @@ impl<'a, D: Disk> World<'a, D> {
     /// Plays the next event of its schedule.
     pub fn play_next(&mut self, schedule: &mut Schedule) -> Played
         requires way { IsUnderWaySince D.seen D.may_leave D.faults D.limit self.old schedule.old }
-        requires settled { self.old.gone.messages ≤ settled schedule.old }
+        requires settled { self.old.gone.messages ≤ places_settled schedule.old }
         ensures goes { GoesSoSince D.seen D.may_leave D.faults D.limit self.old self.new schedule.old schedule.new result }
         ensures keeps { Keeps self.old self.new }
-        ensures settled { settled schedule.old ≤ settled schedule.new }
+        ensures settled { places_settled schedule.old ≤ places_settled schedule.new }
         ensures tells { AllTell D.seen self.old → AllTell D.seen self.new }
     {
         let Ok(next) = schedule.next(self.sent()) else {

@@ -4,9 +4,9 @@ ghost use Rattle.std.specs.Prelude.{◌≡◌, ◌≤◌, ◌+◌, ℕ, List, Bo
 ghost use Rattle.afs_grammar.specs.CellScripts.{IsCellScript};
 ghost use Rattle.afs_cell.specs.Since.{whole, IsWorldSince};
 ghost use Rattle.afs_cell.specs.Steps.{HasPlayedAll, HasPlayedFirst, HasPlayedSome};
-ghost use Rattle.afs_cell.specs.Lends.{AreLent, LentTell};
-ghost use Rattle.afs_cell.specs.Worlds.{most_entries, AllTell, HistoryTold};
-ghost use Rattle.afs_lending.specs.Lending.{AreUnused};
+ghost use Rattle.afs_cell.specs.Lends.{LentTell};
+ghost use Rattle.afs_cell.specs.Worlds.{most_history_entries, AllTell, HistoryTold};
+ghost use Rattle.afs_lending.specs.Lending.{AreUnused, AreLent};
 ghost use Rattle.afs_command.specs.Spans.{span};
 ghost use Rattle.afs_cell.specs.Refusing.{set_up_status};
 ghost use Rattle.afs_cell.specs.Writing.{IsWritten};
@@ -18,10 +18,10 @@ use crate::world::World;
 use crate::writing::{Ended, Told, play};
 use afs_command::statuses::Status;
 use afs_disk::{Bank, Disk, Disks, LendFault, Place};
-use afs_history::scripts::Script;
 use afs_lending::telling::{give_up, put_no_more, returned, status_of_lend, tell_left, tell_none};
 use afs_lending::{give_back, lend_all};
 use afs_outside::outside::{Failed, Sink};
+use spec_history::scripts::Script;
 use std::alloc::Global;
 
 /// The status where the cell wasn't set up.
@@ -69,7 +69,7 @@ fn cut<K: Sink, B: Bank<D: Drop>>(
 ) -> Status
     requires world { IsWorldSince B.D.seen B.D.may_leave B.D.faults B.D.limit world }
     requires going { world.is_lost ≡ false }
-    requires full { world.gone.entries + length world.history ≡ most_entries }
+    requires full { world.gone.entries + length world.history ≡ most_history_entries }
     ensures ends { (wire : Bool) (start : Option (List ℕ)) (count : ℕ) (gone : HistoryTold) → IsWritten B.D.seen B.D.may_leave B.D.faults B.D.limit wire start count gone world.entry (K.held sink.old) (K.faults sink.old) written → EndsRun world.entry.script wire (AllTell B.D.seen world.entry × HasPlayedFirst B.D.seen B.D.may_leave B.D.faults B.D.limit world.entry.script (whole gone world.entry)) ⊥ (record { sink = span start (K.held sink.new); passed = K.passed sink.new; lends = span (B.lends bank.old) (B.lends bank.new); given = span (B.given bank.old) (B.given bank.new); sink_faults = span count (K.faults sink.new); bank_faults = span (B.faults bank.old) (B.faults bank.new); disk_faults = λ (n : ℕ). span (B.lent_faults bank.old n) (B.lent_faults bank.new n) }) result }
     ensures lends { B.lends bank.new ≡ B.lends bank.old }
     ensures never_falls { B.faults bank.old ≤ B.faults bank.new }

@@ -7,24 +7,24 @@ ghost use Rattle.afs_host.specs.declared.seats.Seat.TheVariants.{Up};
 ghost use Rattle.afs_cell.specs.Ends.{AreAllLeft, AreLeft, IsRefused};
 ghost use Rattle.afs_cell.specs.FirstSeats.{AreFirstHosts, AreFirstSeats, IsFirstServer, IsFirstStore, IsRefusedAt};
 ghost use Rattle.afs_cell.specs.Refusing.{refused_as, HaveRoom};
-ghost use Rattle.afs_cell.specs.Lends.{AreLent};
+ghost use Rattle.afs_lending.specs.Lending.{AreLent};
 
 use crate::disks::{give, give_back, give_rest};
 use crate::faults::SetupFault;
 use crate::founding::database_at_first;
 use afs_clients::setup::lines_at;
 use afs_disk::{Disk, Disks, Fuse, Lent};
-use afs_history::scripts::Script;
 use afs_host::{DatabaseRunning, Seat};
-use afs_law::laws::set_ups_are_first;
 use afs_node::ServerNode;
 use afs_num::faults::StoreFault;
 use afs_num::types::{Mem, Node};
-use afs_scripts::laws::{numbers_ascend, set_ups_are_accepted};
 use afs_serverhost::server::over;
 use afs_serverhost::{ServerRunning, ServerSeat};
 use afs_setup::create;
 use afs_volstore::VolStore;
+use law_legal::laws::set_ups_are_first;
+use law_scripts::laws::{numbers_ascend, set_ups_are_accepted};
+use spec_history::scripts::Script;
 use std::alloc::{AllocError, Global};
 
 // ---- one server

@@ -3,7 +3,7 @@
 ghost use Rattle.std.specs.Prelude.{◌≡◌, ◌≤◌, [], ◌∷◌, ℕ, IfNone};
 ghost use Rattle.afs_num.specs.Nodes.{IsNode};
 ghost use Rattle.afs_num.specs.declared.types.Node.{Node as N};
-ghost use Rattle.afs_history.specs.declared.lines.Line.TheVariants as lines;
+ghost use Rattle.spec_history.specs.declared.lines.Line.TheVariants as lines;
 ghost use Rattle.afs_host.specs.declared.seats.Seat.TheVariants as seat;
 ghost use Rattle.afs_clients.specs.Happening.{IsDue};
 ghost use Rattle.afs_cell.specs.SeatSteps.{CanStep, GaveOut, HasHeard, HasStep, IsFallen, IsSeatOf, IsVoidServer, SeatGoes, SeatHappens, SeatKeeps};
@@ -16,12 +16,12 @@ ghost use Rattle.afs_clients.specs.declared.happening.ServerInput.TheVariants as
 use afs_clients::happening::{Happened, ServerInput};
 use afs_clients::telling::told_alone;
 use afs_disk::Disk;
-use afs_history::lines::{Line, Outs};
 use afs_host::{Resting, Seat, Start};
 use afs_num::sequences::Sequence;
 use afs_num::types::{Node, Parcels};
 use afs_server_parts::faults::NodeFault;
 use afs_serverhost::{ServerRunning, ServerSeat, server, serving, starting};
+use spec_history::lines::{Line, Outs};
 use std::alloc::Global;
 
 /// What a server's step gave out, with the messages that go behind it. Where memory is wanting for that it can't be told.

@@ -1,10 +1,11 @@
 //! A cell at set-up.
 
+ghost use Rattle.afs_lending.specs.Lending.{AreLent};
 ghost use Rattle.std.specs.Prelude.{◌≡◌, ◌<◌, ◌+◌, ◌↔◌, length, IfErr, IfOk};
 ghost use Rattle.afs_grammar.specs.CellScripts.{IsCellScript};
 ghost use Rattle.afs_cell.specs.Ends.{AreAllLeft, IsRefused};
 ghost use Rattle.afs_cell.specs.Steps.{IsFirst};
-ghost use Rattle.afs_cell.specs.Lends.{AreLent, LentTell};
+ghost use Rattle.afs_cell.specs.Lends.{LentTell};
 ghost use Rattle.afs_cell.specs.Worlds.{AllTell, IsWorld};
 
 use crate::faults::SetupFault;
@@ -14,9 +15,9 @@ use afs_admins::setup::admins_at_first;
 use afs_clients::places::Places;
 use afs_clients::setup::clients_at_first;
 use afs_disk::{Disk, Disks};
-use afs_history::scripts::Script;
 use afs_host::Seat;
 use afs_wire::Wire;
+use spec_history::scripts::Script;
 use std::alloc::Global;
 
 /// The cell of a script over these disks, the location database's and one for each server, in order of number. A refusal hands all disks

@@ -2,17 +2,17 @@
 
 ghost use Rattle.std.specs.Prelude.{◌≡◌, ◌≤◌, ◌<◌, ◌+◌, ◌-◌, ◌^◌, ◌↔◌, [], drop, None, Some, Ok, Err, false, true, length, ℕ};
 ghost use Rattle.afs_num.specs.declared.types.Node.TheVariants.{Loc, Server};
-ghost use Rattle.afs_history.specs.declared.scripts.Event.TheVariants as events;
+ghost use Rattle.spec_history.specs.declared.scripts.Event.TheVariants as events;
 ghost use Rattle.afs_grammar.specs.CellScripts.{counts_of, FitsEvent};
 ghost use Rattle.afs_grammar.specs.Lines.{ticks_of};
 ghost use Rattle.afs_schedule.specs.Schedules.{IsInput};
-ghost use Rattle.afs_clients.specs.Happening.{IsAsked, IsAskedOfAdmin, IsDue, IsDueAtLoc, IsGiven, IsGivenToLoc};
+ghost use Rattle.afs_clients.specs.Happening.{IsBegunOrGiven, IsAskedOfAdmin, IsDue, IsDueAtLoc, IsGiven, IsGivenToLoc};
 ghost use Rattle.afs_cell.specs.DatabaseHearing.{IsPickedAtLoc};
 ghost use Rattle.afs_cell.specs.Happening.{NothingSettles, Settles};
 ghost use Rattle.afs_cell.specs.Noting.{given_line, Notes};
 ghost use Rattle.afs_cell.specs.Picks.{IsPicked};
 ghost use Rattle.afs_cell.specs.Since.{DeliversKept, GoesOnSince, IsSafeSince, IsWorldSince, Keeps, LetsGo, PlaysSince, SteppedSince, StepsSince};
-ghost use Rattle.afs_cell.specs.Worlds.{most_entries, most_ticks, AllTell, Counts};
+ghost use Rattle.afs_cell.specs.Worlds.{most_history_entries, most_ticks, AllTell, Counts};
 ghost use Rattle.afs_cell.specs.declared.faults.WorldFault.TheVariants as faults;
 ghost use Rattle.afs_clients.specs.declared.happening.Happened.TheVariants as happened;
 ghost use Rattle.afs_clients.specs.declared.happening.DatabaseInput.TheVariants as database;
@@ -29,13 +29,13 @@ use afs_clients::happening::{AdminInput, ClientInput, DatabaseInput, Happened, S
 use afs_clients::places::Places;
 use afs_clients::telling::{one_line, tell};
 use afs_disk::{Disk, Lent};
-use afs_history::lines::{Entry, Line, Outs};
-use afs_history::scripts::{Event, Script};
 use afs_host::DatabaseSeat;
 use afs_num::histories::Actor;
 use afs_num::types::{Node, Parcel};
 use afs_serverhost::ServerSeat;
 use afs_wire::Wire;
+use spec_history::lines::{Entry, Line, Outs};
+use spec_history::scripts::{Event, Script};
 use std::alloc::Global;
 use std::marker::Model;
 
@@ -163,7 +163,7 @@ impl<'a, D: Disk> World<'a, D> {
     fn serve(&mut self, server: u8, given: ServerInput) -> Result<(), WorldFault>
         requires safe { IsSafeSince D.limit self.old }
         requires going { self.old.is_lost ≡ false }
-        requires few { self.old.gone.entries + length self.old.history < most_entries }
+        requires few { self.old.gone.entries + length self.old.history < most_history_entries }
         requires due { IsDue given }
         ensures stepped { SteppedSince D.seen D.may_leave D.faults D.limit (λ t. IsGiven server given t) self.old self.new result }
         ensures keeps { Keeps self.old self.new }
@@ -185,7 +185,7 @@ impl<'a, D: Disk> World<'a, D> {
     fn serve_database(&mut self, given: DatabaseInput) -> Result<(), WorldFault>
         requires safe { IsSafeSince D.limit self.old }
         requires going { self.old.is_lost ≡ false }
-        requires few { self.old.gone.entries + length self.old.history < most_entries }
+        requires few { self.old.gone.entries + length self.old.history < most_history_entries }
         requires due { IsDueAtLoc given }
         ensures stepped { SteppedSince D.seen D.may_leave D.faults D.limit (λ t. IsGivenToLoc given t) self.old self.new result }
         ensures keeps { Keeps self.old self.new }
@@ -200,9 +200,9 @@ impl<'a, D: Disk> World<'a, D> {
     fn ask(&mut self, client: u8, given: ClientInput) -> Result<(), WorldFault>
         requires safe { IsSafeSince D.limit self.old }
         requires going { self.old.is_lost ≡ false }
-        requires few { self.old.gone.entries + length self.old.history < most_entries }
+        requires few { self.old.gone.entries + length self.old.history < most_history_entries }
         requires inside { (1 ≤ client) × (client ≤ self.old.script.clients) }
-        ensures stepped { SteppedSince D.seen D.may_leave D.faults D.limit (IsAsked given client) self.old self.new result }
+        ensures stepped { SteppedSince D.seen D.may_leave D.faults D.limit (IsBegunOrGiven given client) self.old self.new result }
         ensures keeps { Keeps self.old self.new }
         ensures clock { self.new.clock ≡ self.old.clock }
     {
@@ -221,7 +221,7 @@ impl<'a, D: Disk> World<'a, D> {
     fn order(&mut self, admin: u8, given: AdminInput) -> Result<(), WorldFault>
         requires safe { IsSafeSince D.limit self.old }
         requires going { self.old.is_lost ≡ false }
-        requires few { self.old.gone.entries + length self.old.history < most_entries }
+        requires few { self.old.gone.entries + length self.old.history < most_history_entries }
         requires inside { (1 ≤ admin) × (admin ≤ self.old.script.admins) }
         ensures stepped { SteppedSince D.seen D.may_leave D.faults D.limit (IsAskedOfAdmin given admin) self.old self.new result }
         ensures keeps { Keeps self.old self.new }
@@ -236,7 +236,7 @@ impl<'a, D: Disk> World<'a, D> {
         requires kept { self.old.gone.messages < place }
         requires safe { IsSafeSince D.limit self.old }
         requires going { self.old.is_lost ≡ false }
-        requires few { self.old.gone.entries + length self.old.history < most_entries }
+        requires few { self.old.gone.entries + length self.old.history < most_history_entries }
         ensures stepped { SteppedSince D.seen D.may_leave D.faults D.limit (λ t. IsInput t (events.Deliver place)) self.old self.new result }
         ensures keeps { Keeps self.old self.new }
         ensures clock { self.new.clock ≡ self.old.clock }
@@ -281,7 +281,7 @@ impl<'a, D: Disk> World<'a, D> {
     fn tick(&mut self, ticks: u32) -> Result<(), WorldFault>
         requires safe { IsSafeSince D.limit self.old }
         requires going { self.old.is_lost ≡ false }
-        requires few { self.old.gone.entries + length self.old.history < most_entries }
+        requires few { self.old.gone.entries + length self.old.history < most_history_entries }
         requires some { 1 ≤ ticks }
         requires within { self.old.clock + ticks ≤ most_ticks }
         ensures stepped { SteppedSince D.seen D.may_leave D.faults D.limit (λ t. IsInput t (events.Tick ticks)) self.old self.new result }
@@ -299,7 +299,7 @@ impl<'a, D: Disk> World<'a, D> {
     fn play_event(&mut self, event: Event) -> Result<(), WorldFault>
         requires safe { IsSafeSince D.limit self.old }
         requires going { self.old.is_lost ≡ false }
-        requires few { self.old.gone.entries + length self.old.history < most_entries }
+        requires few { self.old.gone.entries + length self.old.history < most_history_entries }
         requires fits { FitsEvent (counts_of self.old.script) event }
         requires one { event ≡ events.Drain → ⊥ }
         requires kept { DeliversKept self.old event }
@@ -321,9 +321,9 @@ impl<'a, D: Disk> World<'a, D> {
 
     /// Whether the history is as long as one may be.
     fn is_full(&self) -> bool
-        requires { self.now.gone.entries + length self.now.history ≤ most_entries }
-        ensures full { result ≡ true → self.now.gone.entries + length self.now.history ≡ most_entries }
-        ensures room { result ≡ false → self.now.gone.entries + length self.now.history < most_entries }
+        requires { self.now.gone.entries + length self.now.history ≤ most_history_entries }
+        ensures full { result ≡ true → self.now.gone.entries + length self.now.history ≡ most_history_entries }
+        ensures room { result ≡ false → self.now.gone.entries + length self.now.history < most_history_entries }
     {
         self.gone.entries + self.history.len() as u64 == MOST_ENTRIES
     }
@@ -343,7 +343,7 @@ impl<'a, D: Disk> World<'a, D> {
         ensures counts { (own : ℕ → ℕ) → Counts D.faults own self.old → Counts D.faults own self.new }
         ensures clock { self.new.clock ≤ self.old.clock + ticks_of event.now }
         ensures lost { self.old.is_lost ≡ true → (result ≡ Err faults.OutOfMemory) × (self.new ≡ self.old) }
-        ensures full { self.old.is_lost ≡ false → self.old.gone.entries + length self.old.history ≡ most_entries → (result ≡ Err faults.Limit) × (self.new ≡ self.old) }
+        ensures full { self.old.is_lost ≡ false → self.old.gone.entries + length self.old.history ≡ most_history_entries → (result ≡ Err faults.Limit) × (self.new ≡ self.old) }
         ensures picked { (i pick : ℕ) → event.now ≡ events.CrashDisk (Server i) pick → IsPicked D.seen D.left_by i pick self.old.servers self.new.servers result }
         ensures picked_at_loc { (pick : ℕ) → event.now ≡ events.CrashDisk Loc pick → IsPickedAtLoc D.seen D.left_by pick self.old.database self.new.database result }
     {
@@ -390,7 +390,7 @@ impl<'a, D: Disk> World<'a, D> {
 
     /// The entries of the history are let go, and messages of the first places, which no event delivers any more. It takes no memory.
     pub fn let_go(&mut self, settled: u64)
-        requires few { self.old.gone.entries + length self.old.history ≤ most_entries }
+        requires few { self.old.gone.entries + length self.old.history ≤ most_history_entries }
         ensures { LetsGo settled self.old self.new }
     {
         self.gone = Gone {

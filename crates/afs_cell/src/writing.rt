@@ -2,10 +2,10 @@
 
 ghost use Rattle.std.specs.Prelude.{◌≡◌, ◌≤◌, ◌+◌, ◌-◌, drop, length};
 ghost use Rattle.afs_cell.specs.Steps.{IsFirst};
-ghost use Rattle.afs_cell.specs.Worlds.{most_entries, AllTell, IsWorld};
+ghost use Rattle.afs_cell.specs.Worlds.{most_history_entries, AllTell, IsWorld};
 ghost use Rattle.afs_text.specs.KeptText.{kept_entries_text};
 ghost use Rattle.afs_text.specs.Telling.{sent_by};
-ghost use Rattle.afs_cell.specs.Writing.{IsTold};
+ghost use Rattle.afs_cell.specs.Writing.{HistoryIsWritten};
 ghost use Rattle.afs_lending.specs.Behind.{PutsBehind};
 
 use crate::playing::Played;
@@ -39,7 +39,7 @@ fn put_next<K: Sink, D: Disk>(
     wire: bool,
     written: Result<(), Failed>,
 ) -> Result<(), Failed>
-    requires few { world.now.gone.entries + length world.now.history ≤ most_entries }
+    requires few { world.now.gone.entries + length world.now.history ≤ most_history_entries }
     requires all { world.now.gone.sent + sent_by world.now.history ≡ world.now.gone.messages + length world.now.wire }
     ensures { PutsBehind (kept_entries_text wire (world.now.gone.entries + 1) (world.now.gone.sent + 1) (drop (world.now.gone.sent - world.now.gone.messages) world.now.wire) world.now.history) (K.held sink.old) (K.held sink.new) (K.faults sink.old) (K.faults sink.new) written result }
 {
@@ -66,7 +66,7 @@ pub(crate) fn play<'a, K: Sink, D: Disk>(
 ) -> Told<World<'a, D>>
     requires world { IsWorld D.seen D.may_leave D.faults D.limit world.script world }
     requires first { IsFirst D.seen D.may_leave D.limit world.script world }
-    ensures { IsTold D.seen D.may_leave D.faults D.limit world.entry.script wire (AllTell D.seen world.entry) (K.held sink.old) (K.held sink.new) (K.faults sink.old) (K.faults sink.new) result }
+    ensures { HistoryIsWritten D.seen D.may_leave D.faults D.limit world.entry.script wire (AllTell D.seen world.entry) (K.held sink.old) (K.held sink.new) (K.faults sink.old) (K.faults sink.new) result }
 {
     let mut world = world;
     let mut schedule = world.schedule();

@@ -4,9 +4,9 @@ use Rattle.std.specs.Option.{option_map}
 use Rattle.afs_num.specs.declared.acls.AccessList.{AccessList}
 use Rattle.afs_num.specs.declared.directories.Name.{Name}
 use Rattle.afs_num.specs.declared.vnodes.Vnode as image
-use Rattle.afs_ideal.specs.AccessLists.{acl_at}
-use Rattle.afs_ideal.specs.Operations.{acl_read}
-use Rattle.afs_ideal.specs.Volumes.{Kind, a_directory, a_file, a_link, Vnode, amended, has_body, or_old, with_status}
+use Rattle.spec_ideal.specs.AccessLists.{acl_at}
+use Rattle.spec_ideal.specs.Operations.{acl_read}
+use Rattle.spec_ideal.specs.Volumes.{VnodeKind, a_directory, a_file, a_link, Vnode, amended, has_body, or_old, with_status}
 use Rattle.afs_changes.specs.Drawing.{HasOwn}
 use Rattle.afs_changes.specs.Planning.{amend_seen, list_given}
 use Rattle.afs_changes.specs.Images.{body_left, list_left, image_amended}
@@ -31,17 +31,17 @@ body_same None None = refl
 body_same None (Some bytes) = refl
 body_same (Some bytes) p = refl
 
-contents_left : (k : Kind) (c : ℕ) (a : Amend) (x : Vnode) (bytes : List ℕ) → x.contents ≡ contents_seen k bytes → HasOwn k (amended c (amend_seen a) x) → contents_seen k (body_left k a bytes) ≡ or_old a.contents x.contents
+contents_left : (k : VnodeKind) (c : ℕ) (a : Amend) (x : Vnode) (bytes : List ℕ) → x.contents ≡ contents_seen k bytes → HasOwn k (amended c (amend_seen a) x) → contents_seen k (body_left k a bytes) ≡ or_old a.contents x.contents
 contents_left a_directory c a x bytes is own = sym own
 contents_left a_file c a x bytes is own = rw is refl
 contents_left a_link c a x bytes is own = rw is refl
 
-names_left : (k : Kind) (c : ℕ) (a : Amend) (x : Vnode) (bytes : List ℕ) → x.names ≡ names_seen k bytes → HasOwn k (amended c (amend_seen a) x) → names_seen k (body_left k a bytes) ≡ or_old (option_map names_spelled a.names) x.names
+names_left : (k : VnodeKind) (c : ℕ) (a : Amend) (x : Vnode) (bytes : List ℕ) → x.names ≡ names_seen k bytes → HasOwn k (amended c (amend_seen a) x) → names_seen k (body_left k a bytes) ≡ or_old (option_map names_spelled a.names) x.names
 names_left a_directory c a x bytes is own = names_kept a.names bytes ∙ ap (λ (ns : List Name). or_old (option_map names_spelled a.names) ns) (sym is)
 names_left a_file c a x bytes is own = sym own.0
 names_left a_link c a x bytes is own = sym own.0
 
-acl_left : (k : Kind) (c : ℕ) (a : Amend) (x : Vnode) (text : List ℕ) → x.acl ≡ list_seen k text → HasOwn k (amended c (amend_seen a) x) → list_seen k (list_left k a text) ≡ or_old (list_given a.acl) x.acl
+acl_left : (k : VnodeKind) (c : ℕ) (a : Amend) (x : Vnode) (text : List ℕ) → x.acl ≡ list_seen k text → HasOwn k (amended c (amend_seen a) x) → list_seen k (list_left k a text) ≡ or_old (list_given a.acl) x.acl
 acl_left a_directory c a x text is own = list_kept a a.acl text refl ∙ ap (λ (l : AccessList). or_old (list_given a.acl) l) (sym is)
 acl_left a_file c a x text is own = sym own.1
 acl_left a_link c a x text is own = sym own.1

@@ -7,16 +7,16 @@ use Rattle.afs_num.specs.declared.calls.FsCall.{FsCall}
 use Rattle.afs_num.specs.declared.calls.FsReply.{FsReply}
 use Rattle.afs_num.specs.declared.types.Fid.{Fid}
 use Rattle.afs_num.specs.declared.volumes.Change.{Change}
-use Rattle.afs_ideal.specs.Operations.{Caller, changes, edit_fits, is_last_count, last_count, limits, op, IsOn}
-use Rattle.afs_ideal.specs.Replies.{change_reply, stamped, vnode_at}
-use Rattle.afs_ideal.specs.Soundness.{HasByKind, IsSound}
-use Rattle.afs_ideal.specs.Tables.{Table, get}
-use Rattle.afs_ideal.specs.Volumes.{Kind, a_directory, a_file, a_link, Vnode, Volume, Amend, Edit, amends, makes, frees, amended, amends_at, makes_at, frees_at, counted, edited, edited_all, fid_of}
-use Rattle.afs_ideal.proofs.Basics.{both}
-use Rattle.afs_ideal.proofs.Preserved.{operations_leave_sound}
-use Rattle.afs_ideal.proofs.Proper.{operations_change}
-use Rattle.afs_ideal.proofs.Scopes.{accepted, all_pass}
-use Rattle.afs_ideal.proofs.Tellings.{Finds, FindEach}
+use Rattle.spec_ideal.specs.Operations.{Caller, changes, edit_fits, is_last_count, last_count, limits, op, IsOn}
+use Rattle.spec_ideal.specs.Replies.{change_reply, stamped, vnode_at}
+use Rattle.spec_ideal.specs.Soundness.{HasByKind, IsSound}
+use Rattle.spec_ideal.specs.Tables.{Table, get}
+use Rattle.spec_ideal.specs.Volumes.{VnodeKind, a_directory, a_file, a_link, Vnode, Volume, Amend, Edit, amends, makes, frees, amended, amends_at, makes_at, frees_at, counted, edited, edited_all, fid_of}
+use Rattle.spec_ideal.proofs.Basics.{both}
+use Rattle.spec_ideal.proofs.Preserved.{operations_leave_sound}
+use Rattle.spec_ideal.proofs.Proper.{operations_change}
+use Rattle.spec_ideal.proofs.Scopes.{accepted, all_pass}
+use Rattle.spec_ideal.proofs.Tellings.{Finds, FindEach}
 use Rattle.afs_changes.specs.Changes.{after, IsChangeBy, RepliesBy}
 use Rattle.afs_changes.specs.Drafts.{numbers_shown, volume_drafted, IsLeftIn}
 use Rattle.afs_changes.specs.Drawing.{all_freed, all_left, all_told, before_edit, makes_vnode, shown_by, with_left, CanBeDrawn, HasOwn, IsLeft, StandsAt}
@@ -33,7 +33,7 @@ use Rattle.afs_changes.proofs.Left.{all_there, shown_left}
 
 -- ---- edits that can be drawn
 
-pub own_by : (k : Kind) (x : Vnode) → HasByKind k x → HasOwn k x
+pub own_by : (k : VnodeKind) (x : Vnode) → HasByKind k x → HasOwn k x
 own_by a_directory x h = h.contents
 own_by a_file x h = (h.names, h.acl)
 own_by a_link x h = (h.names, h.acl)

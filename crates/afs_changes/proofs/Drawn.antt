@@ -4,13 +4,13 @@ use Rattle.std.specs.Prelude.{not, nat_eq, is_some}
 use Rattle.std.specs.List.{list_any, AllByRecursion}
 use Rattle.std.specs.Option.{option_map}
 use Rattle.afs_num.specs.declared.histories.Version.{Version}
-use Rattle.afs_ideal.specs.Images.{Image, image_of}
-use Rattle.afs_ideal.specs.Replies.{vnode_or_none}
-use Rattle.afs_ideal.specs.Tables.{Table, get}
-use Rattle.afs_ideal.specs.Volumes.{Vnode, Volume, Amend, Edit, amends, makes, frees, amended, fresh, version_at, amends_at, makes_at, frees_at, edited, edited_all, versions_by, edit_number}
-use Rattle.afs_ideal.proofs.Looks.{one_edit, look, looks, Distinct, MakesAs, later_makes, same_next, next_all}
-use Rattle.afs_ideal.proofs.Tellings.{Finds, FindEach, AreAs, as_before, same_all}
-use Rattle.afs_records.specs.Changes.{image_left, images_left, gone_between, numbers_gone}
+use Rattle.spec_ideal.specs.Images.{Image, image_of}
+use Rattle.spec_ideal.specs.Replies.{vnode_or_none}
+use Rattle.spec_ideal.specs.Tables.{Table, get}
+use Rattle.spec_ideal.specs.Volumes.{Vnode, Volume, Amend, Edit, amends, makes, frees, amended, fresh, version_at, amends_at, makes_at, frees_at, edited, edited_all, versions_by, edit_number}
+use Rattle.spec_ideal.proofs.Looks.{one_edit, look, looks, Distinct, MakesAs, later_makes, same_next, next_all}
+use Rattle.spec_ideal.proofs.Tellings.{Finds, FindEach, AreAs, as_before, same_all}
+use Rattle.spec_records.specs.Changes.{image_left, images_left, gone_between, numbers_gone}
 use Rattle.afs_changes.specs.Drawing.{before_edit, after_edit, left_at, told_between, told_by, all_left, all_told, all_freed, makes_vnode, without, with_left}
 
 -- ---- each edit's vnode after all of them

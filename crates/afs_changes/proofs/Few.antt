@@ -2,13 +2,13 @@
 use Rattle.std.proofs.Common.{◌≡◌, ℕ, ◌+◌, ◌<◌, ◌≤◌, Bool, true, false, List, [], ◌∷◌, length, Option, Some, None, nat_eq, nat_lt, refl, sym, ◌∙◌, arith, ltb-true, if◌then◌else◌}
 use Rattle.std.specs.Prelude.{not, ◌||◌}
 use Rattle.std.specs.List.{list_all, list_any, AllByRecursion}
-use Rattle.afs_ideal.specs.Operations.{edit_fits}
-use Rattle.afs_ideal.specs.Tables.{Table, get, set, unset, AscendsFrom}
-use Rattle.afs_ideal.specs.VnodeMaps.{most_vnodes}
-use Rattle.afs_ideal.specs.Volumes.{Vnode, Volume, Amend, Edit, amends, makes, frees, amended, fresh, amends_at, makes_at, frees_at, edited, edited_all}
-use Rattle.afs_ideal.proofs.Basics.{both}
-use Rattle.afs_ideal.proofs.Looks.{IsNoMake, MakesAs, later_makes}
-use Rattle.afs_ideal.proofs.Tables.{get_below}
+use Rattle.spec_ideal.specs.Operations.{edit_fits}
+use Rattle.spec_ideal.specs.Tables.{Table, get, set, unset, AscendsFrom}
+use Rattle.spec_ideal.specs.VnodeMaps.{most_vnodes}
+use Rattle.spec_ideal.specs.Volumes.{Vnode, Volume, Amend, Edit, amends, makes, frees, amended, fresh, amends_at, makes_at, frees_at, edited, edited_all}
+use Rattle.spec_ideal.proofs.Basics.{both}
+use Rattle.spec_ideal.proofs.Looks.{IsNoMake, MakesAs, later_makes}
+use Rattle.spec_ideal.proofs.Tables.{get_below}
 use Rattle.afs_changes.specs.Drawing.{makes_vnode}
 use Rattle.afs_changes.proofs.Sums.{edit_order}
 

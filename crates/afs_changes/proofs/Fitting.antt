@@ -5,20 +5,20 @@ use Rattle.std.specs.List.{AllByRecursion}
 use Rattle.afs_num.specs.declared.calls.FsCall.{FsCall}
 use Rattle.afs_num.specs.declared.vnodes.Vnode as image
 use Rattle.afs_num.specs.declared.volumes.Change.{Change}
-use Rattle.afs_ideal.specs.Images.{image_of, value_of}
-use Rattle.afs_ideal.specs.Operations.{Caller, changes, op, IsOn}
-use Rattle.afs_ideal.specs.Soundness.{IsSound}
-use Rattle.afs_ideal.specs.Tables.{Table, get}
-use Rattle.afs_ideal.specs.VnodeImage.{FitsImage}
-use Rattle.afs_ideal.specs.VnodeMaps.{most_vnodes}
-use Rattle.afs_ideal.specs.Volumes.{Vnode, Edit, counted, edited_all}
-use Rattle.afs_ideal.proofs.Preserved.{operations_leave_sound}
-use Rattle.afs_ideal.proofs.Proper.{operations_change}
-use Rattle.afs_ideal.proofs.Looks.{Distinct, MakesAs}
-use Rattle.afs_ideal.proofs.Tables.{ascends_lower}
-use Rattle.afs_ideal.proofs.Tellings.{FindEach}
-use Rattle.afs_records.proofs.Kept.{changed_is}
-use Rattle.afs_records.proofs.Tested.{passes}
+use Rattle.spec_ideal.specs.Images.{image_of, value_of}
+use Rattle.spec_ideal.specs.Operations.{Caller, changes, op, IsOn}
+use Rattle.spec_ideal.specs.Soundness.{IsSound}
+use Rattle.spec_ideal.specs.Tables.{Table, get}
+use Rattle.spec_ideal.specs.VnodeImage.{FitsImage}
+use Rattle.spec_ideal.specs.VnodeMaps.{most_vnodes}
+use Rattle.spec_ideal.specs.Volumes.{Vnode, Edit, counted, edited_all}
+use Rattle.spec_ideal.proofs.Preserved.{operations_leave_sound}
+use Rattle.spec_ideal.proofs.Proper.{operations_change}
+use Rattle.spec_ideal.proofs.Looks.{Distinct, MakesAs}
+use Rattle.spec_ideal.proofs.Tables.{ascends_lower}
+use Rattle.spec_ideal.proofs.Tellings.{FindEach}
+use Rattle.spec_records.proofs.Kept.{changed_is}
+use Rattle.spec_records.proofs.Tested.{passes}
 use Rattle.afs_changes.specs.Changes.{IsChangeBy, IsKeptAs}
 use Rattle.afs_changes.specs.Drawing.{all_freed, all_left, without, IsLeft}
 use Rattle.afs_volume.specs.Giving.{volume_of}

@@ -2,8 +2,8 @@
 use Rattle.std.proofs.Common.{◌≡◌, ℕ, List, [], ◌∷◌, map, refl, sym, ap, ◌∙◌}
 use Rattle.std.specs.List.{AllByRecursion}
 use Rattle.afs_num.specs.declared.vnodes.Vnode as image
-use Rattle.afs_ideal.specs.Images.{image_of}
-use Rattle.afs_ideal.specs.Volumes.{Vnode}
+use Rattle.spec_ideal.specs.Images.{image_of}
+use Rattle.spec_ideal.specs.Volumes.{Vnode}
 use Rattle.afs_changes.specs.Drawing.{shown_by, IsLeft}
 use Rattle.afs_volume.specs.Seen.{seen}
 use Rattle.afs_changes.proofs.Drawn.{imaged}

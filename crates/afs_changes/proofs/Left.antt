@@ -8,16 +8,16 @@ use Rattle.afs_num.specs.declared.calls.FsCall.{FsCall}
 use Rattle.afs_num.specs.declared.calls.FsCall.TheVariants as calls
 use Rattle.afs_num.specs.declared.directories.Name.{Name}
 use Rattle.afs_num.specs.declared.types.Fid.{Fid}
-use Rattle.afs_ideal.specs.AccessLists.{acl_at}
-use Rattle.afs_ideal.specs.Operations as ops
-use Rattle.afs_ideal.specs.Operations.{Caller, changes, effect, is_directory, name_in, named_vnode, number_named, op, rename_tests, renaming, tests, unlinks, creating, removing, linking, free_number}
-use Rattle.afs_ideal.specs.Soundness.{IsSound}
-use Rattle.afs_ideal.specs.Tables.{Table, get}
-use Rattle.afs_ideal.specs.Volumes.{a_directory, a_file, a_link, Vnode, Volume, Amend, Edit, amends, makes, frees, amended, fresh, ascending, edit_number, placed, vnode_of}
-use Rattle.afs_ideal.proofs.Looks.{one_edit}
-use Rattle.afs_ideal.proofs.Preserved.{Pass, renames_by, same_edits}
-use Rattle.afs_ideal.proofs.Scopes.{accepted, all_pass, or_right}
-use Rattle.afs_ideal.proofs.Tellings.{Finds, FindEach}
+use Rattle.spec_ideal.specs.AccessLists.{acl_at}
+use Rattle.spec_ideal.specs.Operations as ops
+use Rattle.spec_ideal.specs.Operations.{Caller, changes, effect, is_directory, name_in, named_vnode, number_named, op, rename_tests, renaming, tests, unlinks, creating, removing, linking, free_number}
+use Rattle.spec_ideal.specs.Soundness.{IsSound}
+use Rattle.spec_ideal.specs.Tables.{Table, get}
+use Rattle.spec_ideal.specs.Volumes.{a_directory, a_file, a_link, Vnode, Volume, Amend, Edit, amends, makes, frees, amended, fresh, ascending, edit_number, edit_put, vnode_of}
+use Rattle.spec_ideal.proofs.Looks.{one_edit}
+use Rattle.spec_ideal.proofs.Preserved.{Pass, renames_by, same_edits}
+use Rattle.spec_ideal.proofs.Scopes.{accepted, all_pass, or_right}
+use Rattle.spec_ideal.proofs.Tellings.{Finds, FindEach}
 use Rattle.afs_changes.specs.Drafts.{numbers_shown, IsLeftIn}
 use Rattle.afs_changes.specs.Drawing.{after_edit, all_left, before_edit, left_at}
 
@@ -64,11 +64,11 @@ swapped true false c = refl
 swapped false true c = refl
 swapped false false c = refl
 
-placed_by : (b : Bool) (m : ℕ) (e d : Edit) (ds : List Edit) → leaves m (placed e ds) ≡ (leaves_one m e || leaves m ds) → leaves m (if b then d ∷ placed e ds else e ∷ d ∷ ds) ≡ (leaves_one m e || (leaves_one m d || leaves m ds))
+placed_by : (b : Bool) (m : ℕ) (e d : Edit) (ds : List Edit) → leaves m (edit_put e ds) ≡ (leaves_one m e || leaves m ds) → leaves m (if b then d ∷ edit_put e ds else e ∷ d ∷ ds) ≡ (leaves_one m e || (leaves_one m d || leaves m ds))
 placed_by true m e d ds h = rw h (swapped (leaves_one m d) (leaves_one m e) (leaves m ds))
 placed_by false m e d ds h = refl
 
-leaves_placed : (m : ℕ) (e : Edit) (ds : List Edit) → leaves m (placed e ds) ≡ (leaves_one m e || leaves m ds)
+leaves_placed : (m : ℕ) (e : Edit) (ds : List Edit) → leaves m (edit_put e ds) ≡ (leaves_one m e || leaves m ds)
 leaves_placed m e [] = refl
 leaves_placed m e (d ∷ ds) = placed_by (nat_lt (edit_number d) (edit_number e)) m e d ds (leaves_placed m e ds)
 

@@ -1,8 +1,8 @@
 -- What an operation is to do, before its limits and within them.
 use Rattle.std.proofs.Common.{◌≡◌, ℕ, List, Option, Some, None, ap}
 use Rattle.afs_num.specs.declared.calls.FsCall.{FsCall}
-use Rattle.afs_ideal.specs.Operations.{Caller, Result, by_tests, changes, effect, first_failing, limited, limits, op, tests}
-use Rattle.afs_ideal.specs.Volumes.{Edit, Volume}
+use Rattle.spec_ideal.specs.Operations.{Caller, Result, by_tests, changes, effect, first_failing, limited, limits, op, tests}
+use Rattle.spec_ideal.specs.Volumes.{Edit, Volume}
 use Rattle.afs_changes.specs.Planning.{planned}
 
 limited_by : (t : Option ℕ) (id : ℕ) (v : Volume) (r : Result) (es : List Edit) (n : ℕ) → by_tests t r ≡ changes es n → by_tests t (limited id v r) ≡ by_tests (first_failing (limits id es v)) (changes es n)

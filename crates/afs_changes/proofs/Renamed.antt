@@ -3,15 +3,15 @@ use Rattle.std.proofs.Common.{◌≡◌, ◌<◌, ◌≤◌, ◌+◌, ℕ, List,
 use Rattle.std.specs.Prelude.{◌||◌, ◌&&◌}
 use Rattle.afs_num.specs.Names.{name_ok}
 use Rattle.afs_num.specs.declared.directories.Name.{Name}
-use Rattle.afs_ideal.specs.Directories.{add_refused, is_named, most_names, named, without_name}
+use Rattle.spec_ideal.specs.Directories.{add_refused, is_named, most_names, named, without_name}
 use Rattle.std.proofs.lemmas.Bool.{lt-ltb, ltb-true}
 use Rattle.std.proofs.lemmas.Slice.Eq.{bytes_eq-Decides}
 use Rattle.afs_num.specs.declared.calls.FsCall.TheVariants as calls
 use Rattle.afs_num.specs.declared.types.Fid.{Fid}
-use Rattle.afs_ideal.specs.Operations.{Caller, first_failing, is_directory, kinds_agree, tests, Tests, vnode_in}
-use Rattle.afs_ideal.specs.Volumes.{Vnode, Volume, vnode_of}
+use Rattle.spec_ideal.specs.Operations.{Caller, first_failing, is_directory, kinds_agree, tests, Tests, vnode_in}
+use Rattle.spec_ideal.specs.Volumes.{Vnode, Volume, vnode_of}
 use Rattle.afs_changes.specs.Planning.{move_tests, takes_place}
-use Rattle.afs_ideal.proofs.Directories.{named-without_name, shorter-without_name}
+use Rattle.spec_ideal.proofs.Directories.{named-without_name, shorter-without_name}
 
 nothing_by : (b : Bool) (name : List ℕ) (n : Name) (ns : List Name) → (named name ns ≡ None → without_name name ns ≡ ns) → ◌≡◌ {A = Option Name} (if b then Some n else named name ns) None → ◌≡◌ {A = List Name} (if not b then n ∷ without_name name ns else without_name name ns) (n ∷ ns)
 nothing_by true name n ns later none = absurd cc

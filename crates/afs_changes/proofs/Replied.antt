@@ -8,10 +8,10 @@ use Rattle.afs_num.specs.declared.calls.FsCall.TheVariants as calls
 use Rattle.afs_num.specs.declared.calls.FsReply.{FsReply}
 use Rattle.afs_num.specs.declared.histories.Version.{Version}
 use Rattle.afs_num.specs.declared.types.Fid.{Fid}
-use Rattle.afs_ideal.specs.Operations.{Caller, acl_of, list_for}
-use Rattle.afs_ideal.specs.Replies.{change_reply, stamped, status_at, status_of, sync_of, vnode_at, vnode_or_none}
-use Rattle.afs_ideal.specs.Tables.{Table, get}
-use Rattle.afs_ideal.specs.Volumes.{Kind, a_directory, a_file, a_link, Vnode, Volume, Edit, fid_of, edit_number}
+use Rattle.spec_ideal.specs.Operations.{Caller, acl_of, list_for}
+use Rattle.spec_ideal.specs.Replies.{change_reply, stamped, vnode_status, status_of, sync_of, vnode_at, vnode_or_none}
+use Rattle.spec_ideal.specs.Tables.{Table, get}
+use Rattle.spec_ideal.specs.Volumes.{VnodeKind, a_directory, a_file, a_link, Vnode, Volume, Edit, fid_of, edit_number}
 use Rattle.afs_changes.specs.Drafts.{numbers_shown}
 use Rattle.afs_reads.specs.Replying.{FitsReply}
 use Rattle.afs_changes.specs.Drawing.{after_edit, all_left, all_told, before_edit, left_at, told_between}
@@ -23,7 +23,7 @@ pub record FoundAlike (v w : Volume) : Type 0 where
   pub release : v.release ≡ w.release
   pub vnodes : (m : ℕ) → get m v.vnodes ≡ get m w.vnodes
 
-list_alike : (k : Kind) (x : Vnode) (v w : Volume) → FoundAlike v w → list_for k x v ≡ list_for k x w
+list_alike : (k : VnodeKind) (x : Vnode) (v w : Volume) → FoundAlike v w → list_for k x v ≡ list_for k x w
 list_alike a_directory x v w h = refl
 list_alike a_file x v w h = ap acl_of (h.vnodes x.parent)
 list_alike a_link x v w h = ap acl_of (h.vnodes x.parent)
@@ -38,7 +38,7 @@ pub vnode_alike : (v w : Volume) (n : ℕ) → FoundAlike v w → vnode_at v n �
 vnode_alike v w n h = ap vnode_or_none (h.vnodes n)
 
 -- the status of a vnode that was changed at this time
-pub status_same : (id : ℕ) (caller : Caller) (now : ℕ) (times : Fid → ℕ) (v w : Volume) (n : ℕ) → FoundAlike v w → times (fid_of id n (vnode_at w n)) ≡ now → status_at id caller (λ (f : Fid). now) v n ≡ status_at id caller times w n
+pub status_same : (id : ℕ) (caller : Caller) (now : ℕ) (times : Fid → ℕ) (v w : Volume) (n : ℕ) → FoundAlike v w → times (fid_of id n (vnode_at w n)) ≡ now → vnode_status id caller (λ (f : Fid). now) v n ≡ vnode_status id caller times w n
 status_same id caller now times v w n h time =
     ap (status_of caller v now) (vnode_alike v w n h)
     ∙ (status_alike caller now (vnode_at w n) v w h ∙ ap (λ (t : ℕ). status_of caller w t (vnode_at w n)) (sym time))
@@ -63,7 +63,7 @@ reply_fits id caller times v n (calls.Rename d old e new) r is = one_fits _ r is
 reply_fits id caller times v n call r e = absurd cc
 
 abbrev pub SameStatus : ℕ → Caller → ℕ → (Fid → ℕ) → Volume → Volume → ℕ → Type 0
-SameStatus id caller now times v w m = status_at id caller (λ (f : Fid). now) v m ≡ status_at id caller times w m
+SameStatus id caller now times v w m = vnode_status id caller (λ (f : Fid). now) v m ≡ vnode_status id caller times w m
 
 pub reply_same : (id : ℕ) (caller : Caller) (now : ℕ) (times : Fid → ℕ) (v w : Volume) (n : ℕ) (call : FsCall) → FoundAlike v w → AllByRecursion (SameStatus id caller now times v w) (numbers_shown n call) → change_reply id caller (λ (f : Fid). now) v n call ≡ change_reply id caller times w n call
 reply_same id caller now times v w n (calls.StoreData f status position stored file_length contents) h s = rw (s.0, sync_alike v w h) refl

@@ -3,8 +3,8 @@ use Rattle.std.proofs.Common.{◌≡◌, ℕ, Bool, true, false, List, [], ◌�
 use Rattle.std.specs.List.{AllByRecursion}
 use Rattle.std.specs.Option.{option_copied, option_map}
 use Rattle.afs_num.specs.declared.vnodes.Vnode as image
-use Rattle.afs_ideal.specs.Tables.{get}
-use Rattle.afs_ideal.specs.Volumes.{Vnode}
+use Rattle.spec_ideal.specs.Tables.{get}
+use Rattle.spec_ideal.specs.Volumes.{Vnode}
 use Rattle.afs_changes.specs.Drawing.{shown_by}
 use Rattle.afs_volume.specs.Seen.{seen}
 

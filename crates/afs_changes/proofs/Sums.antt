@@ -2,22 +2,22 @@
 use Rattle.std.proofs.Common.{◌≡◌, ℕ, ◌+◌, ◌<◌, ◌≤◌, Bool, true, false, not, eqb, ltb, List, [], ◌∷◌, Option, Some, None, refl, sym, ap, ◌∙◌, arith, eqb-true, leb, leb-true, leb-false, ltb-true, ltb-false}
 use Rattle.std.specs.List.{AllByRecursion}
 use Rattle.std.specs.Option.{option_map}
-use Rattle.afs_ideal.specs.Tables.{get, AscendsFrom}
-use Rattle.afs_ideal.specs.Volumes.{Kind, a_file, a_directory, a_link, Vnode, Volume, Amend, Edit, amends, makes, frees, amended, fresh, blocks_of, blocks_in, amends_at, makes_at, frees_at, edited, edited_all, edit_number}
-use Rattle.afs_ideal.proofs.Looks.{Distinct, MakesAs, looks}
-use Rattle.afs_ideal.proofs.Tables.{ascends_set, ascends_unset}
+use Rattle.spec_ideal.specs.Tables.{get, AscendsFrom}
+use Rattle.spec_ideal.specs.Volumes.{VnodeKind, a_file, a_directory, a_link, Vnode, Volume, Amend, Edit, amends, makes, frees, amended, fresh, blocks_of, blocks_in, amends_at, makes_at, frees_at, edited, edited_all, edit_number}
+use Rattle.spec_ideal.proofs.Looks.{Distinct, MakesAs, looks}
+use Rattle.spec_ideal.proofs.Tables.{ascends_set, ascends_unset}
 use Rattle.afs_volume.specs.Counting.{blocks_at}
 use Rattle.afs_changes.specs.Counting.{blocks_before, blocks_after, made_of}
 use Rattle.afs_volume.proofs.Sums.{blocks_set, blocks_unset}
 
 -- ---- one edit
 
-amended_blocks : (k : Kind) (c : ℕ) (a : Amend) (x : Vnode) → k ≡ x.kind → blocks_of (amended c a x) ≡ blocks_of (amended 0 a x)
+amended_blocks : (k : VnodeKind) (c : ℕ) (a : Amend) (x : Vnode) → k ≡ x.kind → blocks_of (amended c a x) ≡ blocks_of (amended 0 a x)
 amended_blocks a_file c a x is = rw (← is) refl
 amended_blocks a_directory c a x is = rw (← is) refl
 amended_blocks a_link c a x is = rw (← is) refl
 
-fresh_blocks : (k : Kind) (c u : ℕ) (x : Vnode) → k ≡ x.kind → blocks_of (fresh c u x) ≡ blocks_of x
+fresh_blocks : (k : VnodeKind) (c u : ℕ) (x : Vnode) → k ≡ x.kind → blocks_of (fresh c u x) ≡ blocks_of x
 fresh_blocks a_file c u x is = rw (← is) refl
 fresh_blocks a_directory c u x is = rw (← is) refl
 fresh_blocks a_link c u x is = rw (← is) refl

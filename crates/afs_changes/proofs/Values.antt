@@ -4,11 +4,11 @@ use Rattle.std.specs.Option.{option_map}
 use Rattle.std.specs.List.{AllByRecursion}
 use Rattle.afs_num.specs.declared.acls.AccessList.{AccessList}
 use Rattle.afs_num.specs.declared.vnodes.Vnode as image
-use Rattle.afs_ideal.specs.AccessLists.{acl_at, acl_text, Refusal}
-use Rattle.afs_ideal.specs.Directories.{directory_bytes, directory_of}
-use Rattle.afs_ideal.specs.Images.{image_of, value_of}
-use Rattle.afs_ideal.specs.Tables.{Table, get}
-use Rattle.afs_ideal.specs.Volumes.{Kind, a_directory, a_file, a_link, Vnode}
+use Rattle.spec_ideal.specs.AccessLists.{acl_at, acl_text, Refusal}
+use Rattle.spec_ideal.specs.Directories.{directory_bytes, directory_of}
+use Rattle.spec_ideal.specs.Images.{image_of, value_of}
+use Rattle.spec_ideal.specs.Tables.{Table, get}
+use Rattle.spec_ideal.specs.Volumes.{VnodeKind, a_directory, a_file, a_link, Vnode}
 use Rattle.afs_changes.specs.Drawing.{shown_by}
 use Rattle.afs_volume.specs.Seen.{all_seen, seen, kind_seen, contents_seen, list_read, list_seen, list_spelled, names_seen, names_spelled, AreReadable, IsReadable}
 use Rattle.afs_volume.proofs.Tables.{got}
@@ -24,10 +24,10 @@ unfolding list_spelled
 list_again text good = good_by (acl_at text) good
 
 -- a vnode that has an image has a value
-abbrev IsValued : Kind → Vnode → Type 0
+abbrev IsValued : VnodeKind → Vnode → Type 0
 IsValued k x = (n time : ℕ) → value_of (image_of n time (record x { kind = k })) ≡ Some (record x { kind = k })
 
-valued : (k : Kind) (x : Vnode) (bytes text : List ℕ) → x.contents ≡ contents_seen k bytes → x.names ≡ names_seen k bytes → x.acl ≡ list_seen k text → (k ≡ a_directory → directory_bytes (names_spelled bytes) ≡ bytes) → (k ≡ a_directory → is_ok (acl_at text) ≡ true) → IsValued k x
+valued : (k : VnodeKind) (x : Vnode) (bytes text : List ℕ) → x.contents ≡ contents_seen k bytes → x.names ≡ names_seen k bytes → x.acl ≡ list_seen k text → (k ≡ a_directory → directory_bytes (names_spelled bytes) ≡ bytes) → (k ≡ a_directory → is_ok (acl_at text) ≡ true) → IsValued k x
 unfolding value_of
 valued a_directory x bytes text contents names list spelled good n time =
     let dir : directory_of (directory_bytes x.names) ≡ Ok x.names = rw (names, spelled refl) (names_again bytes (spelled refl)) in

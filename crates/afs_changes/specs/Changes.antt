@@ -3,12 +3,12 @@ use Rattle.std.specs.Prelude.{◌≡◌, ℕ, List, Some, Result, Ok, Err, pos}
 use Rattle.std.specs.Option.{option_map}
 use Rattle.afs_num.specs.declared.calls.FsCall.{FsCall}
 use Rattle.afs_num.specs.declared.volumes.Change.{Change}
-use Rattle.afs_ideal.specs.Operations as op
-use Rattle.afs_ideal.specs.Operations.{Caller, changed, changes, made_by}
-use Rattle.afs_ideal.specs.Replies.{change_reply, stamped}
-use Rattle.afs_ideal.specs.Volumes as ideal
-use Rattle.afs_records.specs.Changes.{images_left, numbers_gone, stored_after}
-use Rattle.afs_records.specs.Durable.{changed_stored}
+use Rattle.spec_ideal.specs.Operations as op
+use Rattle.spec_ideal.specs.Operations.{Caller, changed, changes, made_by}
+use Rattle.spec_ideal.specs.Replies.{change_reply, stamped}
+use Rattle.spec_ideal.specs.Volumes as ideal
+use Rattle.spec_records.specs.Changes.{images_left, numbers_gone, stored_after}
+use Rattle.spec_records.specs.Durable.{changed_stored}
 use Rattle.afs_reads.specs.Replying.{refusal_of, times_of}
 use Rattle.afs_volume.specs.Giving.{volume_of}
 use Rattle.afs_volume.specs.Taking.{stored_of}

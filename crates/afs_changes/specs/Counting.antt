@@ -1,8 +1,8 @@
 -- How many blocks the vnodes of edits take, before them and after them.
 use Rattle.std.specs.Prelude.{ℕ, ◌+◌, List, [], ◌∷◌, Option, Some, None}
 use Rattle.std.specs.Option.{option_map}
-use Rattle.afs_ideal.specs.Tables.{get}
-use Rattle.afs_ideal.specs.Volumes.{Vnode, Volume, Edit, amends, makes, frees, amended, edit_number}
+use Rattle.spec_ideal.specs.Tables.{get}
+use Rattle.spec_ideal.specs.Volumes.{Vnode, Volume, Edit, amends, makes, frees, amended, edit_number}
 use Rattle.afs_volume.specs.Counting.{blocks_at}
 
 -- what an edit makes of what stands at its number, but for counters

@@ -4,9 +4,9 @@ use Rattle.std.specs.List.{AllByRecursion}
 use Rattle.afs_num.specs.declared.histories.Version.{Version}
 use Rattle.afs_num.specs.declared.calls.FsCall.{FsCall}
 use Rattle.afs_num.specs.declared.calls.FsCall.TheVariants as calls
-use Rattle.afs_ideal.specs.Tables.{get, Table}
-use Rattle.afs_ideal.specs.Volumes as ideal
-use Rattle.afs_ideal.specs.Volumes.{Vnode}
+use Rattle.spec_ideal.specs.Tables.{get, Table}
+use Rattle.spec_ideal.specs.Volumes as ideal
+use Rattle.spec_ideal.specs.Volumes.{Vnode}
 use Rattle.afs_changes.specs.Drawing.{IsLeft, shown_by, with_left}
 use Rattle.afs_volume.specs.Giving.{volume_of}
 use Rattle.afs_volume.specs.Listed.{listed_as}

@@ -3,13 +3,13 @@ use Rattle.std.specs.Prelude.{◌≡◌, ◌<◌, ℕ, ◌+◌, List, [], ◌∷
 use Rattle.std.specs.List.{list_any}
 use Rattle.afs_num.specs.declared.histories.Version.{Version}
 use Rattle.afs_num.specs.declared.vnodes.Vnode as image
-use Rattle.afs_ideal.specs.AccessLists.{no_acl}
-use Rattle.afs_ideal.specs.Operations.{edit_fits, last_count}
-use Rattle.afs_ideal.specs.Tables.{get, Table}
-use Rattle.afs_ideal.specs.VnodeImage.{FitsImage}
-use Rattle.afs_ideal.specs.Volumes.{Kind, a_directory, Vnode, Volume, Edit, amends, makes, frees, amended, version_at, gone_at, edit_number}
-use Rattle.afs_ideal.proofs.Looks.{one_edit}
-use Rattle.afs_records.specs.Changes.{gone_between}
+use Rattle.spec_ideal.specs.AccessLists.{no_acl}
+use Rattle.spec_ideal.specs.Operations.{edit_fits, last_count}
+use Rattle.spec_ideal.specs.Tables.{get, Table}
+use Rattle.spec_ideal.specs.VnodeImage.{FitsImage}
+use Rattle.spec_ideal.specs.Volumes.{VnodeKind, a_directory, Vnode, Volume, Edit, amends, makes, frees, amended, version_at, gone_at, edit_number}
+use Rattle.spec_ideal.proofs.Looks.{one_edit}
+use Rattle.spec_records.specs.Changes.{gone_between}
 use Rattle.afs_volume.specs.Seen.{seen, IsReadable}
 
 -- ---- one edit
@@ -60,7 +60,7 @@ makes_vnode e = false
 -- ---- edits that can be drawn
 
 -- the vnode has what one of its kind has
-abbrev pub HasOwn : Kind → Vnode → Type 0
+abbrev pub HasOwn : VnodeKind → Vnode → Type 0
 HasOwn a_directory x = x.contents ≡ []
 HasOwn kind x = (x.names ≡ []) × (x.acl ≡ no_acl)
 

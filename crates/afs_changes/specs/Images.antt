@@ -2,17 +2,17 @@
 use Rattle.std.specs.Prelude.{ℕ, ◌+◌, List}
 use Rattle.std.specs.Option.{option_map}
 use Rattle.afs_num.specs.declared.vnodes.Vnode as image
-use Rattle.afs_ideal.specs.Volumes.{Kind, a_directory, has_body, or_old, up_if}
+use Rattle.spec_ideal.specs.Volumes.{VnodeKind, a_directory, has_body, or_old, up_if}
 use Rattle.afs_volume.specs.Seen.{kind_seen}
 use Rattle.afs_changes.specs.declared.edits.Amend.{Amend}
 
 -- the spelling of a directory's names, another vnode's contents
-abbrev pub body_left : Kind → Amend → List ℕ → List ℕ
+abbrev pub body_left : VnodeKind → Amend → List ℕ → List ℕ
 body_left a_directory a bytes = or_old a.names bytes
 body_left kind a bytes = or_old a.contents bytes
 
 -- the text of a directory's access list
-abbrev pub list_left : Kind → Amend → List ℕ → List ℕ
+abbrev pub list_left : VnodeKind → Amend → List ℕ → List ℕ
 list_left a_directory a text = or_old a.acl text
 list_left kind a text = text
 

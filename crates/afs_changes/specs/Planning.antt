@@ -3,10 +3,10 @@ use Rattle.std.specs.Prelude.{◌≡◌, ℕ, pos, List, [], ◌∷◌, Option, 
 use Rattle.std.specs.Option.{option_map}
 use Rattle.afs_num.specs.Names.{name_ok}
 use Rattle.afs_num.specs.declared.acls.AccessList.{AccessList}
-use Rattle.afs_ideal.specs.AccessLists.{acl_at}
-use Rattle.afs_ideal.specs.Operations as op
-use Rattle.afs_ideal.specs.Operations.{Caller, acl_read, refused, changes}
-use Rattle.afs_ideal.specs.Volumes as ideal
+use Rattle.spec_ideal.specs.AccessLists.{acl_at}
+use Rattle.spec_ideal.specs.Operations as op
+use Rattle.spec_ideal.specs.Operations.{Caller, acl_read, refused, changes}
+use Rattle.spec_ideal.specs.Volumes as ideal
 use Rattle.afs_volume.specs.Seen.{seen, names_spelled}
 use Rattle.afs_num.specs.declared.calls.FsCall.{FsCall}
 use Rattle.afs_num.specs.declared.calls.FsCall.TheVariants as calls
@@ -66,7 +66,7 @@ pub record KeepsBody (old new : image.Vnode) : Type 0 where
 -- these edits put in their place among others, the last one first
 abbrev pub placed_among : List ideal.Edit → List ideal.Edit → List ideal.Edit
 placed_among [] ps = ps
-placed_among (e ∷ es) ps = ideal.placed e (placed_among es ps)
+placed_among (e ∷ es) ps = ideal.edit_put e (placed_among es ps)
 
 -- the call changes a volume
 abbrev pub is_changing : FsCall → Bool
@@ -94,4 +94,4 @@ abbrev pub move_tests : Caller → Fid → List ℕ → Fid → List ℕ → ide
 move_tests caller d old e new v =
     (op.rename_rights caller d e new v, 13)
     ∷ (name_ok new && (not (op.is_same_name d old e new) && op.may_move d e (op.name_in d old v) (op.name_in e new v) v (op.vnode_in d old v)), 22)
-    ∷ (is_some (op.name_in d old v), 2) ∷ (op.is_empty (op.vnode_in e new v), 39) ∷ (op.has_room_for d e new v, 27) ∷ []
+    ∷ (is_some (op.name_in d old v), 2) ∷ (op.has_no_names (op.vnode_in e new v), 39) ∷ (op.has_room_for d e new v, 27) ∷ []

@@ -1,9 +1,9 @@
 //! Edits, made and asked.
 
 ghost use Rattle.std.specs.Prelude.{◌≡◌, ◌≤◌, Some, length};
-ghost use Rattle.afs_ideal.specs.Operations.{no_amend};
-ghost use Rattle.afs_ideal.specs.VnodeImage.{most_contents};
-ghost use Rattle.afs_ideal.specs.Volumes.{edit_number};
+ghost use Rattle.spec_ideal.specs.Operations.{no_amend};
+ghost use Rattle.spec_ideal.specs.VnodeImage.{most_contents};
+ghost use Rattle.spec_ideal.specs.Volumes.{edit_number};
 ghost use Rattle.afs_changes.specs.Planning.{amend_seen, edit_seen};
 ghost use Rattle.afs_volume.specs.Seen.{names_spelled, SpellsNames};
 

@@ -2,9 +2,9 @@
 
 ghost use Rattle.std.specs.Prelude.{◌≡◌, ◌≤◌, ◌+◌, ◌<◌, true, length, map, IfOk, if◌then◌else◌};
 ghost use Rattle.std.specs.List.{list_any};
-ghost use Rattle.afs_ideal.specs.Operations.{changes, last_count, op, the_user, IsOn};
-ghost use Rattle.afs_ideal.specs.Soundness.{IsSound};
-ghost use Rattle.afs_ideal.specs.VnodeMaps.{most_vnodes};
+ghost use Rattle.spec_ideal.specs.Operations.{changes, last_count, op, the_user, IsOn};
+ghost use Rattle.spec_ideal.specs.Soundness.{IsSound};
+ghost use Rattle.spec_ideal.specs.VnodeMaps.{most_vnodes};
 ghost use Rattle.afs_changes.specs.Changes.{Applies, IsChangeBy, IsKeptAs, RepliesBy};
 ghost use Rattle.afs_changes.specs.Drawing.{makes_vnode};
 ghost use Rattle.afs_reads.specs.Replying.{caller_seen, FitsCall, FitsReply};

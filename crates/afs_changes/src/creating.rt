@@ -2,11 +2,11 @@
 
 ghost use Rattle.std.specs.Prelude.{◌≡◌, ◌≤◌, ◌∷◌, [], Some, None, true, length, IfOk, OnOk};
 ghost use Rattle.afs_num.specs.declared.calls.FsCall.TheVariants as calls;
-ghost use Rattle.afs_ideal.specs.Directories.{add_refused};
-ghost use Rattle.afs_ideal.specs.Operations.{adds_name, create_tests, creating, first_failing, free_number, has_right, is_kind, is_read_write, link_tests, linking, no_amend};
-ghost use Rattle.afs_ideal.specs.Tables.{get};
-ghost use Rattle.afs_ideal.specs.VnodeImage.{most_contents, FitsImage};
-ghost use Rattle.afs_ideal.specs.Volumes.{a_directory, amends, ascending, makes, vnode_of};
+ghost use Rattle.spec_ideal.specs.Directories.{add_refused};
+ghost use Rattle.spec_ideal.specs.Operations.{adds_name, create_tests, creating, first_failing, free_number, has_right, is_kind, is_read_write, link_tests, linking, no_amend};
+ghost use Rattle.spec_ideal.specs.Tables.{get};
+ghost use Rattle.spec_ideal.specs.VnodeImage.{most_contents, FitsImage};
+ghost use Rattle.spec_ideal.specs.Volumes.{a_directory, amends, ascending, makes, vnode_of};
 ghost use Rattle.afs_reads.specs.Replying.{caller_seen, Passes};
 ghost use Rattle.afs_changes.specs.Planning.{edits_seen, planned, Plans};
 ghost use Rattle.afs_volume.specs.Giving.{volume_of};

@@ -2,8 +2,8 @@
 
 ghost use Rattle.std.specs.Prelude.{◌≡◌, ◌∷◌, [], true, map, Some, IfOk, OnOk};
 ghost use Rattle.std.specs.List.{AllByRecursion};
-ghost use Rattle.afs_ideal.specs.Operations.{free_fits};
-ghost use Rattle.afs_ideal.specs.Volumes.{amends, frees, gone_at, makes, version_at};
+ghost use Rattle.spec_ideal.specs.Operations.{free_fits};
+ghost use Rattle.spec_ideal.specs.Volumes.{amends, frees, gone_at, makes, version_at};
 ghost use Rattle.afs_changes.specs.Drafts.{Draws};
 ghost use Rattle.afs_changes.specs.Drawing.{all_freed, all_left, all_told, freed_by, left_by, numbered, shown_by, told_by, CanBeDrawn, IsLeft};
 ghost use Rattle.afs_changes.specs.Planning.{amend_seen, edit_seen, edits_seen};

@@ -2,9 +2,9 @@
 
 ghost use Rattle.std.specs.Prelude.{◌≡◌, Some, not, true, IfOk};
 ghost use Rattle.std.specs.Option.{option_map};
-ghost use Rattle.afs_ideal.specs.Operations.{amend_fits, implies, is_last_count, links_fit};
-ghost use Rattle.afs_ideal.specs.VnodeImage.{FitsImage};
-ghost use Rattle.afs_ideal.specs.Volumes.{amended, fresh, or_old, up_if, with_status};
+ghost use Rattle.spec_ideal.specs.Operations.{amend_fits, implies, is_last_count, links_fit};
+ghost use Rattle.spec_ideal.specs.VnodeImage.{FitsImage};
+ghost use Rattle.spec_ideal.specs.Volumes.{amended, fresh, or_old, up_if, with_status};
 ghost use Rattle.afs_changes.specs.Drawing.{HasOwn, IsLeft};
 ghost use Rattle.afs_changes.specs.Planning.{amend_seen, KeepsBody};
 ghost use Rattle.afs_changes.specs.Images.{image_amended, list_left};

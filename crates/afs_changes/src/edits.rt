@@ -1,7 +1,7 @@
 //! What an operation does to the vnodes of a volume.
 
 ghost use Rattle.std.specs.Prelude.{◌≡◌, ◌≤◌, true, length};
-ghost use Rattle.afs_ideal.specs.VnodeImage.{most_acl, most_contents};
+ghost use Rattle.spec_ideal.specs.VnodeImage.{most_acl, most_contents};
 ghost use Rattle.afs_volume.specs.Seen.{is_within, IsReadable, SpellsList, SpellsNames};
 
 use afs_num::calls::AfsStoreStatus;

@@ -2,12 +2,12 @@
 
 ghost use Rattle.std.specs.Prelude.{◌≡◌, ◌==◌, length, true, ◌<◌, ◌≤◌, ◌^◌, None, Some, IfSome, is_ok, is_some};
 ghost use Rattle.std.specs.Option.{option_copied, option_map};
-ghost use Rattle.afs_ideal.specs.AccessLists.{acl_at};
-ghost use Rattle.afs_ideal.specs.Directories.{named};
-ghost use Rattle.afs_ideal.specs.Operations.{is_directory, is_kind, is_empty, free_number, links_of, may_link, named_vnode, number_named};
-ghost use Rattle.afs_ideal.specs.Tables.{get};
-ghost use Rattle.afs_ideal.specs.VnodeImage.{most_acl, FitsImage};
-ghost use Rattle.afs_ideal.specs.Volumes.{a_directory, a_file};
+ghost use Rattle.spec_ideal.specs.AccessLists.{acl_at};
+ghost use Rattle.spec_ideal.specs.Directories.{named};
+ghost use Rattle.spec_ideal.specs.Operations.{is_directory, is_kind, has_no_names, free_number, links_of, may_link, named_vnode, number_named};
+ghost use Rattle.spec_ideal.specs.Tables.{get};
+ghost use Rattle.spec_ideal.specs.VnodeImage.{most_acl, FitsImage};
+ghost use Rattle.spec_ideal.specs.Volumes.{a_directory, a_file};
 ghost use Rattle.afs_volume.specs.Giving.{volume_of};
 ghost use Rattle.afs_volume.specs.Seen.{seen, list_spelled, IsReadable};
 
@@ -120,7 +120,7 @@ pub fn free_number(volume: &Volume, x: &Vnode) -> u32
 #[tactic(auto, unfolding(afs_volume::specs::Seen::seen))]
 pub fn is_empty(volume: &Volume, x: Option<&Vnode>) -> bool
     requires { IfSome x (λ x. get x.now.vnode volume.now.vnodes.table ≡ Some x.now) }
-    ensures { result ≡ is_empty (option_map seen (option_copied x.entry)) }
+    ensures { result ≡ has_no_names (option_map seen (option_copied x.entry)) }
 {
     match x {
         Some(x) if is_directory(x) => volume.names(x.vnode, x).is_empty(),

@@ -1,12 +1,12 @@
 //! The limits of a change, tested on what its edits make.
 
 ghost use Rattle.std.specs.Prelude.{◌≡◌, ◌≤◌, ◌<◌, ◌^◌, Some, not, nat_lt, length};
-ghost use Rattle.afs_ideal.specs.Operations.{amend_fits, edit_fits, first_failing, free_fits, is_last_count, limits, links_fit};
+ghost use Rattle.spec_ideal.specs.Operations.{amend_fits, edit_fits, first_failing, free_fits, is_last_count, limits, links_fit};
 ghost use Rattle.std.specs.List.{list_all};
-ghost use Rattle.afs_ideal.specs.Tables.{get, AscendsFrom};
-ghost use Rattle.afs_ideal.specs.VnodeMaps.{most_vnodes};
-ghost use Rattle.afs_ideal.specs.Volumes.{amended, blocks_in, bytes_by, edit_number, edited_all, has_body};
-ghost use Rattle.afs_ideal.proofs.Looks.{Distinct};
+ghost use Rattle.spec_ideal.specs.Tables.{get, AscendsFrom};
+ghost use Rattle.spec_ideal.specs.VnodeMaps.{most_vnodes};
+ghost use Rattle.spec_ideal.specs.Volumes.{amended, blocks_in, bytes_by, edit_number, edited_all, has_body};
+ghost use Rattle.spec_ideal.proofs.Looks.{Distinct};
 ghost use Rattle.afs_changes.specs.Counting.{blocks_after, blocks_before, made_of};
 ghost use Rattle.afs_volume.specs.Counting.{blocks_at};
 ghost use Rattle.afs_changes.specs.Planning.{amend_seen, edit_seen, edits_seen};

@@ -1,10 +1,10 @@
 //! New vnodes.
 
 ghost use Rattle.std.specs.Prelude.{◌≡◌, ◌≤◌, Some, true, is_ok, length, IfOk, if◌then◌else◌};
-ghost use Rattle.afs_ideal.specs.AccessLists.{acl_at};
-ghost use Rattle.afs_ideal.specs.Operations.{new_in, new_file, new_directory, new_link};
-ghost use Rattle.afs_ideal.specs.VnodeImage.{most_acl, most_contents, FitsImage};
-ghost use Rattle.afs_ideal.specs.Volumes.{has_bit, with_status};
+ghost use Rattle.spec_ideal.specs.AccessLists.{acl_at};
+ghost use Rattle.spec_ideal.specs.Operations.{new_in, new_file, new_directory, new_link};
+ghost use Rattle.spec_ideal.specs.VnodeImage.{most_acl, most_contents, FitsImage};
+ghost use Rattle.spec_ideal.specs.Volumes.{has_bit, with_status};
 ghost use Rattle.afs_changes.specs.Planning.{KeepsBody};
 ghost use Rattle.afs_volume.specs.Seen.{seen, kind_seen, contents_seen, names_seen, list_seen, list_spelled, IsReadable};
 

@@ -3,10 +3,10 @@
 ghost use Rattle.std.specs.Prelude.{◌≡◌, ◌∷◌, [], Some, None, true, IfOk, OnOk, ◌++◌, ◌≤◌, length, is_some, nat_lt, Ok};
 ghost use Rattle.std.specs.List.{prefix_len};
 ghost use Rattle.std.specs.Option.{option_copied, option_map};
-ghost use Rattle.afs_ideal.specs.Directories.{add_refused, directory_of, named, with_name, without_name};
-ghost use Rattle.afs_ideal.specs.Operations.{name_of, no_amend, unlinks};
-ghost use Rattle.afs_ideal.specs.VnodeImage.{most_contents};
-ghost use Rattle.afs_ideal.specs.Volumes.{amends, ascending, edit_number, placed};
+ghost use Rattle.spec_ideal.specs.Directories.{add_refused, directory_of, named, with_name, without_name};
+ghost use Rattle.spec_ideal.specs.Operations.{directory_name, no_amend, unlinks};
+ghost use Rattle.spec_ideal.specs.VnodeImage.{most_contents};
+ghost use Rattle.spec_ideal.specs.Volumes.{amends, ascending, edit_number, edit_put};
 ghost use Rattle.afs_changes.specs.Planning.{edit_seen, edits_seen};
 ghost use Rattle.afs_volume.specs.Seen.{names_spelled, seen, SpellsNames};
 
@@ -34,7 +34,7 @@ pub fn spelled_with(
 ) -> Mem<Octets>
     requires added { add_refused name.now names.now ≡ None }
     requires read { directory_of bytes.now ≡ Ok names.now }
-    ensures read { IfOk result (λ bs. names_spelled bs ≡ with_name (name_of name.now vnode unique) names.now) }
+    ensures read { IfOk result (λ bs. names_spelled bs ≡ with_name (directory_name name.now vnode unique) names.now) }
     ensures spelled { IfOk result (λ bs. SpellsNames (Some bs)) }
     ensures short { IfOk result (λ bs. length bs ≤ most_contents) }
 {
@@ -81,7 +81,7 @@ fn place_of(edits: &[Edit], number: u32) -> usize
 /// The edit in its place among those that stand by ascending vnode.
 #[tactic(auto, using(crate::proofs::Placed::placed_at))]
 fn put_in_place(edits: &mut Vec<Edit>, edit: Edit) -> Mem<()>
-    ensures { OnOk result (edits_seen edits.new.items ≡ placed (edit_seen edit) (edits_seen edits.old.items)) }
+    ensures { OnOk result (edits_seen edits.new.items ≡ edit_put (edit_seen edit) (edits_seen edits.old.items)) }
 {
     let place = place_of(edits, edit.number());
     edits.insert(place, edit)?;

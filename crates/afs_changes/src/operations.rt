@@ -2,9 +2,9 @@
 
 ghost use Rattle.std.specs.Prelude.{◌≡◌, ◌≤◌, ◌∷◌, [], Some, not, length, nat_lt, IfOk, OnOk};
 ghost use Rattle.afs_num.specs.declared.calls.FsCall.TheVariants as calls;
-ghost use Rattle.afs_ideal.specs.Operations.{first_failing, has_right, is_kind, is_mask, is_read_write, is_whole_store, most_bytes, no_amend};
-ghost use Rattle.afs_ideal.specs.VnodeImage.{most_acl};
-ghost use Rattle.afs_ideal.specs.Volumes.{a_directory, amends};
+ghost use Rattle.spec_ideal.specs.Operations.{first_failing, has_right, is_kind, is_mask, is_read_write, is_whole_store, most_file_bytes, no_amend};
+ghost use Rattle.spec_ideal.specs.VnodeImage.{most_acl};
+ghost use Rattle.spec_ideal.specs.Volumes.{a_directory, amends};
 ghost use Rattle.afs_changes.specs.Planning.{amend_seen, edits_seen, planned, Plans};
 ghost use Rattle.afs_reads.specs.Replying.{caller_seen, Passes};
 ghost use Rattle.afs_volume.specs.Giving.{volume_of};
@@ -43,7 +43,7 @@ fn plan_one(alloc: Global, number: u32, amend: Amend) -> Mem<Plan>
 
 /// One edit, which gives a file other bytes and the words of a status.
 fn plan_bytes(alloc: Global, number: u32, contents: &Octets, status: &AfsStoreStatus) -> Mem<Plan>
-    requires { length contents.now ≤ most_bytes }
+    requires { length contents.now ≤ most_file_bytes }
     ensures edits { IfOk result (λ p. edits_seen p.edits ≡ amends number (record no_amend { contents = Some contents.now; status = Some status.now }) ∷ []) }
     ensures shown { IfOk result (λ p. p.shown ≡ number) }
 {
@@ -77,8 +77,8 @@ fn may_store(
     is_good: bool,
     contents: &Octets,
 ) -> Result<(), OpFault>
-    ensures answer { Passes (first_failing ((not (is_kind (seen x.now).kind a_directory), 21) ∷ is_read_write (volume_of volume.now) ∷ has_right (caller_seen caller.now) 2 (volume_of volume.now) (Some (seen x.now)) ∷ (is_good, 22) ∷ (not (nat_lt most_bytes (length contents.now)), 27) ∷ [])) result }
-    ensures short { OnOk result (length contents.now ≤ most_bytes) }
+    ensures answer { Passes (first_failing ((not (is_kind (seen x.now).kind a_directory), 21) ∷ is_read_write (volume_of volume.now) ∷ has_right (caller_seen caller.now) 2 (volume_of volume.now) (Some (seen x.now)) ∷ (is_good, 22) ∷ (not (nat_lt most_file_bytes (length contents.now)), 27) ∷ [])) result }
+    ensures short { OnOk result (length contents.now ≤ most_file_bytes) }
 {
     check_all(&[
         (!is_directory(x), 21),

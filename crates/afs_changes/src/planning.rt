@@ -1,10 +1,10 @@
 //! What the operation of a call is to do.
 
 ghost use Rattle.std.specs.Prelude.{◌≡◌, ◌≤◌, length, true, IfOk};
-ghost use Rattle.afs_ideal.specs.Operations.{by_tests, changes, first_failing, limits, op, IsOn};
-ghost use Rattle.afs_ideal.proofs.Looks.{Distinct};
-ghost use Rattle.afs_ideal.specs.VnodeMaps.{most_vnodes};
-ghost use Rattle.afs_ideal.specs.Soundness.{IsSound};
+ghost use Rattle.spec_ideal.specs.Operations.{by_tests, changes, first_failing, limits, op, IsOn};
+ghost use Rattle.spec_ideal.proofs.Looks.{Distinct};
+ghost use Rattle.spec_ideal.specs.VnodeMaps.{most_vnodes};
+ghost use Rattle.spec_ideal.specs.Soundness.{IsSound};
 ghost use Rattle.afs_reads.specs.Replying.{caller_seen, FitsCall};
 ghost use Rattle.afs_changes.specs.Planning.{edits_seen, is_changing, planned, Plans};
 ghost use Rattle.afs_volume.specs.Giving.{volume_of};

@@ -2,10 +2,10 @@
 
 ghost use Rattle.std.specs.Prelude.{◌≡◌, true, is_some, Some, IfOk};
 ghost use Rattle.afs_num.specs.declared.calls.FsCall.TheVariants as calls;
-ghost use Rattle.afs_ideal.specs.Directories.{named};
-ghost use Rattle.afs_ideal.specs.Operations.{is_kind, removing};
-ghost use Rattle.afs_ideal.specs.Tables.{get};
-ghost use Rattle.afs_ideal.specs.Volumes.{a_directory, ascending, vnode_of};
+ghost use Rattle.spec_ideal.specs.Directories.{named};
+ghost use Rattle.spec_ideal.specs.Operations.{is_kind, removing};
+ghost use Rattle.spec_ideal.specs.Tables.{get};
+ghost use Rattle.spec_ideal.specs.Volumes.{a_directory, ascending, vnode_of};
 ghost use Rattle.afs_reads.specs.Replying.{caller_seen};
 ghost use Rattle.afs_changes.specs.Planning.{edits_seen, planned, Plans};
 ghost use Rattle.afs_volume.specs.Giving.{volume_of};

@@ -4,9 +4,9 @@ ghost use Rattle.std.specs.Prelude.{◌≡◌, ◌==◌, ◌<◌, ◌&&◌, ◌|
 ghost use Rattle.std.specs.Option.{option_copied, option_map};
 ghost use Rattle.afs_num.specs.Names.{name_ok};
 ghost use Rattle.afs_num.specs.declared.calls.FsCall.TheVariants as calls;
-ghost use Rattle.afs_ideal.specs.Directories.{named, with_name, without_name};
-ghost use Rattle.afs_ideal.specs.Operations.{by_tests, effect, first_failing, has_room_for, is_below, is_kind, is_same_name, linked, may_move, name_of, named_vnode, no_amend, rename_out_tests, rename_rights, renaming, same_vnode, Result};
-ghost use Rattle.afs_ideal.specs.Volumes.{a_directory, amends, vnode_of};
+ghost use Rattle.spec_ideal.specs.Directories.{named, with_name, without_name};
+ghost use Rattle.spec_ideal.specs.Operations.{by_tests, effect, first_failing, has_room_for, is_below, is_kind, is_same_name, linked, may_move, directory_name, named_vnode, no_amend, rename_out_tests, rename_rights, renaming, same_vnode, Result};
+ghost use Rattle.spec_ideal.specs.Volumes.{a_directory, amends, vnode_of};
 ghost use Rattle.afs_reads.specs.Replying.{caller_seen};
 ghost use Rattle.afs_changes.specs.Planning.{edits_seen, move_tests, planned, takes_place, Plans};
 ghost use Rattle.afs_volume.specs.Giving.{volume_of};
@@ -83,7 +83,7 @@ fn linked(comes: bool, goes: bool, links: u64) -> u64
 fn put_name(names: &mut Dir, name: &[u8], vnode: u32, unique: u32) -> Mem<()>
     requires good { name_ok name.now ≡ true }
     requires room { length (without_name name.now names.old) < 1024 }
-    ensures { OnOk result (names.new ≡ with_name (name_of name.now vnode unique) (without_name name.now names.old)) }
+    ensures { OnOk result (names.new ≡ with_name (directory_name name.now vnode unique) (without_name name.now names.old)) }
 {
     take_name(names, name);
     match names.add(name, vnode, unique) {
@@ -115,7 +115,7 @@ fn put_in(
 ) -> Mem<()>
     requires good { name_ok new.now ≡ true }
     requires room { length (without_name new.now names) < 1024 }
-    ensures { OnOk result (edits_seen edits.new ≡ edits_seen edits.old ++ amends e.now.vnode (record no_amend { names = Some (with_name (name_of new.now moved.0 moved.1) (without_name new.now names)); links = Some links }) ∷ []) }
+    ensures { OnOk result (edits_seen edits.new ≡ edits_seen edits.old ++ amends e.now.vnode (record no_amend { names = Some (with_name (directory_name new.now moved.0 moved.1) (without_name new.now names)); links = Some links }) ∷ []) }
 {
     let mut names = names;
     put_name(&mut names, new, moved.0, moved.1)?;
@@ -136,7 +136,7 @@ fn put_within(
     requires names { from.now.names.now ≡ (seen from.now.vnode.now).names }
     requires directory { is_kind (seen from.now.vnode.now).kind a_directory ≡ true }
     requires there { is_some (named from.now.name.now from.now.names.now) ≡ true }
-    ensures { OnOk result (edits_seen edits.new ≡ edits_seen edits.old ++ amends from.now.fid.now.vnode (record no_amend { names = Some (with_name (name_of new.now moved.0 moved.1) (without_name new.now (without_name from.now.name.now from.now.names.now))); links = Some links }) ∷ []) }
+    ensures { OnOk result (edits_seen edits.new ≡ edits_seen edits.old ++ amends from.now.fid.now.vnode (record no_amend { names = Some (with_name (directory_name new.now moved.0 moved.1) (without_name new.now (without_name from.now.name.now from.now.names.now))); links = Some links }) ∷ []) }
 {
     let mut left = names_of(alloc, from.vnode)?;
     take_name(&mut left, from.name);
@@ -156,7 +156,7 @@ fn put_across(
     requires names { to.now.names.now ≡ (seen to.now.vnode.now).names }
     requires directory { is_kind (seen to.now.vnode.now).kind a_directory ≡ true }
     requires room { (is_some (named to.now.name.now to.now.names.now) || nat_lt (length to.now.names.now) 1024) ≡ true }
-    ensures { OnOk result (edits_seen edits.new ≡ edits_seen edits.old ++ amends to.now.fid.now.vnode (record no_amend { names = Some (with_name (name_of to.now.name.now moved.0 moved.1) (without_name to.now.name.now to.now.names.now)); links = Some links }) ∷ []) }
+    ensures { OnOk result (edits_seen edits.new ≡ edits_seen edits.old ++ amends to.now.fid.now.vnode (record no_amend { names = Some (with_name (directory_name to.now.name.now moved.0 moved.1) (without_name to.now.name.now to.now.names.now)); links = Some links }) ∷ []) }
 {
     let all = names_of(alloc, to.vnode)?;
     put_in(edits, to.fid, all, to.name, moved, links)
@@ -178,7 +178,7 @@ fn move_across(
     requires room { (is_some (named to.now.name.now to.now.names.now) || nat_lt (length to.now.names.now) 1024) ≡ true }
     ensures { OnOk result (edits_seen edits.new ≡ ((edits_seen edits.old
         ++ amends from.now.fid.now.vnode (record no_amend { names = Some (without_name from.now.name.now from.now.names.now); links = Some left }) ∷ [])
-        ++ amends to.now.fid.now.vnode (record no_amend { names = Some (with_name (name_of to.now.name.now moved.0 moved.1) (without_name to.now.name.now to.now.names.now)); links = Some links }) ∷ [])
+        ++ amends to.now.fid.now.vnode (record no_amend { names = Some (with_name (directory_name to.now.name.now moved.0 moved.1) (without_name to.now.name.now to.now.names.now)); links = Some links }) ∷ [])
         ++ amends moved.0 (record no_amend { parent = Some (to.now.fid.now.vnode, to.now.fid.now.unique) }) ∷ []) }
 {
     take_from(alloc, edits, from, left)?;

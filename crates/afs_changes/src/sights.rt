@@ -3,12 +3,12 @@
 ghost use Rattle.std.specs.Prelude.{◌≡◌, ◌==◌, true, Some, find, length, IfSome};
 ghost use Rattle.std.specs.List.{list_any, AllByRecursion};
 ghost use Rattle.std.specs.Option.{option_copied, option_map};
-ghost use Rattle.afs_ideal.specs.AccessLists.{anyuser, rights_of};
-ghost use Rattle.afs_ideal.specs.Operations.{list_for, rights_by};
-ghost use Rattle.afs_ideal.specs.Replies.{change_reply, status_at, status_of, vnode_at};
-ghost use Rattle.afs_ideal.specs.Tables.{get};
-ghost use Rattle.afs_ideal.specs.VnodeImage.{FitsImage};
-ghost use Rattle.afs_ideal.specs.Volumes.{fid_of};
+ghost use Rattle.spec_ideal.specs.AccessLists.{anyuser, rights_of};
+ghost use Rattle.spec_ideal.specs.Operations.{list_for, rights_by};
+ghost use Rattle.spec_ideal.specs.Replies.{change_reply, vnode_status, status_of, vnode_at};
+ghost use Rattle.spec_ideal.specs.Tables.{get};
+ghost use Rattle.spec_ideal.specs.VnodeImage.{FitsImage};
+ghost use Rattle.spec_ideal.specs.Volumes.{fid_of};
 ghost use Rattle.afs_changes.specs.Drafts.{numbers_shown, volume_drafted, IsLeftIn};
 ghost use Rattle.afs_changes.specs.Drawing.{shown_by, IsLeft};
 ghost use Rattle.afs_reads.specs.Replying.{caller_seen};
@@ -112,7 +112,7 @@ impl<'a> Sight<'a> {
     fn status_at(&self, caller: &Caller, number: u32) -> AfsFetchStatus
         requires images { AllByRecursion (IsLeft self.now.draft.now.time) self.now.draft.now.vnodes }
         requires left { IsLeftIn (shown_by self.now.draft.now.vnodes) number }
-        ensures { result ≡ status_at self.now.volume.now.head.id (caller_seen caller.now) (λ f. self.now.draft.now.time) (volume_drafted self.now.draft.now self.now.volume.now) number }
+        ensures { result ≡ vnode_status self.now.volume.now.head.id (caller_seen caller.now) (λ f. self.now.draft.now.time) (volume_drafted self.now.draft.now self.now.volume.now) number }
     {
         self.status(caller, self.shown(number))
     }

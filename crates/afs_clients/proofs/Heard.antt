@@ -13,19 +13,19 @@ use Rattle.afs_num.specs.declared.messages.Received.TheVariants.{Unserved, Whole
 use Rattle.afs_num.specs.declared.types.Head.{Head}
 use Rattle.afs_num.specs.declared.types.Node.{Node}
 use Rattle.afs_num.specs.declared.types.Node.TheVariants.{Client}
-use Rattle.afs_history.specs.declared.lines.Line.TheVariants as lines
-use Rattle.afs_history.specs.declared.lines.Outs.{Outs}
-use Rattle.afs_shape.specs.Tables.{is_among}
-use Rattle.afs_model.specs.CellRows.{call_number, client_calls}
-use Rattle.afs_model.specs.Messages.{is_unserved, is_whole, messages_spelled, FoundBy}
-use Rattle.afs_model.specs.Calls.{admitted, Admitted}
-use Rattle.afs_model.specs.Calls as pairs
-use Rattle.afs_copyrows.specs.CopyRow.{answers_in, answers_to, copy_row, hears_by, uses}
-use Rattle.afs_copyrows.specs.Sites.{round_of, sited, CopyState, Round}
-use Rattle.afs_rows.specs.ClientRow.{admits_call, client_row, guest_row, ignores, is_awaited, refused_with, replies_step, runs_carried, sought_or, takes_in, whole}
-use Rattle.afs_rows.specs.ServerRow.{not_served}
-use Rattle.afs_rows.specs.Going.{ClientState, Going, Seek}
-use Rattle.afs_rows.specs.Steps.{Step}
+use Rattle.spec_history.specs.declared.lines.Line.TheVariants as lines
+use Rattle.spec_history.specs.declared.lines.Outs.{Outs}
+use Rattle.spec_shape.specs.Tables.{is_among}
+use Rattle.spec_model.specs.CellRows.{call_number, client_calls}
+use Rattle.spec_model.specs.Messages.{is_unserved, is_whole, messages_spelled, FoundBy}
+use Rattle.spec_model.specs.Calls.{admitted, Admitted}
+use Rattle.spec_model.specs.Calls as pairs
+use Rattle.spec_copyrows.specs.CopyRow.{answers_in, answers_to, copy_row, hears_by, uses}
+use Rattle.spec_copyrows.specs.Sites.{round_of, sited, CopyState, Round}
+use Rattle.spec_rows.specs.ClientRow.{admits_call, client_row, guest_row, ignores, is_awaited, refused_with, replies_step, runs_carried, sought_or, takes_in, whole}
+use Rattle.spec_rows.specs.ServerRow.{not_served}
+use Rattle.spec_rows.specs.Going.{ClientState, Going, Seek}
+use Rattle.spec_rows.specs.Steps.{Step}
 use Rattle.afs_cache.specs.Managing.{Makes}
 use Rattle.afs_clients.specs.Happening.{ClientMakes}
 use Rattle.afs_clients.specs.declared.clients.ClientSeat.{ClientSeat}

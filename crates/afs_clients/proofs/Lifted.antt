@@ -1,8 +1,8 @@
 -- A client in its place was given something.
 use Rattle.std.proofs.Common.{refl, arith, ap, sym, ◌∙◌, ◌≡◌, inl, inr, ℕ, List, None, Some}
 use Rattle.afs_num.specs.Places.{at_place}
-use Rattle.afs_history.specs.declared.lines.Outs.{Outs}
-use Rattle.afs_history.specs.declared.scripts.Script.{Script}
+use Rattle.spec_history.specs.declared.lines.Outs.{Outs}
+use Rattle.spec_history.specs.declared.scripts.Script.{Script}
 use Rattle.afs_clients.specs.Happening.{ClientGoes, ClientHappens, ClientsHappened}
 use Rattle.afs_clients.specs.Places.{put_place, Room}
 use Rattle.afs_clients.specs.Seating.{GoesOn, IsHanded}

@@ -4,8 +4,8 @@ use Rattle.std.specs.List.{insert, remove}
 use Rattle.std.specs.Prelude.{slice_index_or, slice_set, IfNone, Option}
 use Rattle.std.proofs.lemmas.Bool.{eqb-true, eqb-false, ne_eqb, lt-ltb, le-ltb}
 use Rattle.afs_num.specs.Places.{at_place}
-use Rattle.afs_rows.specs.Runs.{has_client}
-use Rattle.afs_runs.specs.NodeRuns.{has_host, NodeCell}
+use Rattle.spec_rows.specs.Runs.{has_client}
+use Rattle.spec_runs.specs.NodeRuns.{has_host, NodeCell}
 use Rattle.afs_clients.specs.Places.{put_place, Each}
 
 pub some_is : {A : Type 0} (x y : A) → Some x ≡ Some y → x ≡ y

@@ -5,19 +5,19 @@ use Rattle.std.proofs.lemmas.List.Elements.{All-cons, All-head, All-nil, All-tai
 use Rattle.afs_num.specs.Nodes.{same_node}
 use Rattle.afs_num.specs.declared.types.Node.{Node}
 use Rattle.afs_num.specs.declared.types.Node.TheVariants.{Client}
-use Rattle.afs_history.specs.declared.acts.Act.{Act}
-use Rattle.afs_history.specs.declared.acts.Act.TheVariants as acts
-use Rattle.afs_history.specs.declared.scripts.Script.{Script}
-use Rattle.afs_history.specs.declared.scripts.Task.{Task}
-use Rattle.afs_history.specs.declared.scripts.Task.TheVariants as tasks
-use Rattle.afs_history.specs.declared.acts.Operand.{Operand}
-use Rattle.afs_history.specs.declared.acts.Operand.TheVariants as operands
-use Rattle.afs_acts.specs.Acts.{AreShort, IsShortAct, IsShortCall, IsShortIfAny, IsShortOperand}
-use Rattle.afs_model.specs.FsRows.{name_limit}
-use Rattle.afs_copyrows.specs.Sites.{new_copies, CopyState}
-use Rattle.afs_rows.specs.ClientRow.{new_client}
-use Rattle.afs_rows.specs.Going.{operands_of}
-use Rattle.afs_rows.specs.Runs.{locations, user_at}
+use Rattle.spec_history.specs.declared.acts.Act.{Act}
+use Rattle.spec_history.specs.declared.acts.Act.TheVariants as acts
+use Rattle.spec_history.specs.declared.scripts.Script.{Script}
+use Rattle.spec_history.specs.declared.scripts.Task.{Task}
+use Rattle.spec_history.specs.declared.scripts.Task.TheVariants as tasks
+use Rattle.spec_history.specs.declared.acts.Operand.{Operand}
+use Rattle.spec_history.specs.declared.acts.Operand.TheVariants as operands
+use Rattle.afs_acts.specs.Acts.{AreShort, FitsCalls, IsShortCall, IsShortIfAny, IsShortOperand}
+use Rattle.spec_model.specs.FsRows.{name_limit}
+use Rattle.spec_copyrows.specs.Sites.{new_copies, CopyState}
+use Rattle.spec_rows.specs.ClientRow.{new_client}
+use Rattle.spec_rows.specs.Going.{operands_of}
+use Rattle.spec_rows.specs.Runs.{locations, user_at}
 use Rattle.afs_schedule.specs.Schedules.{client_act, doer, tasks_of}
 use Rattle.afs_words.specs.declared.nodes.Counts.{Counts}
 use Rattle.afs_grammar.specs.CellScripts as script
@@ -93,7 +93,7 @@ short_second (acts.SetAccessList o text) h = tt
 short_second (acts.GetAccessList o) h = tt
 short_second acts.GiveUp h = tt
 
-short_act : (a : Act) → script.IsShortAct a → IsShortAct a
+short_act : (a : Act) → script.IsShortAct a → FitsCalls a
 short_act a h = record { first = short_first a h; second = short_second a h; call = short_call a h }
 
 short_task : (c : Counts) (t : Task) → FitsTask c t → IsShortTask t
@@ -113,9 +113,9 @@ tasks_short c n (t ∷ ts) h = kept (same_node (doer t) n) t (tasks_of n ts) (sh
 some_is : {A : Type 0} (x y : A) → Some x ≡ Some y → x ≡ y
 some_is {A} x y e = cc
 
-pub first_short : (ts : List Task) (act : Act) → All IsShortTask ts → client_act (slice_get ts 0) ≡ Some act → IsShortAct act
+pub first_short : (ts : List Task) (act : Act) → All IsShortTask ts → client_act (slice_get ts 0) ≡ Some act → FitsCalls act
 first_short [] act all e = absurd cc
-first_short (tasks.Client n a ∷ ts) act all e = subst IsShortAct (some_is a act e) (All-head IsShortTask (tasks.Client n a) ts all)
+first_short (tasks.Client n a ∷ ts) act all e = subst FitsCalls (some_is a act e) (All-head IsShortTask (tasks.Client n a) ts all)
 first_short (tasks.Admin n a ∷ ts) act all e = absurd cc
 
 pub rest_short : (old new : List Task) → new ≡ drop 1 old → All IsShortTask old → All IsShortTask new

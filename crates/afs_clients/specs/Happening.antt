@@ -7,22 +7,22 @@ use Rattle.afs_num.specs.declared.messages.Message.{Message}
 use Rattle.afs_num.specs.declared.messages.Received.TheVariants.{Whole}
 use Rattle.afs_num.specs.declared.types.Node.{Node}
 use Rattle.afs_num.specs.declared.types.Node.TheVariants.{Admin, Client}
-use Rattle.afs_history.specs.declared.acts.Act.{Act}
-use Rattle.afs_history.specs.declared.lines.Entry as kept
-use Rattle.afs_history.specs.declared.lines.Line.{Line}
-use Rattle.afs_history.specs.declared.lines.Line.TheVariants as lines
-use Rattle.afs_history.specs.declared.lines.Outs.{Outs}
-use Rattle.afs_history.specs.declared.scripts.Event.TheVariants as events
-use Rattle.afs_history.specs.declared.scripts.Script.{Script}
-use Rattle.afs_model.specs.Messages.{messages_spelled, parcels_read, received}
-use Rattle.afs_copyrows.specs.CopyRow.{copies_reborn, copy_begin_row, copy_row}
-use Rattle.afs_copyrows.specs.Sites.{CopyState}
-use Rattle.afs_rows.specs.ClientRow.{act_of}
-use Rattle.afs_rows.specs.Going.{ClientState, Going}
-use Rattle.afs_rows.specs.Runs.{locations, server_waits, sets_fail, sets_stop, starts_again, stops, wakes, Outcome}
-use Rattle.afs_runs.specs.NodeRuns.{usual, CellInput}
-use Rattle.afs_rows.specs.Steps.{Step}
-use Rattle.afs_schedule.specs.Schedules.{at_server, client_act, IsInput, IsRestart, Turn}
+use Rattle.spec_history.specs.declared.acts.Act.{Act}
+use Rattle.spec_history.specs.declared.lines.Entry as kept
+use Rattle.spec_history.specs.declared.lines.Line.{Line}
+use Rattle.spec_history.specs.declared.lines.Line.TheVariants as lines
+use Rattle.spec_history.specs.declared.lines.Outs.{Outs}
+use Rattle.spec_history.specs.declared.scripts.Event.TheVariants as events
+use Rattle.spec_history.specs.declared.scripts.Script.{Script}
+use Rattle.spec_model.specs.Messages.{messages_spelled, parcels_read, received}
+use Rattle.spec_copyrows.specs.CopyRow.{copies_reborn, copy_begin_row, copy_row}
+use Rattle.spec_copyrows.specs.Sites.{CopyState}
+use Rattle.spec_rows.specs.ClientRow.{act_of}
+use Rattle.spec_rows.specs.Going.{ClientState, Going}
+use Rattle.spec_rows.specs.Runs.{locations, server_waits, sets_fail, sets_stop, starts_again, stops, wakes, Outcome}
+use Rattle.spec_runs.specs.NodeRuns.{usual, CellInput}
+use Rattle.spec_rows.specs.Steps.{Step}
+use Rattle.afs_schedule.specs.Schedules.{server_input, client_act, IsInput, IsRestart, ScheduleState}
 pub use Rattle.afs_cache.specs.Managing.{copy_seek_times_out, copy_times_out}
 use Rattle.afs_clients.specs.Places.{put_place}
 use Rattle.afs_clients.specs.Seating.{IsHanded}
@@ -41,15 +41,15 @@ use Rattle.afs_clients.specs.declared.happening.ServerInput.TheVariants as serve
 -- ---- events
 
 -- which input of the cell it is, at a server and at the location database: a restart leaves open whether the disk fails, and what it kept where it had failed by itself
-abbrev pub IsGiven : ℕ → ServerInput → Turn → CellInput → Type 0
+abbrev pub IsGiven : ℕ → ServerInput → ScheduleState → CellInput → Type 0
 IsGiven i (server.TimeOut callee) t x = x ≡ usual (server_waits i callee)
 IsGiven i server.Wake t x = x ≡ usual (wakes i)
-IsGiven i (server.Crash pick) t x = x ≡ usual (at_server i (stops i))
-IsGiven i server.Restart t x = IsRestart (t.cell.hosts i).down (λ (after : Bool) (outcome : Outcome). usual (at_server i (starts_again i after outcome))) x
-IsGiven i (server.Stop calls pick) t x = x ≡ usual (at_server i (sets_stop i calls pick))
-IsGiven i (server.Fail call) t x = x ≡ usual (at_server i (sets_fail i call))
+IsGiven i (server.Crash pick) t x = x ≡ usual (server_input i (stops i))
+IsGiven i server.Restart t x = IsRestart (t.cell.hosts i).down (λ (after : Bool) (outcome : Outcome). usual (server_input i (starts_again i after outcome))) x
+IsGiven i (server.Stop calls pick) t x = x ≡ usual (server_input i (sets_stop i calls pick))
+IsGiven i (server.Fail call) t x = x ≡ usual (server_input i (sets_fail i call))
 
-abbrev pub IsGivenToLoc : DatabaseInput → Turn → CellInput → Type 0
+abbrev pub IsGivenToLoc : DatabaseInput → ScheduleState → CellInput → Type 0
 IsGivenToLoc (database.Crash pick) t x = x ≡ usual (stops 0)
 IsGivenToLoc database.Restart t x = IsRestart t.cell.loc.down (λ (after : Bool) (outcome : Outcome). usual (starts_again 0 after outcome)) x
 IsGivenToLoc (database.Stop calls pick) t x = x ≡ usual (sets_stop 0 calls pick)
@@ -125,14 +125,14 @@ ClientTakes s n clock client.Crash old new outs = HasFallen s n old new outs
 ClientTakes s n clock client.Restart old new outs = HasRisen n old new outs
 
 -- the event that gives a client this
-abbrev pub IsAsked : ClientInput → ℕ → Turn → CellInput → Type 0
-IsAsked client.Act n t x = IsInput t (events.Act (Client n)) x
-IsAsked (client.TimeOut callee) n t x = IsInput t (events.Timeout (Client n) callee) x
-IsAsked client.Crash n t x = IsInput t (events.Crash (Client n)) x
-IsAsked client.Restart n t x = IsInput t (events.Restart (Client n)) x
+abbrev pub IsBegunOrGiven : ClientInput → ℕ → ScheduleState → CellInput → Type 0
+IsBegunOrGiven client.Act n t x = IsInput t (events.Act (Client n)) x
+IsBegunOrGiven (client.TimeOut callee) n t x = IsInput t (events.Timeout (Client n) callee) x
+IsBegunOrGiven client.Crash n t x = IsInput t (events.Crash (Client n)) x
+IsBegunOrGiven client.Restart n t x = IsInput t (events.Restart (Client n)) x
 
 -- the event that gives an administrator this
-abbrev pub IsAskedOfAdmin : AdminInput → ℕ → Turn → CellInput → Type 0
+abbrev pub IsAskedOfAdmin : AdminInput → ℕ → ScheduleState → CellInput → Type 0
 IsAskedOfAdmin admin.Act n t x = IsInput t (events.Act (Admin n)) x
 IsAskedOfAdmin (admin.TimeOut callee) n t x = IsInput t (events.Timeout (Admin n) callee) x
 IsAskedOfAdmin admin.Crash n t x = IsInput t (events.Crash (Admin n)) x

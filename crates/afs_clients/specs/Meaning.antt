@@ -1,13 +1,13 @@
 -- What an event gives to a node of the cell.
 use Rattle.std.specs.Prelude.{◌≡◌, ◌≤◌, ℕ}
-use Rattle.afs_history.specs.declared.scripts.Event.{Event}
-use Rattle.afs_history.specs.declared.scripts.Event.TheVariants as events
+use Rattle.spec_history.specs.declared.scripts.Event.{Event}
+use Rattle.spec_history.specs.declared.scripts.Event.TheVariants as events
 use Rattle.afs_words.specs.declared.nodes.Counts.{Counts}
 use Rattle.afs_grammar.specs.CellScripts.{FitsEvent}
-use Rattle.afs_rows.specs.Runs.{nothing}
-use Rattle.afs_runs.specs.NodeRuns.{usual, CellInput}
-use Rattle.afs_schedule.specs.Schedules.{IsInput, Turn}
-use Rattle.afs_clients.specs.Happening.{IsAsked, IsAskedOfAdmin, IsDue, IsDueAtLoc, IsGiven, IsGivenToLoc}
+use Rattle.spec_rows.specs.Runs.{nothing}
+use Rattle.spec_runs.specs.NodeRuns.{usual, CellInput}
+use Rattle.afs_schedule.specs.Schedules.{IsInput, ScheduleState}
+use Rattle.afs_clients.specs.Happening.{IsBegunOrGiven, IsAskedOfAdmin, IsDue, IsDueAtLoc, IsGiven, IsGivenToLoc}
 use Rattle.afs_clients.specs.declared.events.Given.{Given}
 use Rattle.afs_clients.specs.declared.events.Given.TheVariants as given
 use Rattle.afs_clients.specs.declared.happening.AdminInput.{AdminInput}
@@ -17,27 +17,27 @@ use Rattle.afs_clients.specs.declared.happening.ServerInput.{ServerInput}
 
 -- an input of the client's is the event, and the client is one of the cell where the event fits it
 pub record IsForClient (event : Event) (n : ℕ) (what : ClientInput) : Type 0 where
-  pub input : (t : Turn) (x : CellInput) → IsAsked what n t x → IsInput t event x
+  pub input : (t : ScheduleState) (x : CellInput) → IsBegunOrGiven what n t x → IsInput t event x
   pub inside : (c : Counts) → FitsEvent c event → (1 ≤ n) × (n ≤ c.clients)
 
 -- and of an administrator's
 pub record IsForAdmin (event : Event) (n : ℕ) (what : AdminInput) : Type 0 where
-  pub input : (t : Turn) (x : CellInput) → IsAskedOfAdmin what n t x → IsInput t event x
+  pub input : (t : ScheduleState) (x : CellInput) → IsAskedOfAdmin what n t x → IsInput t event x
   pub inside : (c : Counts) → FitsEvent c event → (1 ≤ n) × (n ≤ c.admins)
 
 -- and of a server's, whose failure is due at a call to come
 pub record IsForServer (event : Event) (i : ℕ) (what : ServerInput) : Type 0 where
-  pub input : (t : Turn) (x : CellInput) → IsGiven i what t x → IsInput t event x
+  pub input : (t : ScheduleState) (x : CellInput) → IsGiven i what t x → IsInput t event x
   pub due : (c : Counts) → FitsEvent c event → IsDue what
 
 -- and of the location database's
 pub record IsForLoc (event : Event) (what : DatabaseInput) : Type 0 where
-  pub input : (t : Turn) (x : CellInput) → IsGivenToLoc what t x → IsInput t event x
+  pub input : (t : ScheduleState) (x : CellInput) → IsGivenToLoc what t x → IsInput t event x
   pub due : (c : Counts) → FitsEvent c event → IsDueAtLoc what
 
 -- nothing is the event
 abbrev pub IsForNone : Event → Type 0
-IsForNone event = (t : Turn) → IsInput t event (usual nothing)
+IsForNone event = (t : ScheduleState) → IsInput t event (usual nothing)
 
 abbrev pub IsMeant : Event → Given → Type 0
 IsMeant event given.Nothing = IsForNone event

@@ -4,21 +4,21 @@ use Rattle.std.specs.List.{All}
 use Rattle.afs_num.specs.Nodes.{same_node}
 use Rattle.afs_num.specs.declared.types.Node.{Node}
 use Rattle.afs_num.specs.declared.types.Node.TheVariants.{Client}
-use Rattle.afs_history.specs.declared.scripts.Script.{Script}
+use Rattle.spec_history.specs.declared.scripts.Script.{Script}
 use Rattle.afs_cache.specs.Lasting.{lasting}
-use Rattle.afs_copyrows.specs.Sites.{new_copies}
-use Rattle.afs_rows.specs.ClientRow.{new_client}
-use Rattle.afs_rows.specs.Going.{ClientState, Going}
-use Rattle.afs_rows.specs.Runs.{locations, user_at}
+use Rattle.spec_copyrows.specs.Sites.{new_copies}
+use Rattle.spec_rows.specs.ClientRow.{new_client}
+use Rattle.spec_rows.specs.Going.{ClientState, Going}
+use Rattle.spec_rows.specs.Runs.{locations, user_at}
 use Rattle.afs_schedule.specs.Schedules.{tasks_of}
 use Rattle.afs_clients.specs.declared.clients.ClientSeat.{ClientSeat}
-use Rattle.afs_history.specs.declared.scripts.Task.{Task}
-use Rattle.afs_history.specs.declared.scripts.Task.TheVariants as tasks
-use Rattle.afs_acts.specs.Acts.{IsShortAct}
+use Rattle.spec_history.specs.declared.scripts.Task.{Task}
+use Rattle.spec_history.specs.declared.scripts.Task.TheVariants as tasks
+use Rattle.afs_acts.specs.Acts.{FitsCalls}
 
 -- an act of a client is within its limits
 abbrev pub IsShortTask : Task → Type 0
-IsShortTask (tasks.Client n act) = IsShortAct act
+IsShortTask (tasks.Client n act) = FitsCalls act
 IsShortTask (tasks.Admin n act) = Unit {0}
 
 -- What a client was handed at its start, or when it began again, and keeps, is the script's; so are the acts that it has not begun.

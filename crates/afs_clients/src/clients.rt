@@ -5,9 +5,9 @@ ghost use Rattle.std.specs.List.{All};
 ghost use Rattle.afs_num.specs.declared.types.Node.TheVariants.{Client};
 ghost use Rattle.afs_cache.specs.Managing.{number_limit};
 ghost use Rattle.afs_grammar.specs.CellScripts.{IsCellScript};
-ghost use Rattle.afs_copyrows.specs.Sites.{new_copies};
-ghost use Rattle.afs_rows.specs.ClientRow.{act_of, new_client};
-ghost use Rattle.afs_rows.specs.Runs.{locations, user_at, user_in};
+ghost use Rattle.spec_copyrows.specs.Sites.{new_copies};
+ghost use Rattle.spec_rows.specs.ClientRow.{act_of, new_client};
+ghost use Rattle.spec_rows.specs.Runs.{locations, user_at, user_in};
 ghost use Rattle.afs_clients.specs.Happening.{ClientGoes, ClientHappens, ClientHears, ClientTakes, HasBegun, HasFallen, HasRisen, HasTimedOut, IsVoidClient};
 ghost use Rattle.afs_clients.specs.Seating.{awaits, GoesOn, IsFirstClient, IsHanded, IsShortTask};
 ghost use Rattle.afs_clients.specs.declared.happening.ClientInput.TheVariants as input;
@@ -15,10 +15,10 @@ ghost use Rattle.afs_clients.specs.declared.happening.ClientInput.TheVariants as
 use crate::happening::{ClientInput, Happened};
 use crate::telling::told_alone;
 use afs_cache::CacheManager;
-use afs_history::lines::Line;
-use afs_history::scripts::{Script, UserLine};
 use afs_num::types::{Mem, Node};
 use afs_schedule::Plan;
+use spec_history::lines::Line;
+use spec_history::scripts::{Script, UserLine};
 use std::alloc::Global;
 
 /// The name of a user of whom a script says nothing.

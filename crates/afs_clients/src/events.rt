@@ -2,15 +2,15 @@
 
 ghost use Rattle.std.specs.Prelude.{◌≡◌, ℕ};
 ghost use Rattle.afs_num.specs.declared.types.Node.TheVariants.{Loc, Server};
-ghost use Rattle.afs_history.specs.declared.scripts.Event.TheVariants as events;
+ghost use Rattle.spec_history.specs.declared.scripts.Event.TheVariants as events;
 ghost use Rattle.afs_clients.specs.Meaning.{IsMeant};
 ghost use Rattle.afs_clients.specs.declared.events.Given.TheVariants as given;
 ghost use Rattle.afs_clients.specs.declared.happening.DatabaseInput.TheVariants as database;
 ghost use Rattle.afs_clients.specs.declared.happening.ServerInput.TheVariants as server;
 
 use crate::happening::{AdminInput, ClientInput, DatabaseInput, ServerInput};
-use afs_history::scripts::Event;
 use afs_num::types::Node;
+use spec_history::scripts::Event;
 
 /// What an event is: nothing; something for a client, an administrator or a server of this number, or for the location database; the
 /// message of a place; or that the clock rises.

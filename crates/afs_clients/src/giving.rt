@@ -8,7 +8,7 @@ ghost use Rattle.afs_clients.specs.Ready.{AllReady};
 use crate::clients::ClientSeat;
 use crate::happening::{ClientInput, Happened};
 use crate::places::Places;
-use afs_history::scripts::Script;
+use spec_history::scripts::Script;
 use std::alloc::Global;
 
 /// A client is given a message.

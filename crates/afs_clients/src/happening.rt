@@ -1,7 +1,7 @@
 //! What a node of the cell is given, and what comes of it.
 
-use afs_history::lines::Outs;
 use afs_num::types::Node;
+use spec_history::lines::Outs;
 
 /// What a server is given beside messages.
 #[derive(Clone, Copy, Debug)]

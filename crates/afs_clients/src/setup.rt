@@ -2,17 +2,17 @@
 
 ghost use Rattle.std.specs.Prelude.{◌≡◌, ◌<◌, ◌+◌, length, map, IfOk};
 ghost use Rattle.afs_grammar.specs.CellScripts.{IsCellScript};
-ghost use Rattle.afs_grammar.specs.Lines.{volumes_at};
+ghost use Rattle.afs_grammar.specs.Lines.{lines_of_server};
 ghost use Rattle.afs_clients.specs.Seating.{AreFirstClients};
 
 use crate::clients::ClientSeat;
-use afs_history::scripts::{Script, VolumeLine};
 use afs_num::types::Mem;
+use spec_history::scripts::{Script, VolumeLine};
 use std::alloc::Global;
 
 /// The volumes of a server, in the script's order.
 pub fn lines_at(alloc: Global, script: &Script, server: u8) -> Mem<Vec<&VolumeLine>>
-    ensures { IfOk result (λ ls. map (λ l. l.now) ls.items ≡ volumes_at server script.now.volumes) }
+    ensures { IfOk result (λ ls. map (λ l. l.now) ls.items ≡ lines_of_server server script.now.volumes) }
 {
     let mut lines = Vec::new(alloc);
     for line in script.volumes.as_slice() {

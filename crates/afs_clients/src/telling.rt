@@ -3,11 +3,11 @@
 ghost use Rattle.std.specs.Prelude.{◌≡◌, [], ◌∷◌, ◌++◌, length, IfOk, OnOk, OnErr, Some};
 ghost use Rattle.afs_clients.specs.Happening.{entry_of, front_lines, ClientTells};
 
-use afs_history::lines::{Entry, Line, Lines, Outs};
 use afs_num::histories::Actor;
 use afs_num::sequences::Sequence;
 use afs_num::types::{Mem, Node};
 use afs_wire::Wire;
+use spec_history::lines::{Entry, Line, Lines, Outs};
 use std::alloc::Global;
 
 /// One line, with room for no other: a long run has many entries of one line.

@@ -1,9 +1,9 @@
 //! A clone has all vnodes of its volume as they are.
 
 ghost use Rattle.std.specs.Prelude.{◌≡◌, ◌≤◌, length, IfOk};
-ghost use Rattle.afs_dumps.specs.Clones.{cloned, recloned};
-ghost use Rattle.afs_records.specs.Records.{most_name};
-ghost use Rattle.afs_shape.specs.Tables.{IsVolumeKind};
+ghost use Rattle.spec_dumps.specs.Clones.{cloned, recloned};
+ghost use Rattle.spec_records.specs.Records.{most_name};
+ghost use Rattle.spec_shape.specs.Tables.{IsVolumeKind};
 ghost use Rattle.afs_volume.specs.Taking.{stored_of};
 
 use afs_num::sequences::Octets;

@@ -2,11 +2,11 @@
 use Rattle.std.specs.Prelude.{◌<◌, ℕ, List, [], ◌++◌, length, Option, Some, None, Err}
 use Rattle.std.proofs.Common.{◌∙◌, inl, inr}
 use Rattle.std.specs.Io.KnownBytes.{Consumes, IsAtEnd}
-use Rattle.afs_history.specs.declared.scripts.Script.{Script}
+use Rattle.spec_history.specs.declared.scripts.Script.{Script}
 use Rattle.afs_grammar.proofs.TooLong.{longer_as_front}
 use Rattle.afs_outside.specs.Outside.{HadAll, TakesTooMuch}
 use Rattle.afs_command.specs.Spans.{IsUnchanged, Span}
-use Rattle.afs_command.specs.Reading.{refusal_status, IsLongRefusal, RefusedBy, GivesNone, level, most_bytes}
+use Rattle.afs_command.specs.Reading.{refusal_status, IsLongRefusal, RefusedBy, GivesNone, level, most_script_bytes}
 use Rattle.afs_command.specs.declared.scripts.Refusal.{Refusal}
 use Rattle.afs_command.specs.declared.scripts.Refusal.TheVariants as refusals
 
@@ -20,7 +20,7 @@ had_behind None after front taken = ([], tt)
 had_behind (Some left) None front taken = absurd taken
 had_behind (Some left) (Some rest) front taken = (rest, taken)
 
-pub none_of_long : (source : Span (Option (List ℕ))) (faults : Span ℕ) (front : List ℕ) (r : Refusal) → IsUnchanged faults → TakesTooMuch most_bytes source.before source.after front → IsLongRefusal front r → GivesNone source faults (refusal_status r)
+pub none_of_long : (source : Span (Option (List ℕ))) (faults : Span ℕ) (front : List ℕ) (r : Refusal) → IsUnchanged faults → TakesTooMuch most_script_bytes source.before source.after front → IsLongRefusal front r → GivesNone source faults (refusal_status r)
 none_of_long source faults front (refusals.Script line reason) quiet taken bad =
     let all = had_behind source.before source.after front taken.consumed in
     record { quiet = quiet; input = front ++ all.0; had = all.1; taken = inr (front, taken); bad = bad all.0 }

@@ -6,7 +6,7 @@ use Rattle.afs_disk.specs.declared.bank.Place.{Place}
 use Rattle.afs_disk.specs.declared.bank.Place.TheVariants.{Memory, Folder}
 use Rattle.std.specs.Str.{bytes_eq}
 use Rattle.afs_command.specs.declared.statuses.Form.{Form}
-use Rattle.afs_model.specs.ScriptWords.{ranged}
+use Rattle.spec_model.specs.ScriptWords.{ranged}
 use Rattle.afs_command.specs.declared.statuses.Form.TheVariants.{Gen, Replay}
 
 -- ---- what the forms are

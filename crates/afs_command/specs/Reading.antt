@@ -2,7 +2,7 @@
 use Rattle.std.specs.Prelude.{◌≡◌, ℕ, List, Option, Ok, ◌++◌, Result, Err, ◌⊎◌}
 use Rattle.std.specs.Io.KnownBytes.{IsAtEnd}
 use Rattle.afs_num.specs.declared.scripts.Reason.{Reason}
-use Rattle.afs_history.specs.declared.scripts.Script.{Script}
+use Rattle.spec_history.specs.declared.scripts.Script.{Script}
 use Rattle.afs_grammar.specs.Lines.{script_of}
 use Rattle.afs_outside.specs.Outside.{HadAll, TakesTooMuch}
 use Rattle.afs_command.specs.Spans.{IsUnchanged, RoseBy, Span}
@@ -21,12 +21,12 @@ abbrev pub IsBad : ℕ → Reason → List ℕ → Type 0
 IsBad line reason input = script_of level input ≡ Err (line, reason)
 
 -- the most bytes that a script may have
-abbrev pub most_bytes : ℕ
-most_bytes = 16777216
+abbrev pub most_script_bytes : ℕ
+most_script_bytes = 16777216
 
 -- The source was read to its end, or one byte above the most that a script may have was taken from it.
 abbrev pub IsReadOut : Span (Option (List ℕ)) → Type 0
-IsReadOut source = IsAtEnd source.after ⊎ ((front : List ℕ) × TakesTooMuch most_bytes source.before source.after front)
+IsReadOut source = IsAtEnd source.after ⊎ ((front : List ℕ) × TakesTooMuch most_script_bytes source.before source.after front)
 
 -- an input that can't be played is refused by its first bad line; where memory runs out, nothing is said of it
 abbrev pub RefusedBy : {A : Type 0} → List ℕ → Result A Refusal → Type 0

@@ -10,9 +10,9 @@ use crate::statuses::Status;
 use afs_grammar::forms::Form;
 use afs_grammar::{ScriptFault, read_script};
 use afs_ground::SetUpGround;
-use afs_history::scripts::Script;
 use afs_num::scripts::Reason;
 use afs_outside::outside::{ReadError, Source, read_all};
+use spec_history::scripts::Script;
 use std::alloc::Global;
 
 /// The most bytes of a script.

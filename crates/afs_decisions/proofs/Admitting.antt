@@ -10,14 +10,14 @@ use Rattle.afs_num.specs.declared.messages.Received.{Received}
 use Rattle.afs_num.specs.declared.messages.Received.TheVariants.{Whole}
 use Rattle.afs_num.specs.declared.types.Head.{Head}
 use Rattle.afs_num.specs.declared.types.Node.{Node}
-use Rattle.afs_model.specs.Calls as pairs
-use Rattle.afs_model.specs.Calls.{admitted, call_seat, paired, Admitted}
-use Rattle.afs_model.specs.Messages.{HasSpelling}
-use Rattle.afs_ideal.specs.Operations.{the_user, volume_called}
-use Rattle.afs_ideal.specs.Tables.{Table}
-use Rattle.afs_rows.specs.ServerRow.{drops, is_client, not_served, refuses, time_read}
-use Rattle.afs_rows.specs.States.{Seat, ServerState}
-use Rattle.afs_volrows.specs.FileRow.{file_admits, file_called, file_received, file_runs, file_serves, file_volume}
+use Rattle.spec_model.specs.Calls as pairs
+use Rattle.spec_model.specs.Calls.{admitted, call_seat, paired, Admitted}
+use Rattle.spec_model.specs.Messages.{HasSpelling}
+use Rattle.spec_ideal.specs.Operations.{the_user, volume_called}
+use Rattle.spec_ideal.specs.Tables.{Table}
+use Rattle.spec_rows.specs.ServerRow.{drops, is_client, not_served, refuses, time_read}
+use Rattle.spec_rows.specs.States.{Seat, ServerState}
+use Rattle.spec_volrows.specs.FileRow.{file_admits, file_called, file_received, file_runs, file_serves, file_volume}
 use Rattle.afs_message.specs.Spelled.{Spells}
 use Rattle.afs_callees.specs.declared.telling.Grant.{Grant}
 use Rattle.afs_decisions.specs.Deciding.{is_on_volume, CanBeTold, Decides, IsByClient, Runs}

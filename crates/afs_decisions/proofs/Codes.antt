@@ -5,8 +5,8 @@ use Rattle.afs_num.specs.Names.{name_ok}
 use Rattle.afs_num.specs.declared.calls.FsCall.{FsCall}
 use Rattle.afs_num.specs.declared.calls.FsCall.TheVariants as calls
 use Rattle.afs_num.specs.declared.types.Fid.{Fid}
-use Rattle.afs_ideal.specs.Operations.{is_read_write, rename_rights, is_same_name, may_move, name_in, vnode_in, is_empty, has_room_for, by_tests, effect, first_failing, kinds_agree, limited, limits, one_more, op, read_by, refused, reads, changes, no_operation, rename_tests, rename_out_tests, shows_acl, shows_body, shows_status, shows_statuses, statuses, tests, Caller, Found, Result, Shown, Tests}
-use Rattle.afs_ideal.specs.Volumes.{Vnode, Volume, vnode_of}
+use Rattle.spec_ideal.specs.Operations.{is_read_write, rename_rights, is_same_name, may_move, name_in, vnode_in, has_no_names, has_room_for, by_tests, effect, first_failing, kinds_agree, limited, limits, one_more, op, read_by, refused, reads, changes, no_operation, rename_tests, rename_out_tests, shows_acl, shows_body, shows_status, shows_statuses, shows_several, tests, Caller, Found, Result, Shown, Tests}
+use Rattle.spec_ideal.specs.Volumes.{Vnode, Volume, vnode_of}
 
 abbrev AreCodes : Tests → Type 0
 AreCodes [] = Unit {0}
@@ -28,7 +28,7 @@ either false ts us h k = k
 
 rename_coded : (caller : Caller) (d : Fid) (old : List ℕ) (e : Fid) (new : List ℕ) (v : Volume) → AreCodes (rename_tests caller d old e new v)
 rename_coded caller d old e new v =
-    let rest : AreCodes (is_read_write v ∷ (rename_rights caller d e new v, 13) ∷ (name_ok new && (not (is_same_name d old e new) && may_move d e (name_in d old v) (name_in e new v) v (vnode_in d old v)), 22) ∷ (is_some (name_in d old v), 2) ∷ (is_empty (vnode_in e new v), 39) ∷ (has_room_for d e new v, 27) ∷ []) =
+    let rest : AreCodes (is_read_write v ∷ (rename_rights caller d e new v, 13) ∷ (name_ok new && (not (is_same_name d old e new) && may_move d e (name_in d old v) (name_in e new v) v (vnode_in d old v)), 22) ∷ (is_some (name_in d old v), 2) ∷ (has_no_names (vnode_in e new v), 39) ∷ (has_room_for d e new v, 27) ∷ []) =
     (refl, (refl, (refl, (refl, (refl, (refl, tt)))))) in
     (refl, (refl, (refl, agree_coded (vnode_in d old v) (vnode_in e new v) _ rest)))
 
@@ -84,9 +84,9 @@ more_coded f None None r h k = refl
 more_coded f None (Some x) (reads (shows_statuses xs)) h k = tt
 more_coded f None (Some x) r h k = k
 
-statuses_coded : (caller : Caller) (v : Volume) (fs : List Fid) → IsCoded (statuses caller v fs)
+statuses_coded : (caller : Caller) (v : Volume) (fs : List Fid) → IsCoded (shows_several caller v fs)
 statuses_coded caller v [] = tt
-statuses_coded caller v (f ∷ fs) = more_coded f (first_failing (tests caller (calls.FetchStatus f) v)) (vnode_of f v) (statuses caller v fs) (failing_coded (tests caller (calls.FetchStatus f) v) (tests_coded caller (calls.FetchStatus f) v)) (statuses_coded caller v fs)
+statuses_coded caller v (f ∷ fs) = more_coded f (first_failing (tests caller (calls.FetchStatus f) v)) (vnode_of f v) (shows_several caller v fs) (failing_coded (tests caller (calls.FetchStatus f) v) (tests_coded caller (calls.FetchStatus f) v)) (statuses_coded caller v fs)
 
 effect_coded : (caller : Caller) (call : FsCall) (v : Volume) → IsCoded (effect caller call v)
 effect_coded caller (calls.FetchData f position wanted) v = read_coded shows_body f (vnode_of f v)

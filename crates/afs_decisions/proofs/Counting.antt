@@ -6,14 +6,14 @@ use Rattle.std.specs.Option.{option_map}
 use Rattle.afs_num.specs.declared.calls.FsCall.{FsCall}
 use Rattle.afs_num.specs.declared.histories.Version.{Version}
 use Rattle.afs_num.specs.declared.volumes.Change.{Change}
-use Rattle.afs_ideal.specs.Operations.{changes, edit_fits, free_fits, is_last_count, last_count, op, Caller, IsOn}
-use Rattle.afs_ideal.specs.Soundness.{IsSound}
-use Rattle.afs_ideal.specs.Tables.{Table}
-use Rattle.afs_ideal.specs.Volumes.{amended, amends, edit_number, frees, makes, Edit, Vnode, Volume}
-use Rattle.afs_ideal.proofs.Basics.{both}
-use Rattle.afs_ideal.proofs.Looks.{one_edit}
-use Rattle.afs_ideal.proofs.Proper.{operations_change}
-use Rattle.afs_ideal.proofs.Tellings.{FindEach, Finds}
+use Rattle.spec_ideal.specs.Operations.{changes, edit_fits, free_fits, is_last_count, last_count, op, Caller, IsOn}
+use Rattle.spec_ideal.specs.Soundness.{IsSound}
+use Rattle.spec_ideal.specs.Tables.{Table}
+use Rattle.spec_ideal.specs.Volumes.{amended, amends, edit_number, frees, makes, Edit, Vnode, Volume}
+use Rattle.spec_ideal.proofs.Basics.{both}
+use Rattle.spec_ideal.proofs.Looks.{one_edit}
+use Rattle.spec_ideal.proofs.Proper.{operations_change}
+use Rattle.spec_ideal.proofs.Tellings.{FindEach, Finds}
 use Rattle.afs_changes.specs.Changes.{after, IsChangeBy}
 use Rattle.afs_changes.specs.Drawing.{after_edit, all_left, all_told, before_edit, left_at, told_between}
 use Rattle.afs_volume.specs.Giving.{volume_of}

@@ -14,19 +14,19 @@ use Rattle.afs_num.specs.declared.types.Fid.{Fid}
 use Rattle.afs_num.specs.declared.types.Head.{Head}
 use Rattle.afs_num.specs.declared.vnodes.Vnode as image
 use Rattle.afs_num.specs.declared.volumes.Change as made
-use Rattle.afs_ideal.specs.Operations.{by_tests, first_failing, limited, op, read_by, refused, reads, changes, no_operation, shows_acl, shows_body, shows_status, shows_volume, tests, volume_called, Caller, IsOn, Result, Shown}
-use Rattle.afs_ideal.specs.Replies.{change_reply, reading_reply, stamped}
-use Rattle.afs_ideal.specs.Tables.{get, Table}
-use Rattle.afs_ideal.specs.Volumes as ideal
-use Rattle.afs_ideal.specs.Volumes.{Vnode, vnode_of}
-use Rattle.afs_model.specs.CellRows.{call_number, reply_number}
-use Rattle.afs_model.specs.Heads.{is_zero}
-use Rattle.afs_records.specs.Durable as durable
-use Rattle.afs_records.specs.Durable.{or_zero, Stored}
-use Rattle.afs_rows.specs.ServerRow as row
-use Rattle.afs_rows.specs.ServerRow.{decided, granted_by, reading_in, refuses, shows, Decision}
-use Rattle.afs_rows.specs.States.{ServerState}
-use Rattle.afs_volrows.specs.FileRow.{closed_code, file_in, missing_code, unless_closed}
+use Rattle.spec_ideal.specs.Operations.{by_tests, first_failing, limited, op, read_by, refused, reads, changes, no_operation, shows_acl, shows_body, shows_status, shows_volume, tests, volume_called, Caller, IsOn, Result, Shown}
+use Rattle.spec_ideal.specs.Replies.{change_reply, reading_reply, stamped}
+use Rattle.spec_ideal.specs.Tables.{get, Table}
+use Rattle.spec_ideal.specs.Volumes as ideal
+use Rattle.spec_ideal.specs.Volumes.{Vnode, vnode_of}
+use Rattle.spec_model.specs.CellRows.{call_number, reply_number}
+use Rattle.spec_model.specs.Heads.{is_zero}
+use Rattle.spec_records.specs.Durable as durable
+use Rattle.spec_records.specs.Durable.{or_zero, Stored}
+use Rattle.spec_rows.specs.ServerRow as row
+use Rattle.spec_rows.specs.ServerRow.{decided, granted_by, reading_in, refuses, shows, Decision}
+use Rattle.spec_rows.specs.States.{ServerState}
+use Rattle.spec_volrows.specs.FileRow.{closed_code, file_in, missing_code, unless_closed}
 use Rattle.afs_callees.specs.Telling.{grants_seen}
 use Rattle.afs_changes.specs.Changes.{after, Applies}
 use Rattle.afs_changes.specs.Planning.{is_changing}

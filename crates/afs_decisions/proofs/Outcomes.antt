@@ -5,15 +5,15 @@ use Rattle.std.specs.List.{AllByRecursion}
 use Rattle.std.specs.Option.{option_map}
 use Rattle.std.proofs.lemmas.Bool.Decides.{nat_tests}
 use Rattle.afs_num.specs.declared.histories.Version.{Version}
-use Rattle.afs_ideal.specs.ChangeLaws.{by_vnode}
-use Rattle.afs_ideal.specs.Images.{value_of}
-use Rattle.afs_ideal.specs.Tables.{get, set, AscendsFrom, Table}
-use Rattle.afs_ideal.specs.Volumes.{amended, amends, edit_number, frees, makes, Edit, Vnode, Volume}
-use Rattle.afs_ideal.proofs.Looks.{one_edit}
-use Rattle.afs_ideal.proofs.Tables.{ascends_lower}
-use Rattle.afs_ideal.proofs.Tellings.{FindEach, Finds}
-use Rattle.afs_records.specs.Changes.{gone_between}
-use Rattle.afs_records.specs.Durable.{outcome_versions, with_outcomes, with_removed}
+use Rattle.spec_ideal.specs.ChangeLaws.{by_vnode}
+use Rattle.spec_ideal.specs.Images.{value_of}
+use Rattle.spec_ideal.specs.Tables.{get, set, AscendsFrom, Table}
+use Rattle.spec_ideal.specs.Volumes.{amended, amends, edit_number, frees, makes, Edit, Vnode, Volume}
+use Rattle.spec_ideal.proofs.Looks.{one_edit}
+use Rattle.spec_ideal.proofs.Tables.{ascends_lower}
+use Rattle.spec_ideal.proofs.Tellings.{FindEach, Finds}
+use Rattle.spec_records.specs.Changes.{gone_between}
+use Rattle.spec_records.specs.Durable.{outcome_versions, with_outcomes, with_removed}
 use Rattle.afs_changes.specs.Drawing.{after_edit, all_freed, all_left, all_told, before_edit, left_at, told_between}
 use Rattle.afs_changes.proofs.Drawn.{imaged}
 

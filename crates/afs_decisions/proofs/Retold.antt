@@ -6,18 +6,18 @@ use Rattle.std.proofs.lemmas.Bool.Decides.{nat_tests}
 use Rattle.afs_num.specs.declared.calls.FsCall.{FsCall}
 use Rattle.afs_num.specs.declared.histories.Version.{Version}
 use Rattle.afs_num.specs.declared.volumes.Change.{Change}
-use Rattle.afs_shape.specs.Taking.{◌>>=◌}
-use Rattle.afs_ideal.specs.ChangeLaws.{by_vnode}
-use Rattle.afs_ideal.specs.Images.{image_of, value_of, Image}
-use Rattle.afs_ideal.specs.Operations.{changes, op, Caller, IsOn}
-use Rattle.afs_ideal.specs.Soundness.{IsSound}
-use Rattle.afs_ideal.specs.Tables.{get, AscendsFrom, Table}
-use Rattle.afs_ideal.specs.Volumes.{edit_number, Edit, Vnode, Volume}
-use Rattle.afs_ideal.proofs.Proper.{operations_change}
-use Rattle.afs_ideal.proofs.Tables.{ascends_lower, get_set, get_unset}
-use Rattle.afs_records.specs.Durable.{allowed, changed_stored, counted_as, is_there, versions_told, with_image, with_images, without, Stored}
-use Rattle.afs_records.specs.Sound.{is_sound}
-use Rattle.afs_ideal.specs.VnodeMaps.{most_vnodes}
+use Rattle.spec_shape.specs.Taking.{◌>>=◌}
+use Rattle.spec_ideal.specs.ChangeLaws.{by_vnode}
+use Rattle.spec_ideal.specs.Images.{image_of, value_of, Image}
+use Rattle.spec_ideal.specs.Operations.{changes, op, Caller, IsOn}
+use Rattle.spec_ideal.specs.Soundness.{IsSound}
+use Rattle.spec_ideal.specs.Tables.{get, AscendsFrom, Table}
+use Rattle.spec_ideal.specs.Volumes.{edit_number, Edit, Vnode, Volume}
+use Rattle.spec_ideal.proofs.Proper.{operations_change}
+use Rattle.spec_ideal.proofs.Tables.{ascends_lower, get_set, get_unset}
+use Rattle.spec_records.specs.Durable.{allowed, changed_stored, counted_as, is_there, versions_told, with_image, with_images, without, Stored}
+use Rattle.spec_records.specs.Sound.{is_sound}
+use Rattle.spec_ideal.specs.VnodeMaps.{most_vnodes}
 use Rattle.afs_changes.specs.Changes.{after, IsChangeBy, IsKeptAs}
 use Rattle.afs_changes.specs.Drawing.{after_edit, all_left, left_at}
 use Rattle.afs_volume.specs.Giving.{volume_of}

@@ -11,19 +11,19 @@ use Rattle.afs_num.specs.declared.calls.FsReply.{FsReply}
 use Rattle.afs_num.specs.declared.calls.FsReply.TheVariants as replies
 use Rattle.afs_num.specs.declared.types.Fid.{Fid}
 use Rattle.afs_num.specs.declared.types.Head.{Head}
-use Rattle.afs_ideal.specs.Operations as operations
-use Rattle.afs_ideal.specs.Operations.{by_tests, first_failing, limited, op, read_by, refused, reads, changes, no_operation, shows_status, tests, Caller, Found}
-use Rattle.afs_ideal.specs.Replies.{found_status, sync_of}
-use Rattle.afs_ideal.specs.Tables.{get, Table}
-use Rattle.afs_ideal.specs.Volumes.{Vnode, vnode_of}
-use Rattle.afs_records.specs.Durable.{Stored}
-use Rattle.afs_shape.specs.Reading.{◌>>=◌}
-use Rattle.afs_shape.specs.Rows.{no_callback}
-use Rattle.afs_shape.specs.Tables.{IsCount}
-use Rattle.afs_model.specs.Heads.{is_zero}
-use Rattle.afs_rows.specs.ServerRow.{refuses, several, sight_by, sight_in, sight_status, statuses_read, sync_first, Sight}
-use Rattle.afs_rows.specs.States.{Lasting, ServerState}
-use Rattle.afs_volrows.specs.FileRow.{closed_code, file_sight, missing_code, sight_unless}
+use Rattle.spec_ideal.specs.Operations as operations
+use Rattle.spec_ideal.specs.Operations.{by_tests, first_failing, limited, op, read_by, refused, reads, changes, no_operation, shows_status, tests, Caller, Found}
+use Rattle.spec_ideal.specs.Replies.{found_status, sync_of}
+use Rattle.spec_ideal.specs.Tables.{get, Table}
+use Rattle.spec_ideal.specs.Volumes.{Vnode, vnode_of}
+use Rattle.spec_records.specs.Durable.{Stored}
+use Rattle.spec_shape.specs.Reading.{◌>>=◌}
+use Rattle.spec_shape.specs.Rows.{no_callback}
+use Rattle.spec_shape.specs.Tables.{IsCount}
+use Rattle.spec_model.specs.Heads.{is_zero}
+use Rattle.spec_rows.specs.ServerRow.{refuses, several, sight_by, sight_in, sight_status, statuses_read, sync_of_first, Sight}
+use Rattle.spec_rows.specs.States.{Lasting, ServerState}
+use Rattle.spec_volrows.specs.FileRow.{closed_code, file_sight, missing_code, sight_unless}
 use Rattle.afs_callees.specs.Telling.{grants_seen}
 use Rattle.afs_callees.specs.declared.telling.Grant.{Grant}
 use Rattle.afs_reads.specs.Replying.{refusal_of, reply_of, Replies}
@@ -192,7 +192,7 @@ fault_first caller all s rest i count t fault are is = subst (IsFault fault) (sy
 
 -- ---- what is then decided
 
-sync_by : (xs : List Sight) → sync_told (sync_seen xs) ≡ sync_first xs
+sync_by : (xs : List Sight) → sync_told (sync_seen xs) ≡ sync_of_first xs
 sync_by [] = refl
 sync_by (x ∷ xs) = refl
 

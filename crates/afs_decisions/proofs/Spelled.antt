@@ -6,8 +6,8 @@ use Rattle.afs_num.specs.declared.calls.FsReply.{FsReply}
 use Rattle.afs_num.specs.declared.calls.FsReply.TheVariants as replies
 use Rattle.afs_num.specs.declared.messages.Call.TheVariants as ask
 use Rattle.afs_num.specs.declared.messages.Reply.TheVariants as tell
-use Rattle.afs_shape.specs.Rows.{IsWithin}
-use Rattle.afs_model.specs.CellRows.{cell_calls, cell_replies}
+use Rattle.spec_shape.specs.Rows.{IsWithin}
+use Rattle.spec_model.specs.CellRows.{cell_calls, cell_replies}
 use Rattle.afs_reads.specs.Replying.{FitsCall, FitsReply}
 
 -- ---- what a volume answers is within the limits of its message

@@ -5,17 +5,17 @@ use Rattle.std.specs.List.{AllByRecursion}
 use Rattle.afs_num.specs.declared.calls.FsCall.{FsCall}
 use Rattle.afs_num.specs.declared.histories.Version.{Version}
 use Rattle.afs_num.specs.declared.types.Fid.{Fid}
-use Rattle.afs_ideal.specs.Operations.{changes, op, Caller, IsOn}
-use Rattle.afs_ideal.specs.Replies.{change_reply, stamped, vnode_at, vnode_or_none}
-use Rattle.afs_ideal.specs.Soundness.{IsSound}
-use Rattle.afs_ideal.specs.Tables.{get, set, unset, Table}
-use Rattle.afs_ideal.specs.Volumes.{counted, edited_all, edit_number, fid_of, versions_by, Edit, Vnode, Volume}
-use Rattle.afs_ideal.proofs.Proper.{operations_change}
-use Rattle.afs_ideal.proofs.Tables.{get_set, get_unset}
-use Rattle.afs_records.specs.Changes.{gone_between, images_left, numbers_gone, set_times, stored_after, unset_times}
-use Rattle.afs_records.specs.Durable.{or_zero, time_in, Stored}
+use Rattle.spec_ideal.specs.Operations.{changes, op, Caller, IsOn}
+use Rattle.spec_ideal.specs.Replies.{change_reply, stamped, vnode_at, vnode_or_none}
+use Rattle.spec_ideal.specs.Soundness.{IsSound}
+use Rattle.spec_ideal.specs.Tables.{get, set, unset, Table}
+use Rattle.spec_ideal.specs.Volumes.{counted, edited_all, edit_number, fid_of, versions_by, Edit, Vnode, Volume}
+use Rattle.spec_ideal.proofs.Proper.{operations_change}
+use Rattle.spec_ideal.proofs.Tables.{get_set, get_unset}
+use Rattle.spec_records.specs.Changes.{gone_between, images_left, numbers_gone, set_times, stored_after, unset_times}
+use Rattle.spec_records.specs.Durable.{or_zero, time_in, Stored}
 use Rattle.afs_changes.specs.Drafts.{numbers_shown, IsLeftIn}
-use Rattle.afs_ideal.specs.Images.{Image}
+use Rattle.spec_ideal.specs.Images.{Image}
 use Rattle.afs_changes.specs.Drawing.{all_left}
 use Rattle.afs_changes.proofs.Changed.{shown_there}
 use Rattle.afs_changes.proofs.Drawn.{each_leaves, imaged, images_are, sees, versions_are}

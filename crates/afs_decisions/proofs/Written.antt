@@ -10,16 +10,16 @@ use Rattle.afs_num.specs.declared.calls.FsReply.{FsReply}
 use Rattle.afs_num.specs.declared.histories.Version.{Version}
 use Rattle.afs_num.specs.declared.types.Fid.{Fid}
 use Rattle.afs_num.specs.declared.volumes.Change as made
-use Rattle.afs_ideal.specs.Images.{Image}
-use Rattle.afs_ideal.specs.Operations.{changes, op, Caller, IsOn}
-use Rattle.afs_ideal.specs.Replies.{change_reply}
-use Rattle.afs_ideal.specs.Soundness.{IsSound, KindFits}
-use Rattle.afs_ideal.specs.Tables.{get}
-use Rattle.afs_ideal.specs.VnodeImage.{kind_fits}
-use Rattle.afs_ideal.specs.Volumes.{a_directory, a_file, a_link, amends, amends_at, edited, edit_number, frees, frees_at, makes, makes_at, type_of, versions_by, Amend, Edit, Kind, Vnode, Volume}
-use Rattle.afs_ideal.proofs.Preserved.{operations_leave_sound}
-use Rattle.afs_ideal.proofs.Proper.{operations_change}
-use Rattle.afs_records.specs.Changes.{gone_between, image_left, images_left, numbers_gone}
+use Rattle.spec_ideal.specs.Images.{Image}
+use Rattle.spec_ideal.specs.Operations.{changes, op, Caller, IsOn}
+use Rattle.spec_ideal.specs.Replies.{change_reply}
+use Rattle.spec_ideal.specs.Soundness.{IsSound, KindFits}
+use Rattle.spec_ideal.specs.Tables.{get}
+use Rattle.spec_ideal.specs.VnodeImage.{kind_fits}
+use Rattle.spec_ideal.specs.Volumes.{a_directory, a_file, a_link, amends, amends_at, edited, edit_number, frees, frees_at, makes, makes_at, type_of, versions_by, Amend, Edit, VnodeKind, Vnode, Volume}
+use Rattle.spec_ideal.proofs.Preserved.{operations_leave_sound}
+use Rattle.spec_ideal.proofs.Proper.{operations_change}
+use Rattle.spec_records.specs.Changes.{gone_between, image_left, images_left, numbers_gone}
 use Rattle.afs_changes.specs.Changes.{after, IsChangeBy}
 use Rattle.afs_volume.specs.Giving.{volume_of}
 use Rattle.afs_volume.specs.Taking.{CanTakeIn}
@@ -28,7 +28,7 @@ use Rattle.afs_callbacks.specs.Saving.{CanBeWritten, HasKind, IsChanged}
 
 -- ---- kinds
 
-fitting : (n : ℕ) (k : Kind) (b : Bool) → (n % 2 == 1) ≡ b → KindFits n k → kind_fits n (type_of k) ≡ true
+fitting : (n : ℕ) (k : VnodeKind) (b : Bool) → (n % 2 == 1) ≡ b → KindFits n k → kind_fits n (type_of k) ≡ true
 unfolding kind_fits
 fitting n a_directory true is h = rw is refl
 fitting n a_directory false is h = let odd : n % 2 ≡ 1 = h.0 refl in absurd (grind (arith, nat_tests, is, odd))

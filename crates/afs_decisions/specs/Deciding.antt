@@ -14,20 +14,20 @@ use Rattle.afs_num.specs.declared.histories.Version.{Version}
 use Rattle.afs_num.specs.declared.types.Head.{Head}
 use Rattle.afs_num.specs.declared.vnodes.Vnode as image
 use Rattle.afs_num.specs.declared.volumes.Change as made
-use Rattle.afs_shape.specs.Rows.{IsWithin}
+use Rattle.spec_shape.specs.Rows.{IsWithin}
 use Rattle.afs_xdr.specs.Words.{AreWords}
-use Rattle.afs_model.specs.CellRows.{cell_replies, reply_number, call_number}
-use Rattle.afs_model.specs.Calls.{runs, Admitted, call_seat, paired}
-use Rattle.afs_model.specs.Heads.{is_zero}
-use Rattle.afs_ideal.specs.Operations.{last_count, op, Caller}
-use Rattle.afs_ideal.specs.Replies.{change_reply}
-use Rattle.afs_ideal.specs.Tables.{get}
-use Rattle.afs_ideal.specs.VnodeImage.{image_words}
-use Rattle.afs_records.specs.Changes.{images_left, numbers_gone}
-use Rattle.afs_records.specs.Durable.{changed_stored, time_in, versions_told}
-use Rattle.afs_rows.specs.ServerRow as row
-use Rattle.afs_rows.specs.ServerRow.{drops, given_up_read, is_client, refuses, repeats, result, roomed, shows, stored_by, tells_boot, Decision}
-use Rattle.afs_rows.specs.States.{ServerState}
+use Rattle.spec_model.specs.CellRows.{cell_replies, reply_number, call_number}
+use Rattle.spec_model.specs.Calls.{runs, Admitted, call_seat, paired}
+use Rattle.spec_model.specs.Heads.{is_zero}
+use Rattle.spec_ideal.specs.Operations.{last_count, op, Caller}
+use Rattle.spec_ideal.specs.Replies.{change_reply}
+use Rattle.spec_ideal.specs.Tables.{get}
+use Rattle.spec_ideal.specs.VnodeImage.{image_words}
+use Rattle.spec_records.specs.Changes.{images_left, numbers_gone}
+use Rattle.spec_records.specs.Durable.{changed_stored, time_in, versions_told}
+use Rattle.spec_rows.specs.ServerRow as row
+use Rattle.spec_rows.specs.ServerRow.{drops, given_up_read, is_client, refuses, repeats, result, roomed, shows, stored_by, tells_boot, Decision}
+use Rattle.spec_rows.specs.States.{ServerState}
 use Rattle.afs_callees.specs.Telling.{grants_seen}
 use Rattle.afs_callees.specs.declared.telling.Grant.{Grant}
 use Rattle.afs_callbacks.specs.Saving.{grant_of, CanBeWritten}
@@ -86,7 +86,7 @@ IsOfWords i = AreWords (image_words i)
 -- that are words where those of the images are.
 pub record IsMade (clock id : ℕ) (c : row.Change) (x : made.Change) : Type 0 where
   pub number : c.id ≡ id
-  pub versions : x.versions ≡ row.made c
+  pub versions : x.versions ≡ row.versions_made c
   pub vnodes : x.vnodes ≡ images_left clock c.edits (result c)
   pub removed : x.removed ≡ numbers_gone c.edits c.before.volume (result c)
   pub counter : x.counter ≡ (result c).counter

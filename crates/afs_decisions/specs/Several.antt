@@ -4,10 +4,10 @@ use Rattle.afs_num.specs.declared.calls.AfsVolSync.{AfsVolSync}
 use Rattle.afs_num.specs.declared.calls.FsReply.{FsReply}
 use Rattle.afs_num.specs.declared.calls.FsReply.TheVariants as replies
 use Rattle.afs_num.specs.declared.types.Fid.{Fid}
-use Rattle.afs_ideal.specs.Operations.{Caller}
-use Rattle.afs_ideal.specs.Replies.{sync_of}
-use Rattle.afs_shape.specs.Rows.{no_callback, no_sync}
-use Rattle.afs_rows.specs.ServerRow.{sight_status, Sight}
+use Rattle.spec_ideal.specs.Operations.{Caller}
+use Rattle.spec_ideal.specs.Replies.{sync_of}
+use Rattle.spec_shape.specs.Rows.{no_callback, no_sync}
+use Rattle.spec_rows.specs.ServerRow.{sight_status, Sight}
 use Rattle.afs_callees.specs.Telling.{grants_seen}
 use Rattle.afs_reads.specs.declared.faults.OpFault.{OpFault}
 use Rattle.afs_reads.specs.declared.faults.OpFault.TheVariants as faults

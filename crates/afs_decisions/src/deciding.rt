@@ -1,12 +1,12 @@
 //! What is decided on a call by its volume, and by what is read of it.
 
 ghost use Rattle.std.specs.Prelude.{◌≡◌, ◌∷◌, [], Bool, true, false, IfOk, Some, None};
-ghost use Rattle.afs_ideal.specs.Operations.{the_user, volume_called};
+ghost use Rattle.spec_ideal.specs.Operations.{the_user, volume_called};
 ghost use Rattle.afs_changes.specs.Planning.{is_changing};
 ghost use Rattle.afs_reads.specs.Replying.{is_reading};
-ghost use Rattle.afs_rows.specs.ServerRow.{code_of_unreadable, is_client, serves};
+ghost use Rattle.spec_rows.specs.ServerRow.{code_of_unreadable, is_client, serves};
 ghost use Rattle.afs_decisions.specs.Deciding.{granted_data, granted_in, granted_status, is_on_volume, CanBeTold, ChangesAs, Decides, FitsDecided, ReadsAs, decided_in, IsDecisionIn, IsCallUnder};
-ghost use Rattle.afs_rows.specs.States.{ServerState};
+ghost use Rattle.spec_rows.specs.States.{ServerState};
 
 use crate::decided::Decided;
 use afs_callees::few::Few;

@@ -2,10 +2,10 @@
 
 ghost use Rattle.std.specs.Prelude.{◌≡◌, ◌∷◌, ◌++◌, [], ℕ, Bool, IfOk, OnOk, Ok, Some, List};
 ghost use Rattle.afs_num.specs.declared.calls.AfsCallBack.{AfsCallBack};
-ghost use Rattle.afs_ideal.specs.Operations.{the_user};
-ghost use Rattle.afs_shape.specs.Rows.{no_callback, no_sync};
+ghost use Rattle.spec_ideal.specs.Operations.{the_user};
+ghost use Rattle.spec_shape.specs.Rows.{no_callback, no_sync};
 ghost use Rattle.afs_shelves.specs.Shelving.{stored_as};
-ghost use Rattle.afs_rows.specs.ServerRow.{sight_in};
+ghost use Rattle.spec_rows.specs.ServerRow.{sight_in};
 ghost use Rattle.afs_decisions.specs.Several.{or_first, seen_in, sync_told, AreTold, IsStatusRead, Sees, ToldAs};
 
 use crate::decided::Decided;

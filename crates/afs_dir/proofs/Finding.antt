@@ -5,8 +5,8 @@ use Rattle.std.specs.List.Sorted.{IsPartitionedBy, IsPartitionPoint}
 use Rattle.afs_num.specs.declared.directories.Name.{Name}
 use Rattle.afs_num.specs.Names.{name_ok}
 use Rattle.std.proofs.lemmas.Bool.{lt-ltb}
-use Rattle.afs_ideal.specs.Directories.{most_names, bytes_below, follow, IsDirectory, named, with_name, without_name, add_refused}
-use Rattle.afs_ideal.proofs.Directories.{added_is_directory, removed_is_directory, below_trans, below_differs, first_above, rest_follow, named_above, without_above}
+use Rattle.spec_ideal.specs.Directories.{most_names, bytes_below, follow, IsDirectory, named, with_name, without_name, add_refused}
+use Rattle.spec_ideal.proofs.Directories.{added_is_directory, removed_is_directory, below_trans, below_differs, first_above, rest_follow, named_above, without_above}
 use Rattle.afs_dir.specs.Places.{place_of, is_at, IsFound, IsGap}
 
 -- ---- the place, among names in byte order

@@ -2,10 +2,10 @@
 use Rattle.std.proofs.Common.{◌≡◌, ◌≤◌, ◌<◌, ℕ, Bool, true, false, not, zero, suc, List, [], ◌∷◌, length, Option, Some, None, Ok, is_some, if◌then◌else◌, nat_lt, refl, sym, ◌∙◌, arith, slice_get}
 use Rattle.afs_num.specs.Names.{name_ok}
 use Rattle.afs_num.specs.declared.directories.Name.{Name}
-use Rattle.afs_ideal.specs.Directories.{add_refused, bytes_below, directory_bytes, directory_of, is_named, most_names, named, with_name, without_name, FitNames, FitsName}
-use Rattle.afs_ideal.proofs.Directories.{added_is_directory, good_is_short, removed_is_directory}
-use Rattle.afs_ideal.proofs.DirectoryBytes.{read_is_spelled, spelled_is_read}
-use Rattle.afs_shape.proofs.Codecs.{IsBytes}
+use Rattle.spec_ideal.specs.Directories.{add_refused, bytes_below, directory_bytes, directory_of, is_named, most_names, named, with_name, without_name, FitNames, FitsName}
+use Rattle.spec_ideal.proofs.Directories.{added_is_directory, good_is_short, removed_is_directory}
+use Rattle.spec_ideal.proofs.DirectoryBytes.{read_is_spelled, spelled_is_read}
+use Rattle.spec_shape.proofs.Codecs.{IsBytes}
 use Rattle.afs_dir.specs.Places.{IsFound}
 
 fits_by : (n m : Name) (ms : List Name) (t : Bool) → FitsName n → FitsName m → FitNames ms → FitNames (with_name n ms) → FitNames (if t then m ∷ with_name n ms else n ∷ m ∷ ms)

@@ -6,7 +6,7 @@ use Rattle.std.proofs.lemmas.List.Concat.{flat_map-append, flat_map-cons}
 use Rattle.std.proofs.lemmas.List.Edits.{length-insert, length-remove}
 use Rattle.afs_num.specs.declared.directories.Name.{Name}
 use Rattle.afs_xdr.specs.Words.{word, words, opaque, pad, pad_length}
-use Rattle.afs_ideal.specs.Directories.{directory_bytes, name_bytes}
+use Rattle.spec_ideal.specs.Directories.{directory_bytes, name_bytes}
 use Rattle.afs_dir.proofs.Lengths.{pad_long, word_long, words_long}
 
 -- ---- how long they are

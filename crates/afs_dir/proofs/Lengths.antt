@@ -8,8 +8,8 @@ use Rattle.std.proofs.lemmas.List.Concat.{flat_map-cons}
 use Rattle.afs_num.specs.Names.{name_ok, is_dots, is_name_byte}
 use Rattle.afs_num.specs.declared.directories.Name.{Name}
 use Rattle.afs_xdr.specs.Words.{word, words, opaque, pad, pad_length}
-use Rattle.afs_ideal.specs.Directories.{bytes_below, directory_bytes, follow, name_bytes, IsDirectory}
-use Rattle.afs_ideal.proofs.Basics.{both}
+use Rattle.spec_ideal.specs.Directories.{bytes_below, directory_bytes, follow, name_bytes, IsDirectory}
+use Rattle.spec_ideal.proofs.Basics.{both}
 
 pub words_long : (m n : ℕ) → length (words (m ∷ n ∷ [])) ≡ 8
 unfolding word

@@ -3,9 +3,9 @@ use Rattle.std.proofs.Common.{◌≡◌, ℕ, zero, suc, ◌-◌, ◌+◌, ◌�
 use Rattle.std.specs.Cmp.{first_so, second_so}
 use Rattle.std.proofs.lemmas.List.{append-nil}
 use Rattle.afs_num.specs.declared.directories.Name.{Name}
-use Rattle.afs_shape.specs.Reading.{◌>>=◌}
-use Rattle.afs_shape.proofs.Loops.{with_front}
-use Rattle.afs_ideal.specs.Directories.{may_follow, follow, name_at, names_at}
+use Rattle.spec_shape.specs.Reading.{◌>>=◌}
+use Rattle.spec_shape.proofs.Loops.{with_front}
+use Rattle.spec_ideal.specs.Directories.{may_follow, follow, name_at, names_at}
 use Rattle.afs_xdr.specs.Reading.{Reading}
 use Rattle.afs_dir.specs.declared.reading.Stop.{Stop}
 use Rattle.afs_dir.specs.declared.reading.Stop.TheVariants as causes

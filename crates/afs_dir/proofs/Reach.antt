@@ -5,7 +5,7 @@ use Rattle.std.proofs.lemmas.Bool.{ltb-false}
 use Rattle.afs_xdr.specs.declared.faults.XdrFault.TheVariants.{Short, TooLong, BadPad}
 use Rattle.afs_xdr.specs.Reading.{Reading, KeepsEnd}
 use Rattle.afs_xdr.specs.Words.{are_zero, pad_length, word_at, counted_at, opaque_at}
-use Rattle.afs_shape.proofs.Codecs.{bind_ok, guard_ok, ok_is}
+use Rattle.spec_shape.proofs.Codecs.{bind_ok, guard_ok, ok_is}
 
 word_takes : (bytes : List ℕ) (n : ℕ) (rest : List ℕ) → word_at bytes ≡ Ok (n, rest) → length bytes ≤ length rest + 4
 unfolding word_at

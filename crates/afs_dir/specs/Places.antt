@@ -2,7 +2,7 @@
 use Rattle.std.specs.Prelude.{◌≡◌, ◌≤◌, ◌<◌, ℕ, suc, List, [], ◌∷◌, length, Bool, false, Option, Some, None, if◌then◌else◌, slice_get}
 use Rattle.std.specs.List.{insert, remove}
 use Rattle.afs_num.specs.declared.directories.Name.{Name}
-use Rattle.afs_ideal.specs.Directories.{bytes_below, is_named, named, with_name, without_name}
+use Rattle.spec_ideal.specs.Directories.{bytes_below, is_named, named, with_name, without_name}
 
 -- how many names stand below this one
 abbrev pub place_of : List ℕ → List Name → ℕ

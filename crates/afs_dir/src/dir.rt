@@ -1,6 +1,6 @@
 ghost use Rattle.std.specs.Prelude.{◌≡◌, ◌≤◌, ◌==◌, [], length, IfOk, None, Ok, OnOk, OnErr};
 ghost use Rattle.std.specs.Option.{option_map};
-ghost use Rattle.afs_ideal.specs.Directories.{named, with_name, without_name, add_refused, directory_bytes, directory_of};
+ghost use Rattle.spec_ideal.specs.Directories.{named, with_name, without_name, add_refused, directory_bytes, directory_of};
 ghost use Rattle.afs_dir.specs.Dirs.{Answers, Reads, removal, vnode_named};
 
 use crate::MOST_NAMES;
@@ -28,7 +28,7 @@ pub struct Dir {
 impl Model for Dir {
     ghost use Rattle.std.specs.Prelude.{List};
     ghost use Rattle.afs_num.specs.declared.directories.Name.{Name};
-    ghost use Rattle.afs_ideal.specs.Directories.{IsDirectory};
+    ghost use Rattle.spec_ideal.specs.Directories.{IsDirectory};
 
     ghost Value = { List Name };
 
@@ -147,7 +147,7 @@ impl Dir {
     }
 
     /// The bytes that spell the directory.
-    #[tactic(auto, unfolding(afs_ideal::specs::Directories::directory_bytes), using(crate::proofs::Lengths::names_fit))]
+    #[tactic(auto, unfolding(spec_ideal::specs::Directories::directory_bytes), using(crate::proofs::Lengths::names_fit))]
     pub fn to_bytes(&self) -> Mem<Octets>
         ensures spelled { IfOk result (λ bytes. bytes ≡ directory_bytes self.now) }
         ensures read { IfOk result (λ bytes. directory_of bytes ≡ Ok self.now) }
@@ -161,7 +161,7 @@ impl Dir {
     }
 
     /// The directory that the bytes spell. Memory is taken once the count is known to be within its limit.
-    #[tactic(auto, unfolding(afs_ideal::specs::Directories::directory_of))]
+    #[tactic(auto, unfolding(spec_ideal::specs::Directories::directory_of))]
     pub fn from_bytes(alloc: Global, bytes: &[u8]) -> Result<Dir, DirFault>
         ensures read { Reads (directory_of bytes.now) result }
         ensures spelled { IfOk result (λ d. directory_bytes d ≡ bytes.now) }

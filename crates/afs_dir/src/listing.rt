@@ -2,7 +2,7 @@
 
 ghost use Rattle.std.specs.Prelude.{◌≡◌, ◌≤◌, ◌==◌, [], true, length, is_some, IfOk, Ok, None};
 ghost use Rattle.std.specs.Option.{option_map};
-ghost use Rattle.afs_ideal.specs.Directories.{add_refused, directory_bytes, directory_of, named, with_name, without_name, IsDirectory};
+ghost use Rattle.spec_ideal.specs.Directories.{add_refused, directory_bytes, directory_of, named, with_name, without_name, IsDirectory};
 ghost use Rattle.afs_dir.specs.Dirs.{vnode_named};
 
 use crate::places::search;
@@ -22,7 +22,7 @@ pub struct Listing {
 impl Model for Listing {
     ghost use Rattle.std.specs.Prelude.{List};
     ghost use Rattle.afs_num.specs.declared.directories.Name.{Name};
-    ghost use Rattle.afs_ideal.specs.Directories.{IsDirectory};
+    ghost use Rattle.spec_ideal.specs.Directories.{IsDirectory};
 
     ghost Value = { List Name };
 

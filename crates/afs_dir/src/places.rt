@@ -1,7 +1,7 @@
 //! Where a name stands among a directory's.
 
 ghost use Rattle.std.specs.Prelude.{◌≡◌, IfOk, IfErr, slice_get};
-ghost use Rattle.afs_ideal.specs.Directories.{IsDirectory, bytes_below};
+ghost use Rattle.spec_ideal.specs.Directories.{IsDirectory, bytes_below};
 ghost use Rattle.afs_dir.specs.Places.{place_of, IsFound, IsGap, is_at};
 
 use afs_num::directories::Name;
@@ -9,7 +9,7 @@ use std::cmp::Ord;
 
 /// Whether one name is below the other in byte order: the first byte that differs decides, and where none does the shorter is
 /// below the longer.
-#[tactic(auto, unfolding(afs_ideal::specs::Directories::bytes_below))]
+#[tactic(auto, unfolding(spec_ideal::specs::Directories::bytes_below))]
 pub fn is_below(name: &[u8], other: &[u8]) -> bool
     ensures { result ≡ bytes_below name.now other.now }
 {

@@ -4,7 +4,7 @@
 
 ghost use Rattle.std.specs.Prelude.{◌≡◌, ◌≤◌, ◌+◌, ◌*◌, [], true, length, IfOk};
 ghost use Rattle.afs_xdr.specs.Reading.{KeepsEnd};
-ghost use Rattle.afs_ideal.specs.Directories.{IsDirectory, may_follow, follow, most_names, count_at, spelled_at, name_at, names_at, whole_at};
+ghost use Rattle.spec_ideal.specs.Directories.{IsDirectory, may_follow, follow, most_names, count_at, spelled_at, name_at, names_at, whole_at};
 ghost use Rattle.afs_dir.specs.Reads.{ReadsGood, ReadsWhole, last_name};
 ghost use Rattle.afs_dir.specs.declared.reading.Stop.TheVariants.{BadField, OutOfMemory};
 
@@ -63,7 +63,7 @@ fn last_name(names: &[Name]) -> &[u8]
     }
 }
 
-#[tactic(auto, using(crate::proofs::Reach::word_far), unfolding(afs_ideal::specs::Directories::count_at))]
+#[tactic(auto, using(crate::proofs::Reach::word_far), unfolding(spec_ideal::specs::Directories::count_at))]
 fn read_count(reader: &mut Reader) -> Result<u32, Stop>
     ensures value { ReadsGood count_at (λ n. n) reader.old reader.new result }
     ensures few { IfOk result (λ n. n ≤ most_names) }
@@ -79,7 +79,7 @@ fn read_count(reader: &mut Reader) -> Result<u32, Stop>
     Ok(count)
 }
 
-#[tactic(auto, using(crate::proofs::Reach::name_far), unfolding(afs_ideal::specs::Directories::spelled_at))]
+#[tactic(auto, using(crate::proofs::Reach::name_far), unfolding(spec_ideal::specs::Directories::spelled_at))]
 fn read_spelled<'a>(reader: &mut Reader<'a>, last: &[u8]) -> Result<&'a [u8], Stop>
     ensures value { ReadsGood (spelled_at last.now) (λ b. b.now) reader.old reader.new result }
     ensures follows { IfOk result (λ b. may_follow last.now b.now ≡ true) }
@@ -95,7 +95,7 @@ fn read_spelled<'a>(reader: &mut Reader<'a>, last: &[u8]) -> Result<&'a [u8], St
     Ok(name)
 }
 
-#[tactic(auto, using(crate::proofs::Reach::word_far), unfolding(afs_ideal::specs::Directories::name_at))]
+#[tactic(auto, using(crate::proofs::Reach::word_far), unfolding(spec_ideal::specs::Directories::name_at))]
 fn read_name(alloc: Global, reader: &mut Reader, last: &[u8]) -> Result<Name, Stop>
     ensures value { ReadsGood (name_at last.now) (λ n. n) reader.old reader.new result }
     ensures follows { IfOk result (λ n. may_follow last.now n.name ≡ true) }
@@ -128,7 +128,7 @@ fn read_names(alloc: Global, reader: &mut Reader, count: u32) -> Result<Vec<Name
 }
 
 /// The names of the directory that the bytes left spell. At a bad field the reader stands before it.
-#[tactic(auto, unfolding(afs_ideal::specs::Directories::whole_at))]
+#[tactic(auto, unfolding(spec_ideal::specs::Directories::whole_at))]
 pub fn read_whole(alloc: Global, reader: &mut Reader) -> Result<Vec<Name>, Stop>
     ensures value { ReadsWhole whole_at (λ v. v.items) reader.old reader.new result }
     ensures directory { IfOk result (λ v. IsDirectory v.items) }

@@ -2,13 +2,13 @@
 
 ghost use Rattle.std.specs.Prelude.{◌≡◌, ◌++◌, ◌≤◌, length, OnOk};
 ghost use Rattle.std.specs.List.{flat_map};
-ghost use Rattle.afs_ideal.specs.Directories.{FitNames, FitsName, IsDirectory, name_bytes};
+ghost use Rattle.spec_ideal.specs.Directories.{FitNames, FitsName, IsDirectory, name_bytes};
 
 use afs_num::directories::Name;
 use afs_num::types::Mem;
 use afs_xdr::writing::Writer;
 
-#[tactic(auto, unfolding(afs_ideal::specs::Directories::name_bytes))]
+#[tactic(auto, unfolding(spec_ideal::specs::Directories::name_bytes))]
 fn write_name(name: &Name, bytes: &mut Writer) -> Mem<()>
     requires { length name.now.name ≤ 255 }
     ensures ok { OnOk result (bytes.new ≡ bytes.old ++ name_bytes name.now) }

@@ -3,7 +3,7 @@
 ghost use Rattle.std.specs.Prelude.{◌≡◌, ◌++◌, ◌≤◌, ◌<◌, ◌+◌, ◌*◌, length, replicate, take, drop, IfOk, OnOk};
 ghost use Rattle.std.specs.List.{flat_map, insert, remove};
 ghost use Rattle.afs_xdr.specs.Words.{opaque, pad_length, word};
-ghost use Rattle.afs_ideal.specs.Directories.{directory_bytes, name_bytes, IsDirectory};
+ghost use Rattle.spec_ideal.specs.Directories.{directory_bytes, name_bytes, IsDirectory};
 
 use afs_num::directories::Name;
 use afs_num::sequences::Octets;
@@ -85,7 +85,7 @@ fn put_opaque(out: &mut Vec<u8>, bytes: &[u8]) -> Mem<()>
 }
 
 /// Appends a name, with what it names.
-#[tactic(auto, unfolding(afs_ideal::specs::Directories::name_bytes))]
+#[tactic(auto, unfolding(spec_ideal::specs::Directories::name_bytes))]
 fn put_name(out: &mut Vec<u8>, name: &[u8], vnode: u32, unique: u32) -> Mem<()>
     requires { length name.now ≤ 255 }
     ensures { OnOk result (out.new.items ≡ out.old.items ++ name_bytes (record { name = name.now; vnode = vnode; unique = unique })) }
@@ -97,7 +97,7 @@ fn put_name(out: &mut Vec<u8>, name: &[u8], vnode: u32, unique: u32) -> Mem<()>
 }
 
 /// What these bytes, which spell names, have of the names in front of this place, and of those behind it.
-#[tactic(auto, unfolding(afs_ideal::specs::Directories::directory_bytes))]
+#[tactic(auto, unfolding(spec_ideal::specs::Directories::directory_bytes))]
 fn parted<'a>(names: &[Name], bytes: &'a [u8], place: usize) -> (&'a [u8], &'a [u8])
     requires directory { IsDirectory names.now }
     requires spelled { directory_bytes names.now ≡ bytes.now }

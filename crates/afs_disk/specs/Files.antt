@@ -1,7 +1,7 @@
 -- A disk over a file, which tells nothing but lengths and counts.
 use Rattle.std.specs.Prelude.{◌≡◌, ℕ, ◌-◌, List, None, Some}
 use Rattle.afs_disk.specs.Disk.{Room}
-use Rattle.afs_disk.specs.Fuses.{last_count}
+use Rattle.afs_disk.specs.Fuses.{last_of_counter}
 
 pub record Filed : Type 0 where
   pub size : ℕ
@@ -11,7 +11,7 @@ pub record Filed : Type 0 where
 
 -- a file wants no memory of ours
 abbrev pub filed_room : Filed → Room
-filed_room f = record { calls = last_count - f.calls; bytes = last_count; end = last_count }
+filed_room f = record { calls = last_of_counter - f.calls; bytes = last_of_counter; end = last_of_counter }
 
 -- nothing is told
 pub untold : (bytes : List ℕ) (P : Type 0) → None ≡ Some bytes → P

@@ -11,17 +11,17 @@ pub record Fused (D : Type 0) : Type 0 where
   pub tripped : ℕ
 
 -- the last number of a counter
-abbrev pub last_count : ℕ
-last_count = 2 ^ 64 - 1
+abbrev pub last_of_counter : ℕ
+last_of_counter = 2 ^ 64 - 1
 
 -- armed to pass so many device calls from now on, and no more
 abbrev pub armed : {D : Type 0} → ℕ → Fused D → Fused D
-armed passes fuse = record fuse { stop = Some (min (fuse.calls + passes) last_count) }
+armed passes fuse = record fuse { stop = Some (min (fuse.calls + passes) last_of_counter) }
 
 -- set to fail at the nth device call from now on
 abbrev pub failing : {D : Type 0} → ℕ → Fused D → Fused D
-failing call fuse = record fuse { fail = Some (min (fuse.calls + call) last_count) }
+failing call fuse = record fuse { fail = Some (min (fuse.calls + call) last_of_counter) }
 
 -- the room of the disk, for no more calls than are left to count
 abbrev pub fused_room : Room → ℕ → Room
-fused_room room calls = record { calls = min room.calls (last_count - calls); bytes = room.bytes; end = room.end }
+fused_room room calls = record { calls = min room.calls (last_of_counter - calls); bytes = room.bytes; end = room.end }

@@ -2,7 +2,7 @@
 use Rattle.std.specs.Prelude.{◌≡◌, ◌≤◌, ◌⊎◌, ◌↔◌, ℕ, ◌+◌, ◌-◌, min, None, Some, List, [], ◌∷◌, length, drop, slice_get, Result, IsErr, OnOk, OnErr}
 use Rattle.std.proofs.Common.{inl, inr, ap}
 use Rattle.afs_disk.specs.Disk.{Passes, Ran, Room}
-use Rattle.afs_disk.specs.Fuses.{last_count}
+use Rattle.afs_disk.specs.Fuses.{last_of_counter}
 use Rattle.afs_disk.specs.Images.{Held, MayLeave, image}
 
 -- What is held now and what was held before each device call and crash that changed something, the capacity, which device
@@ -41,7 +41,7 @@ abbrev pub RanUnset : {T E : Type 0} → Memory → Memory → Result T E → Ty
 RanUnset old new result = Ran (record { stop = None; fail = None }) old.calls new.calls old.faults new.faults old.faults new.faults result
 
 abbrev pub memory_room : Memory → Room
-memory_room m = record { calls = min m.held.room.calls (last_count - m.calls); bytes = m.held.room.bytes; end = m.held.room.end }
+memory_room m = record { calls = min m.held.room.calls (last_of_counter - m.calls); bytes = m.held.room.bytes; end = m.held.room.end }
 
 none_left : (past : List Held) (c : List ℕ) → HadLeft (drop (length past) past) c → ⊥
 none_left [] c had = had

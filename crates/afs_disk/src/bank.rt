@@ -1,6 +1,6 @@
 // Who lends the disks of a cell, and takes them back.
 ghost use Rattle.std.specs.Prelude.{◌≡◌, ◌≤◌, ◌<◌, ◌+◌, ◌++◌, ◌∷◌, [], List, ℕ, Option, IfOk, OnOk, OnErr, IsErrOf, option_map, IsSome};
-ghost use Rattle.afs_disk.specs.Banks.{GivesBack, counted};
+ghost use Rattle.afs_disk.specs.Banks.{IsTakenBack, counted};
 ghost use Rattle.afs_disk.specs.declared.bank.Lend.{Lend};
 ghost use Rattle.afs_disk.specs.declared.bank.Place.{Place as At};
 ghost use Rattle.afs_disk.specs.declared.bank.LendFault.TheVariants.{Failed as LendFailed, OutOfMemory};
@@ -107,7 +107,7 @@ pub trait Bank {
 
     /// Takes a disk back.
     fn give_back(&mut self, node: u8, disk: Self::D) -> Result<(), Failed>
-        ensures given { OnOk result (GivesBack node (Self.D.seen disk) (given self.old) (given self.new)) }
+        ensures given { OnOk result (IsTakenBack node (Self.D.seen disk) (given self.old) (given self.new)) }
         ensures kept { OnErr result (given self.new ≡ given self.old) }
         ensures lends { lends self.new ≡ lends self.old }
         ensures lent { (n : ℕ) → lent_faults self.new n ≡ counted node (Self.D.faults disk) n (lent_faults self.old n) }

@@ -2,7 +2,7 @@
 ghost use Rattle.std.specs.Prelude.{◌≡◌, ◌<◌, ◌≤◌, ◌+◌, ◌-◌, ◌↔◌, None, length, min, drop, IsTrue, IfOk, IsErr, OnOk, OnErr};
 ghost use Rattle.std.proofs.Common.{refl};
 ghost use Rattle.afs_disk.specs.Files.{filed_room, untold};
-ghost use Rattle.afs_disk.specs.Fuses.{last_count};
+ghost use Rattle.afs_disk.specs.Fuses.{last_of_counter};
 ghost use Rattle.afs_disk.specs.Disk.{Rose};
 
 use crate::disk::Disk;
@@ -64,7 +64,7 @@ fn admits(
     is_lost: &mut bool,
     faults: &mut u64,
 ) -> Result<(), Failed>
-    requires { calls.old < last_count }
+    requires { calls.old < last_of_counter }
     ensures counted { calls.new ≡ calls.old + 1 }
     ensures fails { IsErr result ↔ IsTrue is_lost.new }
     ensures lost { IsTrue is_lost.old → IsTrue is_lost.new }
@@ -140,7 +140,7 @@ impl FileDisk {
 
     // Counts a device call, and says whether it may be made.
     fn admits(&mut self) -> Result<(), Failed>
-        requires { self.old.calls < last_count }
+        requires { self.old.calls < last_of_counter }
         ensures counted { self.new.calls ≡ self.old.calls + 1 }
         ensures size { self.new.size ≡ self.old.size }
         ensures limit { self.new.limit ≡ self.old.limit }

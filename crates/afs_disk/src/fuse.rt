@@ -1,6 +1,6 @@
 // A disk that can be set to stop or to fail at a device call.
 ghost use Rattle.std.specs.Prelude.{◌≡◌, ◌<◌, ◌+◌, ◌-◌, ◌↔◌, None, min, IsTrue, OnOk, OnErr};
-ghost use Rattle.afs_disk.specs.Fuses.{armed, failing, fused_room, last_count};
+ghost use Rattle.afs_disk.specs.Fuses.{armed, failing, fused_room, last_of_counter};
 ghost use Rattle.afs_disk.specs.Disk.{IsBeyond, Trips};
 
 use crate::disk::Disk;
@@ -38,10 +38,10 @@ fn admits(
     fail: Option<u64>,
     tripped: &mut u64,
 ) -> Result<(), Failed>
-    requires { calls.old < last_count }
+    requires { calls.old < last_of_counter }
     ensures counted { calls.new ≡ calls.old + 1 }
     ensures ok { OnOk result (tripped.new ≡ tripped.old) }
-    ensures err { OnErr result (tripped.new ≡ min (tripped.old + 1) last_count) }
+    ensures err { OnErr result (tripped.new ≡ min (tripped.old + 1) last_of_counter) }
     ensures passed { OnOk result (Trips (record { stop = stop; fail = fail }) calls.new → ⊥) }
     ensures blame { OnErr result (Trips (record { stop = stop; fail = fail }) calls.new) }
 {
@@ -122,7 +122,7 @@ impl<D: Disk> Disk for Fuse<D> {
 
     ghost left_since = { λ f t c. D.left_since f.disk t c };
 
-    ghost faults = { λ f. min (D.faults f.disk + f.tripped) last_count };
+    ghost faults = { λ f. min (D.faults f.disk + f.tripped) last_of_counter };
 
     ghost own_faults = { λ f. D.faults f.disk };
 

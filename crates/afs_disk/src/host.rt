@@ -1,7 +1,7 @@
 // The program's disks: in memory, or files of a folder.
 ghost use Rattle.std.specs.Prelude.{◌≡◌, ◌≤◌, ◌+◌, ℕ, None, IfOk, OnOk, OnErr, IsOk, IsSome, IsErrOf, get_or, replicate};
 ghost use Rattle.afs_disk.specs.Hosts.{IsLentAt, no_lends, none_given};
-ghost use Rattle.afs_disk.specs.Banks.{GivesBack, counted};
+ghost use Rattle.afs_disk.specs.Banks.{IsTakenBack, counted};
 ghost use Rattle.afs_disk.specs.Disk.{Rose};
 ghost use Rattle.afs_disk.specs.Hosts.{host_calls, host_counts, host_faults, host_just, host_leaves, host_left_by, host_limit, host_measures, host_moment, host_picked, host_seen, host_setting, host_shows, host_since, host_size, host_space, host_tells};
 
@@ -320,7 +320,7 @@ impl<'a, R: Files<File = File>> Bank for HostBank<'a, R> {
 
     fn give_back(&mut self, node: u8, disk: HostDisk) -> Result<(), Failed>
         ensures lent { (n : ℕ) → get_or self.new.lent_faults n 0 ≡ counted node (host_faults disk) n (get_or self.old.lent_faults n 0) }
-        ensures given { OnOk result (GivesBack node (host_seen disk) none_given none_given) }
+        ensures given { OnOk result (IsTakenBack node (host_seen disk) none_given none_given) }
         ensures kept { OnErr result (none_given ≡ none_given) }
         ensures never_falls { self.old.faults ≤ self.new.faults }
         ensures cause { OnErr result (Rose self.old.faults self.new.faults) }

@@ -1,6 +1,6 @@
 // A disk in memory.
 ghost use Rattle.std.specs.Prelude.{◌≡◌, ◌<◌, ◌≤◌, ◌+◌, ◌-◌, [], ◌↔◌, List, ℕ, Some, None, length, min, max, take, drop, slice_get, IsOk, IsErr, IfOk, OnOk, OnErr};
-ghost use Rattle.afs_disk.specs.Fuses.{last_count};
+ghost use Rattle.afs_disk.specs.Fuses.{last_of_counter};
 ghost use Rattle.afs_disk.specs.Images.{MayLeave, image};
 ghost use Rattle.afs_disk.specs.Past.{Planned, Since, measured, memory_room, only_now, picked_leaves, MomentPasses, RanUnset};
 ghost use Rattle.std.proofs.Common.{inl, refl};
@@ -51,7 +51,7 @@ impl Model for MemDisk {
 
 // Counts a device call, and says whether it may be made.
 fn admits(calls: &mut u64, failing: &[u8], faults: &mut u64) -> Result<(), Failed>
-    requires { calls.old < last_count }
+    requires { calls.old < last_of_counter }
     ensures counted { calls.new ≡ calls.old + 1 }
     ensures fails { IsErr result ↔ (slice_get failing.now calls.old ≡ Some 1) }
     ensures ok { OnOk result (faults.new ≡ faults.old) }

@@ -1,7 +1,7 @@
 // A bank in memory.
 ghost use Rattle.std.specs.Prelude.{◌≡◌, ◌<◌, ◌≤◌, ◌+◌, ◌++◌, ◌∷◌, [], Some, length, map, min, replicate, slice_get, get_or, ℕ, IsErr, IsErrOf, IfOk, OnOk, OnErr, ◌↔◌};
 ghost use Rattle.afs_disk.specs.Banks.{counted};
-ghost use Rattle.afs_disk.specs.Fuses.{last_count};
+ghost use Rattle.afs_disk.specs.Fuses.{last_of_counter};
 ghost use Rattle.afs_disk.specs.Disk.{Rose};
 
 use crate::bank::{Bank, Lend, LendFault, Place};
@@ -59,7 +59,7 @@ impl Model for MemBank {
 
 // Counts a call, and says whether it may be made.
 fn admits(calls: &mut u64, failing: &[u8], faults: &mut u64) -> Result<(), Failed>
-    ensures counted { calls.new ≡ min (calls.old + 1) last_count }
+    ensures counted { calls.new ≡ min (calls.old + 1) last_of_counter }
     ensures fails { IsErr result ↔ (slice_get failing.now calls.old ≡ Some 1) }
     ensures err { OnErr result (Rose faults.old faults.new) }
     ensures ok { OnOk result (faults.new ≡ faults.old) }
@@ -142,7 +142,7 @@ impl Bank for MemBank {
         ensures none { OnErr result (self.new.lends ≡ self.old.lends) }
         ensures given { self.new.given ≡ self.old.given }
         ensures lent { (n : ℕ) → get_or self.new.lent n 0 ≡ get_or self.old.lent n 0 }
-        ensures counted { self.new.calls ≡ min (self.old.calls + 1) last_count }
+        ensures counted { self.new.calls ≡ min (self.old.calls + 1) last_of_counter }
         ensures fails { IsErrOf result LendFault.Failed ↔ (slice_get self.old.failing self.old.calls ≡ Some 1) }
         ensures never_falls { self.old.faults ≤ self.new.faults }
         ensures cause { IsErrOf result LendFault.Failed → Rose self.old.faults self.new.faults }
@@ -172,7 +172,7 @@ impl Bank for MemBank {
         ensures kept { OnErr result (self.new.given ≡ self.old.given) }
         ensures lends { self.new.lends ≡ self.old.lends }
         ensures lent { (n : ℕ) → get_or self.new.lent n 0 ≡ counted node disk.faults n (get_or self.old.lent n 0) }
-        ensures counted { self.new.calls ≡ min (self.old.calls + 1) last_count }
+        ensures counted { self.new.calls ≡ min (self.old.calls + 1) last_of_counter }
         ensures fails { slice_get self.old.failing self.old.calls ≡ Some 1 → IsErr result }
 
         // `lend` made the room for it.

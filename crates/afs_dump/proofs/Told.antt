@@ -4,15 +4,15 @@ use Rattle.std.specs.List.{flat_map}
 use Rattle.std.proofs.lemmas.Bool.Decides.{nat_tests}
 use Rattle.afs_num.specs.declared.vnodes.Vnode as image
 use Rattle.afs_xdr.specs.Words.{word, words, opaque}
-use Rattle.afs_ideal.specs.AccessLists.{acl_text}
-use Rattle.afs_ideal.specs.Directories.{directory_bytes}
-use Rattle.afs_ideal.specs.Images.{Image, acl_by, image_of}
-use Rattle.afs_ideal.specs.Tables.{Table, get, AscendsFrom}
-use Rattle.afs_ideal.specs.VnodeImage.{image}
-use Rattle.afs_ideal.specs.Volumes.{Kind, a_file, a_directory, a_link, bytes_by, type_of}
-use Rattle.afs_dumps.specs.Dumps.{dump_of, images_at, images_since, is_since, live_in}
-use Rattle.afs_dumps.specs.Streams.{dump_bytes, dump_field, dump_header_field, end_magic, end_tag, image_bytes, image_field, live_field, pair_bytes, vnode_tag, volume_header_field}
-use Rattle.afs_records.specs.Durable.{or_zero}
+use Rattle.spec_ideal.specs.AccessLists.{acl_text}
+use Rattle.spec_ideal.specs.Directories.{directory_bytes}
+use Rattle.spec_ideal.specs.Images.{Image, acl_by, image_of}
+use Rattle.spec_ideal.specs.Tables.{Table, get, AscendsFrom}
+use Rattle.spec_ideal.specs.VnodeImage.{image}
+use Rattle.spec_ideal.specs.Volumes.{VnodeKind, a_file, a_directory, a_link, bytes_by, type_of}
+use Rattle.spec_dumps.specs.Dumps.{dump_of, timed_images, images_since, is_since, live_in}
+use Rattle.spec_dumps.specs.Streams.{dump_bytes, dump_field, dump_header_field, end_magic, end_tag, image_bytes, image_field, live_field, pair_bytes, vnode_tag, volume_header_field}
+use Rattle.spec_records.specs.Durable.{or_zero}
 use Rattle.afs_volume.specs.Seen.{all_seen, contents_seen, kind_seen, list_seen, list_spelled, names_seen, names_spelled, seen, text_by, AreReadable, IsReadable}
 use Rattle.afs_volume.specs.Taking.{stored_of, times_in}
 use Rattle.afs_volume.specs.declared.volume.Volume as volumes
@@ -36,17 +36,17 @@ same_count (p ∷ ps) = ap suc (same_count ps)
 
 -- ---- an image: that of what is seen of a vnode is the vnode itself
 
-acl_is : (k : Kind) (x : image.Vnode) → kind_seen x.kind ≡ k → IsReadable x → acl_by k (seen x) ≡ x.acl
+acl_is : (k : VnodeKind) (x : image.Vnode) → kind_seen x.kind ≡ k → IsReadable x → acl_by k (seen x) ≡ x.acl
 unfolding seen
-acl_is a_directory x is h = ap (λ (k : Kind). acl_text (list_seen k x.acl)) is ∙ sym (text_is_list x.acl (h.1.1.0 is))
-acl_is a_file x is h = ap (λ (k : Kind). text_by k x.acl) (sym is) ∙ h.1.1.1
-acl_is a_link x is h = ap (λ (k : Kind). text_by k x.acl) (sym is) ∙ h.1.1.1
+acl_is a_directory x is h = ap (λ (k : VnodeKind). acl_text (list_seen k x.acl)) is ∙ sym (text_is_list x.acl (h.1.1.0 is))
+acl_is a_file x is h = ap (λ (k : VnodeKind). text_by k x.acl) (sym is) ∙ h.1.1.1
+acl_is a_link x is h = ap (λ (k : VnodeKind). text_by k x.acl) (sym is) ∙ h.1.1.1
 
-bytes_are : (k : Kind) (x : image.Vnode) → kind_seen x.kind ≡ k → IsReadable x → bytes_by k (seen x) ≡ x.contents
+bytes_are : (k : VnodeKind) (x : image.Vnode) → kind_seen x.kind ≡ k → IsReadable x → bytes_by k (seen x) ≡ x.contents
 unfolding seen
-bytes_are a_directory x is h = ap (λ (k : Kind). directory_bytes (names_seen k x.contents)) is ∙ h.1.0 is
-bytes_are a_file x is h = ap (λ (k : Kind). contents_seen k x.contents) is
-bytes_are a_link x is h = ap (λ (k : Kind). contents_seen k x.contents) is
+bytes_are a_directory x is h = ap (λ (k : VnodeKind). directory_bytes (names_seen k x.contents)) is ∙ h.1.0 is
+bytes_are a_file x is h = ap (λ (k : VnodeKind). contents_seen k x.contents) is
+bytes_are a_link x is h = ap (λ (k : VnodeKind). contents_seen k x.contents) is
 
 -- with this type, access list and contents
 with_body : ℕ → image.Vnode → ℕ → List ℕ → List ℕ → Image
@@ -55,7 +55,7 @@ with_body n x kind acl contents = record x { vnode = n; kind = kind; acl = acl; 
 imaged : (n : ℕ) (x : image.Vnode) → IsReadable x → image_of n x.server_time (seen x) ≡ record x { vnode = n }
 unfolding seen with_body
 imaged n x h =
-    let k : Kind = kind_seen x.kind in
+    let k : VnodeKind = kind_seen x.kind in
     ap (λ (kind : ℕ). with_body n x kind (acl_by k (seen x)) (bytes_by k (seen x))) h.0
     ∙ (ap (λ (acl : List ℕ). with_body n x x.kind acl (bytes_by k (seen x))) (acl_is k x refl h)
     ∙ ap (λ (contents : List ℕ). with_body n x x.kind x.acl contents) (bytes_are k x refl h))
@@ -72,18 +72,18 @@ image_spelled i = ap (λ (z : List ℕ). word vnode_tag ++ (front i z ++ (opaque
 -- ---- the images of those that were changed since
 
 one_told : (b : Bool) (times : Table ℕ) (p : ℕ × image.Vnode) (later : Table image.Vnode) (rest : List ℕ) (from : ℕ) → IsReadable p.1 → or_zero (get p.0 times) ≡ p.1.server_time →
-    flat_map image_bytes (images_at times (filter (is_since from) (all_seen later))) ≡ rest →
-    flat_map image_bytes (images_at times (cond b ((p.0, seen p.1) ∷ filter (is_since from) (all_seen later)) (filter (is_since from) (all_seen later))))
+    flat_map image_bytes (timed_images times (filter (is_since from) (all_seen later))) ≡ rest →
+    flat_map image_bytes (timed_images times (cond b ((p.0, seen p.1) ∷ filter (is_since from) (all_seen later)) (filter (is_since from) (all_seen later))))
     ≡ cond b (word vnode_tag ++ image (record p.1 { vnode = p.0 })) [] ++ rest
 one_told true times p later rest from h time more =
     let i : image_of p.0 (or_zero (get p.0 times)) (seen p.1) ≡ record p.1 { vnode = p.0 } = ap (λ (n : ℕ). image_of p.0 n (seen p.1)) time ∙ imaged p.0 p.1 h in
-    ap (λ (x : Image). image_bytes x ++ flat_map image_bytes (images_at times (filter (is_since from) (all_seen later)))) i
-    ∙ (ap (λ (z : List ℕ). z ++ flat_map image_bytes (images_at times (filter (is_since from) (all_seen later)))) (image_spelled (record p.1 { vnode = p.0 }))
+    ap (λ (x : Image). image_bytes x ++ flat_map image_bytes (timed_images times (filter (is_since from) (all_seen later)))) i
+    ∙ (ap (λ (z : List ℕ). z ++ flat_map image_bytes (timed_images times (filter (is_since from) (all_seen later)))) (image_spelled (record p.1 { vnode = p.0 }))
     ∙ ap (λ (z : List ℕ). (word vnode_tag ++ image (record p.1 { vnode = p.0 })) ++ z) more)
 one_told false times p later rest from h time more = more
 
 images_told : (from m : ℕ) (times : Table ℕ) (t : Table image.Vnode) → AscendsFrom m t → AreReadable t → ((n : ℕ) (x : image.Vnode) → get n t ≡ Some x → or_zero (get n times) ≡ x.server_time) →
-    flat_map image_bytes (images_at times (filter (is_since from) (all_seen t))) ≡ flat_map (image_told from) t
+    flat_map image_bytes (timed_images times (filter (is_since from) (all_seen t))) ≡ flat_map (image_told from) t
 unfolding all_seen seen
 images_told from m times [] up all timed = refl
 images_told from m times (p ∷ ps) up all timed =

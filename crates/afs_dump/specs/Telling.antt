@@ -4,10 +4,10 @@ use Rattle.std.specs.List.{flat_map}
 use Rattle.afs_num.specs.declared.vnodes.Vnode as image
 use Rattle.afs_num.specs.declared.volumes.VolumeHead.{VolumeHead}
 use Rattle.afs_xdr.specs.Words.{word}
-use Rattle.afs_ideal.specs.Tables.{Table}
-use Rattle.afs_ideal.specs.VnodeImage.{image}
-use Rattle.afs_dumps.specs.Dumps.{DumpHeader, VolumeHeader}
-use Rattle.afs_dumps.specs.Streams.{dump_header_field, vnode_tag, volume_header_field}
+use Rattle.spec_ideal.specs.Tables.{Table}
+use Rattle.spec_ideal.specs.VnodeImage.{image}
+use Rattle.spec_dumps.specs.Dumps.{DumpHeader, VolumeHeader}
+use Rattle.spec_dumps.specs.Streams.{dump_header_field, vnode_tag, volume_header_field}
 
 abbrev pub dump_header_told : ℕ → VolumeHead → DumpHeader
 dump_header_told from head = record { id = head.id; name = head.name; from = from }

@@ -3,9 +3,9 @@
 ghost use Rattle.std.specs.Prelude.{◌≡◌, ◌≤◌, ◌++◌, length, slice_get, IfOk, OnOk};
 ghost use Rattle.std.specs.List.{flat_map};
 ghost use Rattle.afs_xdr.specs.Words.{word};
-ghost use Rattle.afs_ideal.specs.VnodeImage.{image, FitsImage};
-ghost use Rattle.afs_dumps.specs.Dumps.{dump_of};
-ghost use Rattle.afs_dumps.specs.Streams.{dump_bytes, dump_header_field, is_last_at, piece_at, vnode_tag, volume_header_field};
+ghost use Rattle.spec_ideal.specs.VnodeImage.{image, FitsImage};
+ghost use Rattle.spec_dumps.specs.Dumps.{dump_of};
+ghost use Rattle.spec_dumps.specs.Streams.{dump_bytes, dump_header_field, is_last_at, piece_at, vnode_tag, volume_header_field};
 ghost use Rattle.afs_volume.specs.Seen.{FitsHead};
 ghost use Rattle.afs_volume.specs.Taking.{stored_of};
 ghost use Rattle.afs_dump.specs.Telling as telling;
@@ -69,7 +69,7 @@ fn room_for(vnodes: &VnodeStore, from: u32) -> usize {
 }
 
 /// Appends the dump header.
-#[tactic(auto, unfolding(afs_dumps::specs::Streams::dump_header_field))]
+#[tactic(auto, unfolding(spec_dumps::specs::Streams::dump_header_field))]
 fn write_dump_header(head: &VolumeHead, from: u32, w: &mut Writer) -> Mem<()>
     requires { FitsHead head.now }
     ensures { OnOk result (w.new ≡ w.old ++ dump_header_field.spelled (telling.dump_header_told from head.now)) }
@@ -80,7 +80,7 @@ fn write_dump_header(head: &VolumeHead, from: u32, w: &mut Writer) -> Mem<()>
 }
 
 /// Appends the volume header.
-#[tactic(auto, unfolding(afs_dumps::specs::Streams::volume_header_field))]
+#[tactic(auto, unfolding(spec_dumps::specs::Streams::volume_header_field))]
 fn write_volume_header(head: &VolumeHead, w: &mut Writer) -> Mem<()>
     ensures { OnOk result (w.new ≡ w.old ++ volume_header_field.spelled (telling.volume_header_told head.now)) }
 {

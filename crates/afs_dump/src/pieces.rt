@@ -1,8 +1,8 @@
 //! The pieces of a dump that are sent, one after the other.
 
 ghost use Rattle.std.specs.Prelude.{◌≡◌, ◌≤◌, ◌<◌, ◌-◌, length, nat_lt, not, take, IfOk};
-ghost use Rattle.afs_volrows.specs.VolRow.{most_piece};
-ghost use Rattle.afs_dumps.specs.Streams.{piece_at};
+ghost use Rattle.spec_volrows.specs.VolRow.{most_piece};
+ghost use Rattle.spec_dumps.specs.Streams.{piece_at};
 
 use afs_num::sequences::Octets;
 use afs_num::types::Mem;

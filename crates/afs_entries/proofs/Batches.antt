@@ -2,8 +2,8 @@
 use Rattle.std.proofs.Common.{◌≡◌, ◌≤◌, ℕ, zero, suc, Bool, true, false, cond, List, [], ◌∷◌, take, length, get_or, refl, ap, ◌∙◌, arith}
 use Rattle.afs_num.specs.Nodes.{same_node}
 use Rattle.afs_num.specs.declared.types.Node.{Node}
-use Rattle.afs_rows.specs.States.{Gift}
-use Rattle.afs_rows.specs.ClientRow.{batch, batch_to}
+use Rattle.spec_rows.specs.States.{Gift}
+use Rattle.spec_rows.specs.ClientRow.{batch, batch_to}
 
 pub none_left : (s : Node) (k : ℕ) → length (batch_to s k []) ≡ 0
 none_left s zero = refl

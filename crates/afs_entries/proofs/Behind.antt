@@ -7,7 +7,7 @@ use Rattle.std.proofs.lemmas.List.{append-nil, drop-drop}
 use Rattle.std.proofs.lemmas.List.Elements.{All-more, All-weaker}
 use Rattle.lru.specs.LruCache.{LruCache, lru_cache, promoted}
 use Rattle.afs_num.specs.declared.types.Fid.{Fid}
-use Rattle.afs_ideal.proofs.Basics.{same_fid-true}
+use Rattle.spec_ideal.proofs.Basics.{same_fid-true}
 use Rattle.afs_entries.specs.declared.cache.Slot.{Slot}
 use Rattle.afs_entries.specs.declared.cache.Entry.{Entry}
 use Rattle.afs_entries.specs.declared.cache.Fresh.{Fresh}

@@ -6,9 +6,9 @@ use Rattle.std.specs.Map.{lookup, lookup_entry, remove_entry, keys_of}
 use Rattle.lru.specs.LruCache.{promoted}
 use Rattle.afs_num.specs.Fids.{same_fid}
 use Rattle.afs_num.specs.declared.types.Fid.{Fid}
-use Rattle.afs_ideal.proofs.Basics.{same_fid-true, same_fid-refl}
-use Rattle.afs_rows.specs.States.{CacheEntry}
-use Rattle.afs_rows.specs.ClientRow.{find_cached}
+use Rattle.spec_ideal.proofs.Basics.{same_fid-true, same_fid-refl}
+use Rattle.spec_rows.specs.States.{CacheEntry}
+use Rattle.spec_rows.specs.ClientRow.{find_cached}
 use Rattle.afs_entries.specs.Cached.{Kept, slot_of, fid_in, entry_at, cached, touched, first_by, without, same_slot}
 use Rattle.afs_entries.specs.declared.cache.Slot.{Slot}
 use Rattle.afs_entries.specs.declared.cache.Entry.{Entry}

@@ -8,9 +8,9 @@ use Rattle.afs_num.specs.Fids.{same_fid}
 use Rattle.afs_num.specs.declared.types.Fid.{Fid}
 use Rattle.afs_num.specs.declared.histories.Body.{Body}
 use Rattle.std.proofs.lemmas.Bool.{ltb-true, ltb-false}
-use Rattle.afs_ideal.proofs.Basics.{same_fid-true}
-use Rattle.afs_rows.specs.States.{CacheEntry}
-use Rattle.afs_rows.specs.ClientRow.{find_cached, put_entry, joined, body_kept}
+use Rattle.spec_ideal.proofs.Basics.{same_fid-true}
+use Rattle.spec_rows.specs.States.{CacheEntry}
+use Rattle.spec_rows.specs.ClientRow.{find_cached, put_entry, joined, body_kept}
 use Rattle.afs_entries.specs.Cached.{fid_in, cached, without, evicted, evicted_by, is_fid, last_fid, AreApart}
 use Rattle.afs_entries.specs.declared.cache.Slot.{Slot}
 use Rattle.afs_entries.specs.declared.cache.Entry.{Entry}

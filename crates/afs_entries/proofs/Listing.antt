@@ -4,9 +4,9 @@ use Rattle.std.specs.List.{IsDistinct, AllByRecursion}
 use Rattle.std.specs.Map.{keys_of}
 use Rattle.afs_num.specs.Fids.{same_fid}
 use Rattle.afs_num.specs.declared.types.Fid.{Fid}
-use Rattle.afs_ideal.proofs.Basics.{same_fid-true, same_fid-refl}
-use Rattle.afs_rows.specs.States.{CacheEntry}
-use Rattle.afs_rows.specs.ClientRow.{is_named, find_cached}
+use Rattle.spec_ideal.proofs.Basics.{same_fid-true, same_fid-refl}
+use Rattle.spec_rows.specs.States.{CacheEntry}
+use Rattle.spec_rows.specs.ClientRow.{is_among_fids, find_cached}
 use Rattle.afs_entries.specs.Cached.{fid_in, AreApart, cached, without, without_all, unlisted, same_slot, drops_of, fid_dropped, taken_by, listed}
 use Rattle.afs_entries.specs.declared.drops.Drops.{Drops}
 use Rattle.afs_entries.specs.declared.drops.Drops.TheVariants as drops
@@ -38,8 +38,8 @@ filter_front false q e es = refl
 pub unlisted_more : (f : Fid) (fs : List Fid) (es : List CacheEntry) → unlisted (f ∷ fs) es ≡ unlisted fs (without f es)
 unlisted_more f fs [] = refl
 unlisted_more f fs (e ∷ es) =
-    rw (same_fid-sym f e.fid) (kept_by (same_fid e.fid f) (is_named e.fid fs) e (unlisted (f ∷ fs) es) (unlisted fs (without f es)) (unlisted_more f fs es)
-    ∙ sym (filter_front (not (same_fid e.fid f)) (λ (x : CacheEntry). not (is_named x.fid fs)) e (without f es)))
+    rw (same_fid-sym f e.fid) (kept_by (same_fid e.fid f) (is_among_fids e.fid fs) e (unlisted (f ∷ fs) es) (unlisted fs (without f es)) (unlisted_more f fs es)
+    ∙ sym (filter_front (not (same_fid e.fid f)) (λ (x : CacheEntry). not (is_among_fids x.fid fs)) e (without f es)))
 
 pub unlisted_none : (es : List CacheEntry) → unlisted [] es ≡ es
 unlisted_none [] = refl
@@ -58,20 +58,20 @@ module _ (p : CacheEntry → Bool) where
   abbrev pub kept_of : List CacheEntry → List CacheEntry
   kept_of es = filter (λ (e : CacheEntry). not (p e)) es
 
-  not_among_by : (b : Bool) (f : Fid) (e : CacheEntry) (es : List CacheEntry) → same_fid f e.fid ≡ false → is_named f (fids_by es) ≡ false
-      → is_named f (map (λ (x : CacheEntry). x.fid) (cond b (e ∷ filter p es) (filter p es))) ≡ false
+  not_among_by : (b : Bool) (f : Fid) (e : CacheEntry) (es : List CacheEntry) → same_fid f e.fid ≡ false → is_among_fids f (fids_by es) ≡ false
+      → is_among_fids f (map (λ (x : CacheEntry). x.fid) (cond b (e ∷ filter p es) (filter p es))) ≡ false
   not_among_by true f e es apart_e h = rw (same_fid-sym e.fid f) (rw apart_e h)
   not_among_by false f e es apart_e h = h
 
-  not_among : (f : Fid) (es : List CacheEntry) → AllByRecursion (λ (x : CacheEntry). same_fid f x.fid ≡ false) es → is_named f (fids_by es) ≡ false
+  not_among : (f : Fid) (es : List CacheEntry) → AllByRecursion (λ (x : CacheEntry). same_fid f x.fid ≡ false) es → is_among_fids f (fids_by es) ≡ false
   not_among f [] h = refl
   not_among f (e ∷ es) h = not_among_by (p e) f e es h.0 (not_among f es h.1)
 
   -- a fid that none of them has changes nothing
   passed_by : (b : Bool) (f : Fid) (fs : List Fid) (e : CacheEntry) (es : List CacheEntry) → same_fid f e.fid ≡ b → b ≡ false → unlisted (f ∷ fs) es ≡ unlisted fs es
-      → cond (not (cond b true (is_named e.fid fs))) (e ∷ unlisted (f ∷ fs) es) (unlisted (f ∷ fs) es) ≡ cond (not (is_named e.fid fs)) (e ∷ unlisted fs es) (unlisted fs es)
+      → cond (not (cond b true (is_among_fids e.fid fs))) (e ∷ unlisted (f ∷ fs) es) (unlisted (f ∷ fs) es) ≡ cond (not (is_among_fids e.fid fs)) (e ∷ unlisted fs es) (unlisted fs es)
   passed_by true f fs e es q h ih = absurd cc
-  passed_by false f fs e es q h ih = ap (λ (xs : List CacheEntry). cond (not (is_named e.fid fs)) (e ∷ xs) xs) ih
+  passed_by false f fs e es q h ih = ap (λ (xs : List CacheEntry). cond (not (is_among_fids e.fid fs)) (e ∷ xs) xs) ih
 
   passed : (f : Fid) (fs : List Fid) (es : List CacheEntry) → AllByRecursion (λ (x : CacheEntry). same_fid f x.fid ≡ false) es → unlisted (f ∷ fs) es ≡ unlisted fs es
   passed f fs [] h = refl

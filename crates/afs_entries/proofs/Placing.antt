@@ -2,7 +2,7 @@
 use Rattle.std.proofs.Common.{◌≡◌, ◌≤◌, ◌-◌, ℕ, Bool, true, false, cond, List, [], ◌∷◌, ◌++◌, length, Option, Some, None, refl, ap, ◌∙◌}
 use Rattle.std.specs.Map.{lookup, lookup_entry}
 use Rattle.lru.specs.LruCache.{lru_cache, put_entries, demoted}
-use Rattle.afs_ideal.proofs.Basics.{same_fid-refl}
+use Rattle.spec_ideal.proofs.Basics.{same_fid-refl}
 use Rattle.afs_entries.specs.declared.cache.Slot.{Slot}
 use Rattle.afs_entries.specs.declared.cache.Entry.{Entry}
 use Rattle.afs_entries.specs.Cached.{fid_in, same_slot}

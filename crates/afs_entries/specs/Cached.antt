@@ -8,8 +8,8 @@ use Rattle.afs_num.specs.Nodes.{same_node}
 use Rattle.afs_num.specs.declared.types.Fid.{Fid}
 use Rattle.afs_num.specs.declared.histories.Body.{Body}
 use Rattle.afs_num.specs.declared.histories.Body.TheVariants as bodies
-use Rattle.afs_rows.specs.States.{CacheEntry, Gift}
-use Rattle.afs_rows.specs.ClientRow.{find_cached, used_first, put_entry, is_trusted, is_older, is_named}
+use Rattle.spec_rows.specs.States.{CacheEntry, Gift}
+use Rattle.spec_rows.specs.ClientRow.{find_cached, used_first, put_entry, is_trusted, is_older, is_among_fids}
 use Rattle.afs_entries.specs.declared.cache.Slot.{Slot}
 use Rattle.afs_entries.specs.declared.cache.Entry.{Entry}
 use Rattle.afs_entries.specs.declared.cache.Fresh.{Fresh}
@@ -68,7 +68,7 @@ without_all (f ∷ fs) cache = without_all fs (without f cache)
 
 -- without the entries of these fids
 abbrev pub unlisted : List Fid → List CacheEntry → List CacheEntry
-unlisted fs cache = filter (λ e. not (is_named e.fid fs)) cache
+unlisted fs cache = filter (λ e. not (is_among_fids e.fid fs)) cache
 
 abbrev pub drops_of : Drops → CacheEntry → Bool
 drops_of drops.Nothing e = false

@@ -3,7 +3,7 @@
 ghost use Rattle.std.specs.Prelude.{◌≡◌, ◌<◌, [], Some, is_some, length, nat_lt, map, OnErr, OnOk, IfOk};
 ghost use Rattle.std.specs.Option.{option_copied, option_map};
 ghost use Rattle.afs_num.specs.Nodes.{IsNode};
-ghost use Rattle.afs_rows.specs.ClientRow.{find_cached, gift_of, is_trusted, put_entries, put_entry, refreshed, trusted_in};
+ghost use Rattle.spec_rows.specs.ClientRow.{find_cached, gift_of, is_trusted, put_entries, put_entry, refreshed, trusted_in};
 ghost use Rattle.afs_entries.specs.Cached.{entry_at, entry_of, evicted, fid_dropped, fid_in, is_fid, IsSound, last_fid, left, listed, made_of, slot_of, taken_by, touched, touched_all, unlisted, without, without_all};
 
 use crate::copies::copy_left;

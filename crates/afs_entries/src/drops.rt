@@ -2,7 +2,7 @@
 
 ghost use Rattle.std.specs.Prelude.{◌≡◌, Some, None, IfSome};
 ghost use Rattle.afs_num.specs.Fids.{same_fid};
-ghost use Rattle.afs_rows.specs.States.{CacheEntry};
+ghost use Rattle.spec_rows.specs.States.{CacheEntry};
 ghost use Rattle.afs_entries.specs.Cached.{drops_of, entry_at, fid_dropped};
 
 use crate::cache::Entry;

@@ -2,7 +2,7 @@
 
 ghost use Rattle.std.specs.Prelude.{◌≡◌, ◌≤◌, ◌<◌, ◌^◌, ◌++◌, OnOk, IfOk, IfSome, map, length};
 ghost use Rattle.std.specs.List.{flat_map};
-ghost use Rattle.afs_rows.specs.ClientRow.{batch, batch_to, first_server_of, gift_call, gift_of, gifts_to, given_promise, in_order};
+ghost use Rattle.spec_rows.specs.ClientRow.{batch, batch_to, first_server_of, gift_call, gift_of, gifts_to, given_promise, in_order};
 ghost use Rattle.std.specs.Option.{option_map};
 ghost use Rattle.afs_entries.specs.Cached.{entry_at, first_gift};
 
@@ -28,7 +28,7 @@ pub struct Gift {
 }
 
 impl Model for Gift {
-    ghost use Rattle.afs_rows.specs.States.{Gift};
+    ghost use Rattle.spec_rows.specs.States.{Gift};
 
     ghost Value = { Gift };
 

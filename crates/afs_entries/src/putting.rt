@@ -2,7 +2,7 @@
 
 ghost use Rattle.std.specs.Prelude.{◌≡◌, ◌≤◌, ◌<◌, ◌++◌, [], ◌∷◌, drop, is_some, map, take, length, None, OnErr, OnOk, Some};
 ghost use Rattle.std.specs.Map.{lookup};
-ghost use Rattle.afs_rows.specs.ClientRow.{put_entries, put_entry};
+ghost use Rattle.spec_rows.specs.ClientRow.{put_entries, put_entry};
 ghost use Rattle.lru.specs.LruCache.{lru_cache};
 ghost use Rattle.afs_entries.specs.Cached.{cached, entry_of, entry_joined, FitsCache, HasAll, HasKey, IsFront, KeepsKeys, raised, same_slot, slot_of};
 ghost use Rattle.afs_entries.specs.declared.cache.Entry.{Entry};

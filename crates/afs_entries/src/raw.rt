@@ -1,7 +1,7 @@
 //! The map's calls, by what they do to the entries.
 
 ghost use Rattle.std.specs.Prelude.{◌≡◌, ◌≤◌, map, length};
-ghost use Rattle.afs_rows.specs.ClientRow.{refreshed};
+ghost use Rattle.spec_rows.specs.ClientRow.{refreshed};
 ghost use Rattle.afs_entries.specs.Cached.{cached, made_of, touched, without};
 
 use crate::cache::{Entry, Slot, slot_for};

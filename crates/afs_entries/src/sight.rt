@@ -2,7 +2,7 @@
 
 ghost use Rattle.std.specs.Prelude.{◌≡◌, IfSome, IsSome};
 ghost use Rattle.std.specs.Option.{option_copied, option_map};
-ghost use Rattle.afs_rows.specs.ClientRow.{find_cached};
+ghost use Rattle.spec_rows.specs.ClientRow.{find_cached};
 ghost use Rattle.afs_entries.specs.Cached.{entry_at, HasBody, in_sight};
 
 use crate::cache::{Cache, Entry, Fresh};

@@ -2,9 +2,9 @@
 use Rattle.std.proofs.Common.{◌≡◌, ℕ, Bool, true, false, cond, List, [], ◌∷◌, Option, Some, None, refl, ap, sym, ◌∙◌}
 use Rattle.std.specs.Prelude.{◌==◌, find}
 use Rattle.std.specs.Option.{option_map}
-use Rattle.afs_shape.specs.declared.kinds.Kind.{Kind}
+use Rattle.spec_shape.specs.declared.kinds.Kind.{Kind}
 use Rattle.afs_fields.specs.declared.tables.Row.{Row}
-use Rattle.afs_shape.specs.Tables.{kinds_of, kinds_in}
+use Rattle.spec_shape.specs.Tables.{kinds_of, kinds_in}
 use Rattle.afs_fields.specs.TableRows.{find_row, told_row, rows_of}
 
 found : {N : ℕ} (b : Bool) (r : Row N) (o : Option (Row N)) (p : Option (ℕ × List Kind)) → option_map (λ x. kinds_of x.shape.kinds) o ≡ option_map (λ x. x.1) p

@@ -2,15 +2,15 @@
 use Rattle.std.proofs.Common.{◌≡◌, ℕ, suc, ◌+◌, List, [], ◌∷◌, length, Option, Some, Result, Ok, Err, refl, sym, ap, subst, ◌∙◌, arith}
 use Rattle.afs_xdr.specs.declared.faults.XdrFault.{XdrFault}
 use Rattle.afs_xdr.specs.Words.{end_at}
-use Rattle.afs_shape.specs.declared.faults.ShapeFault.{ShapeFault}
-use Rattle.afs_shape.specs.declared.faults.ShapeFault.TheVariants as faults
-use Rattle.afs_shape.specs.declared.kinds.Kind.{Kind}
-use Rattle.afs_shape.specs.declared.kinds.Field.{Field}
-use Rattle.afs_shape.specs.Reading.{◌>>=◌, in_place, field_at, fields_at, fields_to_end_at, GivesShape}
-use Rattle.afs_shape.specs.Taking.{no_more, taken_behind}
-use Rattle.afs_shape.specs.Taken.{IsFirst, fields_from_at, row_fields_at, TakesRead}
-use Rattle.afs_shape.specs.Rows.{MessageTable, message_of}
-use Rattle.afs_shape.specs.Bodies.{row_at, body_at}
+use Rattle.spec_shape.specs.declared.faults.ShapeFault.{ShapeFault}
+use Rattle.spec_shape.specs.declared.faults.ShapeFault.TheVariants as faults
+use Rattle.spec_shape.specs.declared.kinds.Kind.{Kind}
+use Rattle.spec_shape.specs.declared.kinds.Field.{Field}
+use Rattle.spec_shape.specs.Reading.{◌>>=◌, in_place, field_at, fields_at, fields_to_end_at, GivesShape}
+use Rattle.spec_shape.specs.Taking.{no_more, taken_behind}
+use Rattle.spec_shape.specs.Taken.{IsFirst, fields_from_at, row_fields_at, TakesRead}
+use Rattle.spec_shape.specs.Rows.{MessageTable, message_of}
+use Rattle.spec_shape.specs.Bodies.{row_at, body_at}
 
 -- ---- one field in front
 

@@ -4,8 +4,8 @@ use Rattle.std.specs.Prelude.{get_or}
 use Rattle.afs_xdr.specs.declared.faults.XdrFault.{XdrFault}
 use Rattle.afs_xdr.specs.Words.{◌>>=◌, word_at}
 use Rattle.afs_num.specs.declared.calls.AfsFetchStatus.{AfsFetchStatus}
-use Rattle.afs_shape.specs.Items.{items_at, status_at}
-use Rattle.afs_shape.specs.Reading.{read_as}
+use Rattle.spec_shape.specs.Items.{items_at, status_at}
+use Rattle.spec_shape.specs.Reading.{read_as}
 
 -- so many words, and what is made of them
 gathered_at : {A : Type 0} → ℕ → (List ℕ → A) → List ℕ → Result (A × List ℕ) XdrFault

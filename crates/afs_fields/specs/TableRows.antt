@@ -1,8 +1,8 @@
 -- The rows of a table of shapes.
 use Rattle.std.specs.Prelude.{ℕ, ◌==◌, List, Option, find, map}
-use Rattle.afs_shape.specs.declared.kinds.Kind.{Kind}
+use Rattle.spec_shape.specs.declared.kinds.Kind.{Kind}
 use Rattle.afs_fields.specs.declared.tables.Row.{Row}
-use Rattle.afs_shape.specs.Tables.{kinds_of}
+use Rattle.spec_shape.specs.Tables.{kinds_of}
 
 abbrev pub find_row : {N : ℕ} → ℕ → List (Row N) → Option (Row N)
 find_row n rows = find (λ r. r.opcode == n) rows

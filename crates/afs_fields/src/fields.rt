@@ -3,12 +3,12 @@
 ghost use Rattle.std.specs.Prelude.{◌≡◌, ◌++◌, ◌<◌, ◌^◌, length, OnOk, OnErr, FitsSigned};
 ghost use Rattle.afs_xdr.specs.Reading.{Reads, KeepsEnd};
 ghost use Rattle.afs_xdr.specs.Words.{word, opaque, opaque_at, AreWords};
-ghost use Rattle.afs_shape.specs.Spelling.{field_spelled, entry, entry_words, site_words, Extends, IsSpellable};
+ghost use Rattle.spec_shape.specs.Spelling.{field_spelled, entry, entry_words, site_words, Extends, IsSpellable};
 ghost use Rattle.std.specs.List.{AllByRecursion};
-ghost use Rattle.afs_shape.specs.Items.{entry_at};
-ghost use Rattle.afs_shape.specs.Parts.{field_of};
-ghost use Rattle.afs_shape.specs.Tables.{IsInRange};
-ghost use Rattle.afs_shape.specs.Reading.{ReadsField, signed_at, field_at};
+ghost use Rattle.spec_shape.specs.Items.{entry_at};
+ghost use Rattle.spec_shape.specs.Parts.{field_of};
+ghost use Rattle.spec_shape.specs.Tables.{IsInRange};
+ghost use Rattle.spec_shape.specs.Reading.{ReadsField, signed_at, field_at};
 ghost use Rattle.std.specs.Int.{w32, cast_unsigned};
 
 use crate::items::{Item, read_server, read_volume_kind};
@@ -17,11 +17,11 @@ use afs_num::calls::{AfsCallBack, AfsFetchStatus, AfsStoreStatus, AfsVolSync};
 use afs_num::location_calls::LocEntry;
 use afs_num::sequences::Octets;
 use afs_num::types::{Fid, Mem};
-use afs_shape::faults::FieldFault;
-use afs_shape::kinds::{Field, Kind, Part};
 use afs_xdr::faults::XdrFault;
 use afs_xdr::reading::Reader;
 use afs_xdr::writing::Writer;
+use spec_shape::faults::FieldFault;
+use spec_shape::kinds::{Field, Kind, Part};
 use std::alloc::Global;
 
 /// A volume's name in a location entry, in bytes.
@@ -104,7 +104,7 @@ macro_rules! writing_arms {
 }
 
 /// Reads a signed word.
-#[tactic(auto, unfolding(afs_shape::specs::Reading::signed_at))]
+#[tactic(auto, unfolding(spec_shape::specs::Reading::signed_at))]
 pub(crate) fn read_signed(r: &mut Reader) -> Result<i32, XdrFault>
     ensures value { Reads signed_at (λ z. z) r.old r.new result }
     ensures end { KeepsEnd r.old r.new }
@@ -124,7 +124,7 @@ pub(crate) fn read_octets(alloc: Global, r: &mut Reader, most: u32) -> Result<Oc
 }
 
 /// Reads a location entry.
-#[tactic(auto, unfolding(afs_shape::specs::Items::entry_at))]
+#[tactic(auto, unfolding(spec_shape::specs::Items::entry_at))]
 pub(crate) fn read_entry(alloc: Global, r: &mut Reader) -> Result<LocEntry, FieldFault>
     ensures value { ReadsField entry_at (λ e. e) r.old r.new result }
     ensures end { KeepsEnd r.old r.new }
@@ -183,7 +183,7 @@ fn write_entry(e: &LocEntry, w: &mut Writer) -> Mem<()>
 }
 
 /// Reads a field of this kind.
-#[tactic(auto, unfolding(afs_shape::specs::Reading::field_at))]
+#[tactic(auto, unfolding(spec_shape::specs::Reading::field_at))]
 pub fn read_field(alloc: Global, kind: Kind, r: &mut Reader) -> Result<Field, FieldFault>
     ensures value { ReadsField (field_at kind) (λ f. f) r.old r.new result }
     ensures end { KeepsEnd r.old r.new }

@@ -3,8 +3,8 @@
 ghost use Rattle.std.specs.Prelude.{◌≡◌, ◌++◌, length, OnOk, OnErr};
 ghost use Rattle.afs_xdr.specs.Reading.{Reads, KeepsEnd};
 ghost use Rattle.afs_xdr.specs.Words.{word_at, AreWords};
-ghost use Rattle.afs_shape.specs.Spelling.{fid, store_status, status, callback, sync, listed_volume, site, fid_words, store_status_words, status_words, callback_words, sync_words, listed_volume_words, site_words};
-ghost use Rattle.afs_shape.specs.Items.{items_at, fid_at, store_status_at, status_at, callback_at, sync_at, ranged_at, volume_kind_at, server_at, listed_volume_at, site_at};
+ghost use Rattle.spec_shape.specs.Spelling.{fid, store_status, status, callback, sync, listed_volume, site, fid_words, store_status_words, status_words, callback_words, sync_words, listed_volume_words, site_words};
+ghost use Rattle.spec_shape.specs.Items.{items_at, fid_at, store_status_at, status_at, callback_at, sync_at, ranged_at, volume_kind_at, server_at, listed_volume_at, site_at};
 
 use afs_num::calls::{AfsCallBack, AfsFetchStatus, AfsStoreStatus, AfsVolSync};
 use afs_num::location_calls::LocSite;
@@ -60,7 +60,7 @@ fn read_words<const N: usize>(r: &mut Reader) -> Result<[u32; N], XdrFault>
 }
 
 /// Reads a word from `low` to `high`. `BadType` at any other.
-#[tactic(auto, unfolding(afs_shape::specs::Items::ranged_at))]
+#[tactic(auto, unfolding(spec_shape::specs::Items::ranged_at))]
 fn read_ranged(r: &mut Reader, low: u32, high: u32) -> Result<u32, XdrFault>
     ensures value { Reads (ranged_at low high) (λ n. n) r.old r.new result }
     ensures end { KeepsEnd r.old r.new }
@@ -95,7 +95,7 @@ impl Item for Fid {
 
     ghost InRange = { λ x. AreWords (fid_words x) };
 
-    #[tactic(auto, unfolding(afs_shape::specs::Items::fid_at))]
+    #[tactic(auto, unfolding(spec_shape::specs::Items::fid_at))]
     fn read(r: &mut Reader) -> Result<Fid, XdrFault> {
         let volume = r.word()?;
         let vnode = r.word()?;
@@ -203,7 +203,7 @@ impl Item for AfsStoreStatus {
 
     ghost InRange = { λ x. AreWords (store_status_words x) };
 
-    #[tactic(auto, unfolding(afs_shape::specs::Items::store_status_at))]
+    #[tactic(auto, unfolding(spec_shape::specs::Items::store_status_at))]
     fn read(r: &mut Reader) -> Result<AfsStoreStatus, XdrFault> {
         let mask = r.word()?;
         let client_mod_time = r.word()?;
@@ -240,7 +240,7 @@ impl Item for AfsCallBack {
 
     ghost InRange = { λ x. AreWords (callback_words x) };
 
-    #[tactic(auto, unfolding(afs_shape::specs::Items::callback_at))]
+    #[tactic(auto, unfolding(spec_shape::specs::Items::callback_at))]
     fn read(r: &mut Reader) -> Result<AfsCallBack, XdrFault> {
         let version = r.word()?;
         let expiration_time = r.word()?;
@@ -264,7 +264,7 @@ impl Item for AfsVolSync {
 
     ghost InRange = { λ x. AreWords (sync_words x) };
 
-    #[tactic(auto, unfolding(afs_shape::specs::Items::sync_at))]
+    #[tactic(auto, unfolding(spec_shape::specs::Items::sync_at))]
     fn read(r: &mut Reader) -> Result<AfsVolSync, XdrFault> {
         let release = r.word()?;
         let spare1 = r.word()?;
@@ -301,7 +301,7 @@ impl Item for ListedVolume {
 
     ghost InRange = { λ x. AreWords (listed_volume_words x) };
 
-    #[tactic(auto, unfolding(afs_shape::specs::Items::listed_volume_at))]
+    #[tactic(auto, unfolding(spec_shape::specs::Items::listed_volume_at))]
     fn read(r: &mut Reader) -> Result<ListedVolume, XdrFault> {
         let volume = r.word()?;
         let kind = read_volume_kind(r)?;
@@ -327,7 +327,7 @@ impl Item for LocSite {
 
     ghost InRange = { λ x. AreWords (site_words x) };
 
-    #[tactic(auto, unfolding(afs_shape::specs::Items::site_at))]
+    #[tactic(auto, unfolding(spec_shape::specs::Items::site_at))]
     fn read(r: &mut Reader) -> Result<LocSite, XdrFault> {
         let server = read_server(r)?;
         let flags = r.word()?;

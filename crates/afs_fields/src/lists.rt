@@ -3,21 +3,21 @@
 ghost use Rattle.std.specs.Prelude.{◌≡◌, ◌++◌, ◌≤◌, ◌<◌, ◌^◌, length, OnOk, OnErr};
 ghost use Rattle.std.specs.List.{flat_map, AllByRecursion};
 ghost use Rattle.afs_xdr.specs.Reading.{KeepsEnd};
-ghost use Rattle.afs_shape.specs.Spelling.{list, Extends};
-ghost use Rattle.afs_shape.specs.Items.{list_at, items_at};
-ghost use Rattle.afs_shape.specs.Reading.{ReadsField};
+ghost use Rattle.spec_shape.specs.Spelling.{list, Extends};
+ghost use Rattle.spec_shape.specs.Items.{list_at, items_at};
+ghost use Rattle.spec_shape.specs.Reading.{ReadsField};
 
 use crate::items::Item;
 use afs_num::sequences::Sequence;
 use afs_num::types::Mem;
-use afs_shape::faults::FieldFault;
 use afs_xdr::faults::XdrFault;
 use afs_xdr::reading::Reader;
 use afs_xdr::writing::Writer;
+use spec_shape::faults::FieldFault;
 use std::alloc::Global;
 
 /// So many items, one after the other.
-#[tactic(auto, unfolding(afs_shape::specs::Items::items_at))]
+#[tactic(auto, unfolding(spec_shape::specs::Items::items_at))]
 fn read_items<T: Item>(alloc: Global, r: &mut Reader, count: u32) -> Result<Vec<T>, FieldFault>
     ensures value { ReadsField (items_at T.item_at count) (λ v. v.items) r.old r.new result }
     ensures end { KeepsEnd r.old r.new }
@@ -31,7 +31,7 @@ fn read_items<T: Item>(alloc: Global, r: &mut Reader, count: u32) -> Result<Vec<
 }
 
 /// A list of at most `most` items. Memory is taken only once the count is known to be within `most`.
-#[tactic(auto, unfolding(afs_shape::specs::Items::list_at))]
+#[tactic(auto, unfolding(spec_shape::specs::Items::list_at))]
 pub fn read_list<T: Item>(
     alloc: Global,
     r: &mut Reader,

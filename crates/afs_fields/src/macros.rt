@@ -24,15 +24,15 @@ macro_rules! table_of {
             rows: [$($crate::tables::Row {
                 opcode: $opcode,
                 shape: $crate::first_kinds!(
-                    $(afs_shape::kinds::Kind::$kind $(($most))?,)*
-                    afs_shape::kinds::Kind::Nothing,
-                    afs_shape::kinds::Kind::Nothing,
-                    afs_shape::kinds::Kind::Nothing,
-                    afs_shape::kinds::Kind::Nothing,
-                    afs_shape::kinds::Kind::Nothing,
-                    afs_shape::kinds::Kind::Nothing,
-                    afs_shape::kinds::Kind::Nothing,
-                    afs_shape::kinds::Kind::Nothing
+                    $(spec_shape::kinds::Kind::$kind $(($most))?,)*
+                    spec_shape::kinds::Kind::Nothing,
+                    spec_shape::kinds::Kind::Nothing,
+                    spec_shape::kinds::Kind::Nothing,
+                    spec_shape::kinds::Kind::Nothing,
+                    spec_shape::kinds::Kind::Nothing,
+                    spec_shape::kinds::Kind::Nothing,
+                    spec_shape::kinds::Kind::Nothing,
+                    spec_shape::kinds::Kind::Nothing
                 ),
             }),*],
         }
@@ -46,10 +46,10 @@ macro_rules! shape_of {
         ($opcode:ident)
         [$($number:literal $name:ident { $($field:ident: $kind:ident $([$most:expr])?),* }),*]
     ) => {{
-        let nothing = afs_shape::kinds::Kind::Nothing;
+        let nothing = spec_shape::kinds::Kind::Nothing;
         match $opcode {
             $($number => Ok($crate::first_kinds!(
-                $(afs_shape::kinds::Kind::$kind $(($most))?,)*
+                $(spec_shape::kinds::Kind::$kind $(($most))?,)*
                 nothing,
                 nothing,
                 nothing,
@@ -59,7 +59,7 @@ macro_rules! shape_of {
                 nothing,
                 nothing
             )),)*
-            _ => Err(afs_shape::faults::ShapeFault::NoRow($opcode)),
+            _ => Err(spec_shape::faults::ShapeFault::NoRow($opcode)),
         }
     }};
 }
@@ -72,7 +72,7 @@ macro_rules! written_of {
         [$($opcode:literal $name:ident { $($field:ident: $kind:ident $([$most:expr])?),* }),*]
     ) => {
         match $message {
-            $($enum::$name { $($field),* } => $crate::tables::write_parts(&[$(afs_shape::kinds::Part::$kind($field)),*], $w),)*
+            $($enum::$name { $($field),* } => $crate::tables::write_parts(&[$(spec_shape::kinds::Part::$kind($field)),*], $w),)*
         }
     };
 }
@@ -157,7 +157,7 @@ macro_rules! message_read {
                 Ok($crate::values_of!($($field),*)) => Ok($enum::$name { $($field),* }),
                 Err(fault) => Err(fault),
             },)*
-            _ => Err(afs_shape::faults::ShapeFault::NoRow($opcode)),
+            _ => Err(spec_shape::faults::ShapeFault::NoRow($opcode)),
         }
     };
 }

@@ -2,23 +2,23 @@
 
 ghost use Rattle.std.specs.Prelude.{◌≡◌, ◌++◌, Ok, Err, IfOk, IfErr, OnOk, OnErr};
 ghost use Rattle.std.specs.List.{AllByRecursion};
-ghost use Rattle.afs_shape.specs.Spelling.{fields_spelled, Extends, IsSpellable};
-ghost use Rattle.afs_shape.specs.Tables.{kinds_of, AreInRange};
-ghost use Rattle.afs_shape.specs.Rows.{message_of, IsSoundTable};
-ghost use Rattle.afs_shape.specs.Bodies.{row_at};
-ghost use Rattle.afs_shape.specs.Taken.{row_fields_at, TakesRead};
-ghost use Rattle.afs_shape.specs.declared.faults.ShapeFault.TheVariants.{NoRow};
+ghost use Rattle.spec_shape.specs.Spelling.{fields_spelled, Extends, IsSpellable};
+ghost use Rattle.spec_shape.specs.Tables.{kinds_of, AreInRange};
+ghost use Rattle.spec_shape.specs.Rows.{message_of, IsSoundTable};
+ghost use Rattle.spec_shape.specs.Bodies.{row_at};
+ghost use Rattle.spec_shape.specs.Taken.{row_fields_at, TakesRead};
+ghost use Rattle.spec_shape.specs.declared.faults.ShapeFault.TheVariants.{NoRow};
 
 use crate::tables::Shape;
 use afs_num::types::Mem;
-use afs_shape::faults::ShapeFault;
 use afs_xdr::reading::Reader;
 use afs_xdr::writing::Writer;
+use spec_shape::faults::ShapeFault;
 use std::alloc::Global;
 
 /// The calls of an interface, or its replies.
 pub trait Messages {
-    ghost use Rattle.afs_shape.specs.Rows.{MessageTable};
+    ghost use Rattle.spec_shape.specs.Rows.{MessageTable};
 
     type Message: Drop;
 

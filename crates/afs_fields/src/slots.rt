@@ -1,9 +1,9 @@
 //! The kinds of fields, as who reads them names them.
 
-ghost use Rattle.afs_shape.specs.declared.kinds.Kind.TheVariants as kinds;
-ghost use Rattle.afs_shape.specs.declared.kinds.Field.TheVariants as fields;
-ghost use Rattle.afs_shape.specs.Taking.{word_first, signed_first, volume_kind_first, server_first, fid_first, store_status_first, status_first, callback_first, sync_first, entry_first, octets_first, fids_first, callbacks_first, statuses_first, volumes_first};
-ghost use Rattle.afs_shape.specs.Firsts as firsts;
+ghost use Rattle.spec_shape.specs.declared.kinds.Kind.TheVariants as kinds;
+ghost use Rattle.spec_shape.specs.declared.kinds.Field.TheVariants as fields;
+ghost use Rattle.spec_shape.specs.Taking.{word_first, signed_first, volume_kind_first, server_first, fid_first, store_status_first, status_first, callback_first, sync_first, entry_first, octets_first, fids_first, callbacks_first, statuses_first, volumes_first};
+ghost use Rattle.spec_shape.specs.Firsts as firsts;
 
 use crate::fields::{read_entry, read_octets, read_signed};
 use crate::items::{Item, read_server, read_volume_kind};
@@ -17,8 +17,8 @@ use afs_num::location_calls::LocEntry;
 use afs_num::sequences::Octets;
 use afs_num::types::Fid as AfsFid;
 use afs_num::volume_calls::ListedVolumes;
-use afs_shape::faults::FieldFault;
 use afs_xdr::reading::Reader;
+use spec_shape::faults::FieldFault;
 use std::alloc::Global;
 
 pub struct Word;
@@ -35,7 +35,7 @@ impl Slot for Word {
     ghost is_first = { firsts.word };
 
     #[inline]
-    #[tactic(auto, unfolding(afs_shape::specs::Reading::field_at))]
+    #[tactic(auto, unfolding(spec_shape::specs::Reading::field_at))]
     fn read(_: Global, r: &mut Reader) -> Result<u32, FieldFault> {
         let value = r.word()?;
         Ok(value)
@@ -56,7 +56,7 @@ impl Slot for Signed {
     ghost is_first = { firsts.signed };
 
     #[inline]
-    #[tactic(auto, unfolding(afs_shape::specs::Reading::field_at))]
+    #[tactic(auto, unfolding(spec_shape::specs::Reading::field_at))]
     fn read(_: Global, r: &mut Reader) -> Result<i32, FieldFault> {
         let value = read_signed(r)?;
         Ok(value)
@@ -77,7 +77,7 @@ impl Slot for VolumeKind {
     ghost is_first = { firsts.volume_kind };
 
     #[inline]
-    #[tactic(auto, unfolding(afs_shape::specs::Reading::field_at))]
+    #[tactic(auto, unfolding(spec_shape::specs::Reading::field_at))]
     fn read(_: Global, r: &mut Reader) -> Result<u32, FieldFault> {
         let value = read_volume_kind(r)?;
         Ok(value)
@@ -98,7 +98,7 @@ impl Slot for Server {
     ghost is_first = { firsts.server };
 
     #[inline]
-    #[tactic(auto, unfolding(afs_shape::specs::Reading::field_at))]
+    #[tactic(auto, unfolding(spec_shape::specs::Reading::field_at))]
     fn read(_: Global, r: &mut Reader) -> Result<u32, FieldFault> {
         let value = read_server(r)?;
         Ok(value)
@@ -119,7 +119,7 @@ impl Slot for Fid {
     ghost is_first = { firsts.fid };
 
     #[inline]
-    #[tactic(auto, unfolding(afs_shape::specs::Reading::field_at))]
+    #[tactic(auto, unfolding(spec_shape::specs::Reading::field_at))]
     fn read(_: Global, r: &mut Reader) -> Result<AfsFid, FieldFault> {
         let value = AfsFid::read(r)?;
         Ok(value)
@@ -140,7 +140,7 @@ impl Slot for StoreStatus {
     ghost is_first = { firsts.store_status };
 
     #[inline]
-    #[tactic(auto, unfolding(afs_shape::specs::Reading::field_at))]
+    #[tactic(auto, unfolding(spec_shape::specs::Reading::field_at))]
     fn read(_: Global, r: &mut Reader) -> Result<AfsStoreStatus, FieldFault> {
         let value = AfsStoreStatus::read(r)?;
         Ok(value)
@@ -161,7 +161,7 @@ impl Slot for FetchStatus {
     ghost is_first = { firsts.status };
 
     #[inline]
-    #[tactic(auto, unfolding(afs_shape::specs::Reading::field_at))]
+    #[tactic(auto, unfolding(spec_shape::specs::Reading::field_at))]
     fn read(_: Global, r: &mut Reader) -> Result<AfsFetchStatus, FieldFault> {
         let value = AfsFetchStatus::read(r)?;
         Ok(value)
@@ -182,7 +182,7 @@ impl Slot for CallBack {
     ghost is_first = { firsts.callback };
 
     #[inline]
-    #[tactic(auto, unfolding(afs_shape::specs::Reading::field_at))]
+    #[tactic(auto, unfolding(spec_shape::specs::Reading::field_at))]
     fn read(_: Global, r: &mut Reader) -> Result<AfsCallBack, FieldFault> {
         let value = AfsCallBack::read(r)?;
         Ok(value)
@@ -203,7 +203,7 @@ impl Slot for VolSync {
     ghost is_first = { firsts.sync };
 
     #[inline]
-    #[tactic(auto, unfolding(afs_shape::specs::Reading::field_at))]
+    #[tactic(auto, unfolding(spec_shape::specs::Reading::field_at))]
     fn read(_: Global, r: &mut Reader) -> Result<AfsVolSync, FieldFault> {
         let value = AfsVolSync::read(r)?;
         Ok(value)
@@ -224,7 +224,7 @@ impl Slot for Entry {
     ghost is_first = { firsts.entry };
 
     #[inline]
-    #[tactic(auto, unfolding(afs_shape::specs::Reading::field_at))]
+    #[tactic(auto, unfolding(spec_shape::specs::Reading::field_at))]
     fn read(alloc: Global, r: &mut Reader) -> Result<LocEntry, FieldFault> {
         let value = read_entry(alloc, r)?;
         Ok(value)
@@ -245,7 +245,7 @@ impl<const MOST: u32> Slot for Opaque<MOST> {
     ghost is_first = { firsts.octets };
 
     #[inline]
-    #[tactic(auto, unfolding(afs_shape::specs::Reading::field_at))]
+    #[tactic(auto, unfolding(spec_shape::specs::Reading::field_at))]
     fn read(alloc: Global, r: &mut Reader) -> Result<Octets, FieldFault> {
         let value = read_octets(alloc, r, MOST)?;
         Ok(value)
@@ -266,7 +266,7 @@ impl<const MOST: u32> Slot for Fids<MOST> {
     ghost is_first = { firsts.fids };
 
     #[inline]
-    #[tactic(auto, unfolding(afs_shape::specs::Reading::field_at))]
+    #[tactic(auto, unfolding(spec_shape::specs::Reading::field_at))]
     fn read(alloc: Global, r: &mut Reader) -> Result<FidList, FieldFault> {
         let value = read_list(alloc, r, MOST)?;
         Ok(value)
@@ -287,7 +287,7 @@ impl<const MOST: u32> Slot for CallBacks<MOST> {
     ghost is_first = { firsts.callbacks };
 
     #[inline]
-    #[tactic(auto, unfolding(afs_shape::specs::Reading::field_at))]
+    #[tactic(auto, unfolding(spec_shape::specs::Reading::field_at))]
     fn read(alloc: Global, r: &mut Reader) -> Result<CallBackList, FieldFault> {
         let value = read_list(alloc, r, MOST)?;
         Ok(value)
@@ -308,7 +308,7 @@ impl<const MOST: u32> Slot for Statuses<MOST> {
     ghost is_first = { firsts.statuses };
 
     #[inline]
-    #[tactic(auto, unfolding(afs_shape::specs::Reading::field_at))]
+    #[tactic(auto, unfolding(spec_shape::specs::Reading::field_at))]
     fn read(alloc: Global, r: &mut Reader) -> Result<StatusList, FieldFault> {
         let value = read_list(alloc, r, MOST)?;
         Ok(value)
@@ -329,7 +329,7 @@ impl<const MOST: u32> Slot for Volumes<MOST> {
     ghost is_first = { firsts.volumes };
 
     #[inline]
-    #[tactic(auto, unfolding(afs_shape::specs::Reading::field_at))]
+    #[tactic(auto, unfolding(spec_shape::specs::Reading::field_at))]
     fn read(alloc: Global, r: &mut Reader) -> Result<ListedVolumes, FieldFault> {
         let value = read_list(alloc, r, MOST)?;
         Ok(value)

@@ -4,19 +4,19 @@ ghost use Rattle.std.specs.Prelude.{◌≡◌, ◌++◌, ◌<◌, ◌≤◌, ◌
 ghost use Rattle.std.specs.Option.{option_copied};
 ghost use Rattle.std.specs.List.{prefix_len};
 ghost use Rattle.afs_xdr.specs.Reading.{KeepsEnd};
-ghost use Rattle.afs_shape.specs.Spelling.{fields_spelled, Extends, IsSpellable};
-ghost use Rattle.afs_shape.specs.Parts.{field_of, fields_of};
-ghost use Rattle.afs_shape.specs.Reading.{ReadsShape, fields_at};
-ghost use Rattle.afs_shape.specs.Tables.{is_field, kinds_of, AreOf, AreInRange, kinds_in};
+ghost use Rattle.spec_shape.specs.Spelling.{fields_spelled, Extends, IsSpellable};
+ghost use Rattle.spec_shape.specs.Parts.{field_of, fields_of};
+ghost use Rattle.spec_shape.specs.Reading.{ReadsShape, fields_at};
+ghost use Rattle.spec_shape.specs.Tables.{is_field, kinds_of, AreOf, AreInRange, kinds_in};
 ghost use Rattle.afs_fields.specs.TableRows.{find_row, rows_of};
-ghost use Rattle.afs_shape.specs.declared.faults.ShapeFault.TheVariants.{NoRow, OutOfMemory};
+ghost use Rattle.spec_shape.specs.declared.faults.ShapeFault.TheVariants.{NoRow, OutOfMemory};
 
 use crate::fields::{read_field, write_part};
 use afs_num::types::Mem;
-use afs_shape::faults::ShapeFault;
-use afs_shape::kinds::{Field, Fields, Kind, Part};
 use afs_xdr::reading::Reader;
 use afs_xdr::writing::Writer;
+use spec_shape::faults::ShapeFault;
+use spec_shape::kinds::{Field, Fields, Kind, Part};
 use std::alloc::Global;
 
 /// The kinds of a message's fields in order, and `Nothing` in the places behind the last.
@@ -67,7 +67,7 @@ fn room_for(alloc: Global, count: usize) -> Result<Fields, ShapeFault>
 }
 
 /// The fields of these kinds, one after the other; the first is in place 1 of the message.
-#[tactic(auto, unfolding(afs_shape::specs::Reading::fields_at))]
+#[tactic(auto, unfolding(spec_shape::specs::Reading::fields_at))]
 fn read_kinds(alloc: Global, kinds: &[Kind], r: &mut Reader) -> Result<Fields, ShapeFault>
     requires { length kinds.now < 2 ^ 31 }
     ensures value { ReadsShape (fields_at 1 kinds.now) (λ fs. fs) r.old r.new result }

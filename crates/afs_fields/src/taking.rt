@@ -1,20 +1,20 @@
 //! The fields of a message as they are read, each as what its kind says.
 
 ghost use Rattle.std.specs.Prelude.{◌≡◌, ◌+◌, ◌<◌, ◌^◌, [], ◌∷◌, length};
-ghost use Rattle.afs_shape.specs.Reading.{ReadsField, field_at, fields_to_end_at};
-ghost use Rattle.afs_shape.specs.Taking.{no_more, taken_behind};
-ghost use Rattle.afs_shape.specs.Taken.{fields_from_at, IsFirst, TakesRead};
+ghost use Rattle.spec_shape.specs.Reading.{ReadsField, field_at, fields_to_end_at};
+ghost use Rattle.spec_shape.specs.Taking.{no_more, taken_behind};
+ghost use Rattle.spec_shape.specs.Taken.{fields_from_at, IsFirst, TakesRead};
 
-use afs_shape::faults::{FieldFault, ShapeFault};
 use afs_xdr::reading::Reader;
+use spec_shape::faults::{FieldFault, ShapeFault};
 use std::alloc::Global;
 use std::marker::PhantomData;
 
 /// A field of one kind: what it holds, and how it is read.
 pub trait Slot {
     ghost use Rattle.std.specs.Prelude.{List, Option};
-    ghost use Rattle.afs_shape.specs.declared.kinds.Kind.{Kind};
-    ghost use Rattle.afs_shape.specs.declared.kinds.Field.{Field};
+    ghost use Rattle.spec_shape.specs.declared.kinds.Kind.{Kind};
+    ghost use Rattle.spec_shape.specs.declared.kinds.Field.{Field};
 
     type Value: Drop;
 
@@ -34,8 +34,8 @@ pub trait Slot {
 /// Fields of their kinds, one after another up to the last.
 pub trait Slots {
     ghost use Rattle.std.specs.Prelude.{List, Option};
-    ghost use Rattle.afs_shape.specs.declared.kinds.Kind.{Kind};
-    ghost use Rattle.afs_shape.specs.declared.kinds.Field.{Field};
+    ghost use Rattle.spec_shape.specs.declared.kinds.Kind.{Kind};
+    ghost use Rattle.spec_shape.specs.declared.kinds.Field.{Field};
 
     type Values: Drop;
 

@@ -6,12 +6,12 @@ use Rattle.afs_num.specs.declared.faults.StoreFault.TheVariants as store
 use Rattle.afs_num.specs.declared.records.StoreRecord.{StoreRecord}
 use Rattle.afs_disk.specs.Disk.{Setting}
 use Rattle.afs_journal.specs.Records.{whole_records}
-use Rattle.afs_shape.specs.Taking.{◌>>=◌}
-use Rattle.afs_fold.specs.Fold.{bad_from, first_bad, first_folded, fold_all, fold_from, folded, bad_by}
-use Rattle.afs_records.specs.Durable.{nothing_on, Durable}
-use Rattle.afs_records.specs.Records.{record_at}
-use Rattle.afs_volstore.specs.Stands.{Stands}
-use Rattle.afs_records.proofs.Forms.{bound}
+use Rattle.spec_shape.specs.Taking.{◌>>=◌}
+use Rattle.spec_fold.specs.Fold.{bad_from, first_bad, first_folded, fold_all, fold_from, folded, bad_by}
+use Rattle.spec_records.specs.Durable.{nothing_on, Durable}
+use Rattle.spec_records.specs.Records.{record_at}
+use Rattle.afs_volstore.specs.Stands.{StandsForVolumes}
+use Rattle.spec_records.proofs.Forms.{bound}
 use Rattle.afs_volstore.specs.Opening.{IsAttachFault}
 use Rattle.afs_volstore.specs.Stores.{IsCaused}
 use Rattle.afs_final.specs.Reading.{refused, IsRead}
@@ -37,7 +37,7 @@ none_bad capacity (b ∷ bs) d h =
 none_some : (number : ℕ) → None ≡ Some number → ⊥
 none_some number e = absurd cc
 
-stands_for_none : (capacity number : ℕ) (bytes : List ℕ) (d : Durable) → first_bad capacity (whole_records bytes) ≡ Some number → d.capacity ≡ capacity → Stands bytes d → ⊥
+stands_for_none : (capacity number : ℕ) (bytes : List ℕ) (d : Durable) → first_bad capacity (whole_records bytes) ≡ Some number → d.capacity ≡ capacity → StandsForVolumes bytes d → ⊥
 stands_for_none capacity number bytes d bad same stands =
     none_some number (sym (none_bad capacity (whole_records bytes) d (ap (λ (n : ℕ). fold_all n (whole_records bytes)) (sym same) ∙ stands)) ∙ bad)
 

@@ -9,9 +9,9 @@ use Rattle.afs_num.specs.declared.types.Node.{Node}
 use Rattle.afs_num.specs.declared.types.Node.TheVariants.{Server}
 use Rattle.afs_num.specs.declared.histories.Version.{Version}
 use Rattle.afs_num.specs.declared.vnodes.Vnode as image
-use Rattle.afs_ideal.specs.Tables.{Table}
-use Rattle.afs_ideal.specs.Volumes.{type_of, version_at, Vnode}
-use Rattle.afs_records.specs.Durable.{Durable}
+use Rattle.spec_ideal.specs.Tables.{Table}
+use Rattle.spec_ideal.specs.Volumes.{type_of, version_at, Vnode}
+use Rattle.spec_records.specs.Durable.{Durable}
 use Rattle.afs_text.specs.FinalText.{final_text, servers_text, version_line_text, vnode_text, volume_text}
 use Rattle.afs_shelves.specs.Shelving.{stored_as}
 use Rattle.afs_volume.specs.Seen.{all_seen, kind_seen, seen, IsReadable}

@@ -6,8 +6,8 @@ use Rattle.afs_disk.specs.Disk.{Rose}
 use Rattle.afs_disk.specs.declared.bank.LendFault.{LendFault}
 use Rattle.afs_disk.specs.declared.bank.LendFault.TheVariants as faults
 use Rattle.afs_disk.specs.declared.disks.Lent.{Lent}
-use Rattle.afs_records.specs.Durable.{nothing_on, Durable}
-use Rattle.afs_volstore.specs.Stands.{Stands}
+use Rattle.spec_records.specs.Durable.{nothing_on, Durable}
+use Rattle.afs_volstore.specs.Stands.{StandsForVolumes}
 use Rattle.afs_volstore.specs.Stores.{Store}
 use Rattle.afs_final.specs.declared.reading.Left.{Left}
 use Rattle.afs_final.specs.declared.reading.Left.TheVariants as left
@@ -36,8 +36,8 @@ refused {S} {D} store.Closed disk = left.Failed disk
 
 -- The bytes that the disk told stand for this, and its bytes stand for it still. It didn't fail.
 pub record IsOfDisk {D : Type 0} (seen : D → Option (List ℕ)) (faults limit : D → ℕ) (disk : D) (s : Store D) : Type 0 where
-  pub before : (bytes : List ℕ) → seen disk ≡ Some bytes → Stands bytes s.durable
-  pub after : (bytes : List ℕ) → seen s.disk ≡ Some bytes → Stands bytes s.durable
+  pub before : (bytes : List ℕ) → seen disk ≡ Some bytes → StandsForVolumes bytes s.durable
+  pub after : (bytes : List ℕ) → seen s.disk ≡ Some bytes → StandsForVolumes bytes s.durable
   pub capacity : s.durable.capacity ≡ limit disk
   pub quiet : faults s.disk ≡ faults disk
 
@@ -45,7 +45,7 @@ pub record IsOfDisk {D : Type 0} (seen : D → Option (List ℕ)) (faults limit 
 -- memory ran out. Where it failed its count of faults rose, and else it didn't.
 abbrev pub IsFound : {D : Type 0} → (D → Option (List ℕ)) → (D → ℕ) → (D → ℕ) → D → Left (Store D) D → Type 0
 IsFound {D} seen faults limit disk (left.Kept s) = IsOfDisk seen faults limit disk s
-IsFound {D} seen faults limit disk (left.Bad d) = (faults d ≡ faults disk) × ((bytes : List ℕ) → seen disk ≡ Some bytes → (p : Durable) → p.capacity ≡ limit disk → Stands bytes p → ⊥)
+IsFound {D} seen faults limit disk (left.Bad d) = (faults d ≡ faults disk) × ((bytes : List ℕ) → seen disk ≡ Some bytes → (p : Durable) → p.capacity ≡ limit disk → StandsForVolumes bytes p → ⊥)
 IsFound {D} seen faults limit disk (left.Failed d) = Rose (faults disk) (faults d)
 IsFound {D} seen faults limit disk (left.Unread d) = faults d ≡ faults disk
 

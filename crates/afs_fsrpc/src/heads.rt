@@ -1,8 +1,8 @@
 //! Headers: eight words before each message.
 
 ghost use Rattle.afs_xdr.specs.Reading.{Gives};
-ghost use Rattle.afs_model.specs.Heads.{head_at};
-ghost use Rattle.afs_model.specs.Rpc.{first_of};
+ghost use Rattle.spec_model.specs.Heads.{head_at};
+ghost use Rattle.spec_model.specs.Rpc.{first_of};
 
 use afs_num::types::Head;
 use afs_xdr::faults::XdrFault;

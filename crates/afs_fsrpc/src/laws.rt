@@ -5,8 +5,8 @@ ghost use Rattle.afs_num.specs.declared.types.Head.{Head};
 ghost use Rattle.afs_num.specs.declared.calls.FsCall.{FsCall};
 ghost use Rattle.afs_num.specs.declared.calls.FsReply.{FsReply};
 ghost use Rattle.afs_fields.specs.TableRows.{rows_of};
-ghost use Rattle.afs_model.specs.Rpc.{SpellsCall, SpellsReply};
-ghost use Rattle.afs_model.specs.FsRows.{call_rows, reply_rows, fs_calls, fs_replies};
+ghost use Rattle.spec_model.specs.Rpc.{SpellsCall, SpellsReply};
+ghost use Rattle.spec_model.specs.FsRows.{call_rows, reply_rows, fs_calls, fs_replies};
 
 use crate::tables::{CALLS, REPLIES};
 

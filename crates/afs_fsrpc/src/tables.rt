@@ -1,16 +1,16 @@
 //! The two tables: a row for each opcode, with the message's name and its fields in order, each of its kind.
 
-ghost use Rattle.afs_model.specs.FsRows.{fs_calls, fs_replies};
-ghost use Rattle.afs_model.proofs.FsMade.{calls_sound, replies_sound};
+ghost use Rattle.spec_model.specs.FsRows.{fs_calls, fs_replies};
+ghost use Rattle.spec_model.proofs.FsMade.{calls_sound, replies_sound};
 
 use afs_fields::messages::Messages;
 use afs_fields::tables::{Shape, Table};
 use afs_fields::{message_read, room_of, shape_of, table_of, written_of};
 use afs_num::calls::{FsCall, FsReply};
 use afs_num::types::Mem;
-use afs_shape::faults::ShapeFault;
 use afs_xdr::reading::Reader;
 use afs_xdr::writing::Writer;
+use spec_shape::faults::ShapeFault;
 use std::alloc::Global;
 
 /// A file's contents on the wire, in bytes.
@@ -116,7 +116,7 @@ impl Messages for FsCalls {
         with_calls!(room_of(call, FsCall))
     }
 
-    #[tactic(auto, using(afs_shape::proofs::Spellable::parts_spellable))]
+    #[tactic(auto, using(spec_shape::proofs::Spellable::parts_spellable))]
     fn write(call: &FsCall, w: &mut Writer) -> Mem<()> {
         with_calls!(written_of(call, w, FsCall))
     }
@@ -144,7 +144,7 @@ impl Messages for FsReplies {
         with_replies!(room_of(reply, FsReply))
     }
 
-    #[tactic(auto, using(afs_shape::proofs::Spellable::parts_spellable))]
+    #[tactic(auto, using(spec_shape::proofs::Spellable::parts_spellable))]
     fn write(reply: &FsReply, w: &mut Writer) -> Mem<()> {
         with_replies!(written_of(reply, w, FsReply))
     }

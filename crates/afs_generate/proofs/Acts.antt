@@ -1,15 +1,15 @@
 -- The acts are put one behind the other.
 use Rattle.std.specs.Prelude.{◌≡◌, ◌<◌, ℕ, suc, ◌+◌, ◌-◌, List, [], ◌∷◌, ◌++◌}
 use Rattle.std.proofs.Common.{ap, sym, ◌∙◌, append_assoc, append-nil, arith}
-use Rattle.afs_history.specs.declared.scripts.Task.{Task}
-use Rattle.afs_history.specs.declared.scripts.SetupLine.{SetupLine}
-use Rattle.afs_generate.specs.Generated.{act_of, acts_from, behind, line_of, lines_from, tasks_at}
+use Rattle.spec_history.specs.declared.scripts.Task.{Task}
+use Rattle.spec_history.specs.declared.scripts.SetupLine.{SetupLine}
+use Rattle.afs_generate.specs.Generated.{act_drawn_at, acts_from, admin_act_behind, made_file_line, lines_from, tasks_at}
 
 -- one act more
-pub goes_on : (n k x more : ℕ) (before after : List Task) → after ≡ before ++ tasks_at (act_of k x).0 (behind n k) → before ++ acts_from n (suc more) k x ≡ after ++ acts_from n more (k + 1) (act_of k x).1
+pub goes_on : (n k x more : ℕ) (before after : List Task) → after ≡ before ++ tasks_at (act_drawn_at k x).0 (admin_act_behind n k) → before ++ acts_from n (suc more) k x ≡ after ++ acts_from n more (k + 1) (act_drawn_at k x).1
 unfolding acts_from
 goes_on n k x more before after is =
-    sym (append_assoc before (tasks_at (act_of k x).0 (behind n k)) (acts_from n more (k + 1) (act_of k x).1)) ∙ ap (λ (ts : List Task). ts ++ acts_from n more (k + 1) (act_of k x).1) (sym is)
+    sym (append_assoc before (tasks_at (act_drawn_at k x).0 (admin_act_behind n k)) (acts_from n more (k + 1) (act_drawn_at k x).1)) ∙ ap (λ (ts : List Task). ts ++ acts_from n more (k + 1) (act_drawn_at k x).1) (sym is)
 
 -- none is left
 pub ends : (n more k x : ℕ) (tasks : List Task) → more ≡ 0 → tasks ++ acts_from n more k x ≡ tasks
@@ -20,15 +20,15 @@ one_more : (m : ℕ) → 0 < m → suc (m - 1) ≡ m
 one_more m some = omega (arith, some)
 
 -- so it is in a loop, with so many left
-pub goes_on_by : (n k x left : ℕ) (before after all : List Task) → 0 < left → before ++ acts_from n left k x ≡ all → after ≡ before ++ tasks_at (act_of k x).0 (behind n k) → after ++ acts_from n (left - 1) (k + 1) (act_of k x).1 ≡ all
+pub goes_on_by : (n k x left : ℕ) (before after all : List Task) → 0 < left → before ++ acts_from n left k x ≡ all → after ≡ before ++ tasks_at (act_drawn_at k x).0 (admin_act_behind n k) → after ++ acts_from n (left - 1) (k + 1) (act_drawn_at k x).1 ≡ all
 goes_on_by n k x left before after all some is next = sym (goes_on n k x (left - 1) before after next) ∙ (ap (λ (m : ℕ). before ++ acts_from n m k x) (one_more left some) ∙ is)
 
 -- lines of files are put one behind the other
-next_line : (left file : ℕ) (before after : List SetupLine) → after ≡ before ++ line_of file ∷ [] → after ++ lines_from left (file + 3) ≡ before ++ lines_from (suc left) file
+next_line : (left file : ℕ) (before after : List SetupLine) → after ≡ before ++ made_file_line file ∷ [] → after ++ lines_from left (file + 3) ≡ before ++ lines_from (suc left) file
 unfolding lines_from
-next_line left file before after next = ap (λ (ls : List SetupLine). ls ++ lines_from left (file + 3)) next ∙ append_assoc before (line_of file ∷ []) (lines_from left (file + 3))
+next_line left file before after next = ap (λ (ls : List SetupLine). ls ++ lines_from left (file + 3)) next ∙ append_assoc before (made_file_line file ∷ []) (lines_from left (file + 3))
 
-pub line_goes_on : (left file : ℕ) (before after all : List SetupLine) → 0 < left → before ++ lines_from left file ≡ all → after ≡ before ++ line_of file ∷ [] → after ++ lines_from (left - 1) (file + 3) ≡ all
+pub line_goes_on : (left file : ℕ) (before after all : List SetupLine) → 0 < left → before ++ lines_from left file ≡ all → after ≡ before ++ made_file_line file ∷ [] → after ++ lines_from (left - 1) (file + 3) ≡ all
 line_goes_on left file before after all some is next = next_line (left - 1) file before after next ∙ (ap (λ (m : ℕ). before ++ lines_from m file) (one_more left some) ∙ is)
 
 pub lines_end : (left file : ℕ) (lines all : List SetupLine) → left ≡ 0 → lines ++ lines_from left file ≡ all → lines ≡ all

@@ -8,23 +8,23 @@ use Rattle.std.proofs.lemmas.List.{length-replicate}
 use Rattle.std.proofs.lemmas.List.Elements.{All-cons, All-head, All-nil, All-tail}
 use Rattle.afs_xdr.specs.Words.{opaque, pad, word}
 use Rattle.afs_num.specs.Names.{is_name_of, name_ok, volume_name_ok}
-use Rattle.afs_ideal.specs.SetUp.{empty_volume, laid, laid_or, laid_at, led}
-use Rattle.afs_ideal.specs.AccessLists.{acl_text, entry_text, rights_of}
-use Rattle.afs_ideal.specs.Directories.{bytes_below, directory_bytes, name_bytes}
-use Rattle.afs_ideal.specs.Volumes.{Volume}
-use Rattle.afs_history.specs.declared.scripts.AdminAct.{AdminAct}
-use Rattle.afs_history.specs.declared.scripts.AdminAct.TheVariants as admin_acts
-use Rattle.afs_history.specs.declared.scripts.Event.TheVariants as events
-use Rattle.afs_history.specs.declared.scripts.SetupLine.{SetupLine}
-use Rattle.afs_history.specs.declared.scripts.Task.{Task}
-use Rattle.afs_history.specs.declared.scripts.Task.TheVariants as tasks
-use Rattle.afs_history.specs.declared.scripts.VolumeLine.{VolumeLine}
+use Rattle.spec_ideal.specs.SetUp.{empty_volume, laid, laid_or, laid_at, led}
+use Rattle.spec_ideal.specs.AccessLists.{acl_text, acl_entry_text, rights_of}
+use Rattle.spec_ideal.specs.Directories.{bytes_below, directory_bytes, name_bytes}
+use Rattle.spec_ideal.specs.Volumes.{Volume}
+use Rattle.spec_history.specs.declared.scripts.AdminAct.{AdminAct}
+use Rattle.spec_history.specs.declared.scripts.AdminAct.TheVariants as admin_acts
+use Rattle.spec_history.specs.declared.scripts.Event.TheVariants as events
+use Rattle.spec_history.specs.declared.scripts.SetupLine.{SetupLine}
+use Rattle.spec_history.specs.declared.scripts.Task.{Task}
+use Rattle.spec_history.specs.declared.scripts.Task.TheVariants as tasks
+use Rattle.spec_history.specs.declared.scripts.VolumeLine.{VolumeLine}
 use Rattle.afs_words.specs.declared.nodes.Counts.{Counts}
 use Rattle.afs_grammar.specs.CellScripts.{AreAccepted, AreApart, FitsAdminAct, FitsEvent, FitsPlan, FitsTask, FitsUser, IsCellScript, IsName, IsOperand, IsShortAct, IsVolume}
 use Rattle.afs_grammar.specs.Sizes.{volumes_size, AscendFrom}
 use Rattle.afs_grammar.proofs.Sizes.{first_record}
-use Rattle.afs_grammar.specs.Lines.{fits_loc, fits_server, setup_accepts, ticks_in, volumes_at}
-use Rattle.afs_generate.specs.Generated.{act_drawn, act_of, acts_from, acts_of, behind, drawn, file_at, file_name, generated, lines_from, next, node_of, played, tasks_at, volume, volume_name, volumes}
+use Rattle.afs_grammar.specs.Lines.{fits_loc, fits_server, setup_accepts, ticks_in, lines_of_server}
+use Rattle.afs_generate.specs.Generated.{act_drawn, act_drawn_at, acts_from, acts_of, admin_act_behind, drawn, file_at, file_name, generated, lines_from, lot_behind, doer_of, played, tasks_at, volume, volume_name, made_volumes}
 
 -- ---- acts
 
@@ -49,13 +49,13 @@ filled count byte small = omega (arith, length-replicate count byte, small)
 
 act_is_short : (k file stored x : ℕ) → file < 40 → IsShortAct (act_drawn k file stored x).act
 act_is_short k file zero x small = operand_is file small
-act_is_short k file (suc other) x small = (operand_is file small, filled (drawn 4096 (next x)) (k % 256) (drawn_below 4096 (next x) (omega (arith))))
+act_is_short k file (suc other) x small = (operand_is file small, filled (drawn 4096 (lot_behind x)) (k % 256) (drawn_below 4096 (lot_behind x) (omega (arith))))
 
-task_fits : (k x : ℕ) → FitsTask counts (act_of k x).0
+task_fits : (k x : ℕ) → FitsTask counts (act_drawn_at k x).0
 task_fits k x =
-    let client = drawn_below 6 (next x) (omega (arith)) in
-    let file = drawn_below 40 (next (next x)) (omega (arith)) in
-    ((omega (arith), omega (arith, client)), act_is_short k (drawn 40 (next (next x))) (drawn 2 (next (next (next x)))) (next (next (next x))) file)
+    let client = drawn_below 6 (lot_behind x) (omega (arith)) in
+    let file = drawn_below 40 (lot_behind (lot_behind x)) (omega (arith)) in
+    ((omega (arith), omega (arith, client)), act_is_short k (drawn 40 (lot_behind (lot_behind x))) (drawn 2 (lot_behind (lot_behind (lot_behind x)))) (lot_behind (lot_behind (lot_behind x))) file)
 
 -- ---- what the administrator does
 
@@ -70,7 +70,7 @@ either : (b : Bool) (x y : Option AdminAct) → FitsIfAny x → FitsIfAny y → 
 either true x y p q = p
 either false x y p q = q
 
-behind_fits : (n k : ℕ) → FitsIfAny (behind n k)
+behind_fits : (n k : ℕ) → FitsIfAny (admin_act_behind n k)
 behind_fits n k =
     either (k == 2 * n) _ _ (name_is 1 (omega arith), (omega arith, omega arith))
     (either (k == 3 * n) _ _ (name_is 1 (omega arith))
@@ -86,18 +86,18 @@ both_fit task (Some act) more t a rest = All-cons (FitsTask counts) task (tasks.
 acts_fit : (n more k x : ℕ) → All (FitsTask counts) (acts_from n more k x)
 unfolding acts_from
 acts_fit n zero k x = All-nil (FitsTask counts)
-acts_fit n (suc more) k x = both_fit (act_of k x).0 (behind n k) (acts_from n more (k + 1) (act_of k x).1) (task_fits k x) (behind_fits n k) (acts_fit n more (k + 1) (act_of k x).1)
+acts_fit n (suc more) k x = both_fit (act_drawn_at k x).0 (admin_act_behind n k) (acts_from n more (k + 1) (act_drawn_at k x).1) (task_fits k x) (behind_fits n k) (acts_fit n more (k + 1) (act_drawn_at k x).1)
 
 -- ---- the schedule
 
-node_fits : (task : Task) → FitsTask counts task → FitsEvent counts (events.Act (node_of task))
+node_fits : (task : Task) → FitsTask counts task → FitsEvent counts (events.Act (doer_of task))
 node_fits (tasks.Client client act) t = t.0
 node_fits (tasks.Admin admin act) t = t.0
 
 events_fit : (ts : List Task) → All (FitsTask counts) ts → All (FitsEvent counts) (flat_map played ts)
 events_fit [] all = All-nil (FitsEvent counts)
 events_fit (t ∷ ts) all =
-    All-cons (FitsEvent counts) (events.Act (node_of t)) (events.Drain ∷ flat_map played ts) (node_fits t (All-head (FitsTask counts) t ts all))
+    All-cons (FitsEvent counts) (events.Act (doer_of t)) (events.Drain ∷ flat_map played ts) (node_fits t (All-head (FitsTask counts) t ts all))
     (All-cons (FitsEvent counts) events.Drain (flat_map played ts) tt (events_fit ts (All-tail (FitsTask counts) t ts all)))
 
 no_ticks : (ts : List Task) → ticks_in (flat_map played ts) ≡ 0
@@ -126,15 +126,15 @@ abbrev AllAccepted : VolumeLine → Type 0
 AllAccepted l = all_accepted l.id l.lines (empty_volume l) ≡ true
 
 first_accepted : AllAccepted (volume 0 14)
-unfolding lines_from digits laid_at led rights_of acl_text entry_text directory_bytes name_bytes bytes_below name_ok word opaque pad
+unfolding lines_from digits laid_at led rights_of acl_text acl_entry_text directory_bytes name_bytes bytes_below name_ok word opaque pad
 first_accepted = refl
 
 second_accepted : AllAccepted (volume 1 13)
-unfolding lines_from digits laid_at led rights_of acl_text entry_text directory_bytes name_bytes bytes_below name_ok word opaque pad
+unfolding lines_from digits laid_at led rights_of acl_text acl_entry_text directory_bytes name_bytes bytes_below name_ok word opaque pad
 second_accepted = refl
 
 third_accepted : AllAccepted (volume 2 13)
-unfolding lines_from digits laid_at led rights_of acl_text entry_text directory_bytes name_bytes bytes_below name_ok word opaque pad
+unfolding lines_from digits laid_at led rights_of acl_text acl_entry_text directory_bytes name_bytes bytes_below name_ok word opaque pad
 third_accepted = refl
 
 one_is : (n number files : ℕ) → 536870912 + number ≡ n → volume_name_ok (volume_name number) ≡ true → number < 3 → AllAccepted (volume number files) → IsVolume counts n (volume number files)
@@ -158,7 +158,7 @@ third_name : volume_name_ok (volume_name 2) ≡ true
 unfolding digits volume_name_ok is_name_of
 third_name = refl
 
-are_apart : AreApart volumes
+are_apart : AreApart made_volumes
 unfolding digits
 are_apart = ((refl, (refl, tt)), ((refl, tt), (tt, tt)))
 
@@ -199,7 +199,7 @@ abbrev IsShort : List VolumeLine → Type 0
 IsShort ls = nat_le (1 + (41 + volumes_size ls)) 268435456 ≡ true
 
 short_record : (a b c : Bool) → IsShort (some_of a b c)
-unfolding lines_from digits laid_at led rights_of acl_text entry_text directory_bytes name_bytes bytes_below name_ok word opaque pad
+unfolding lines_from digits laid_at led rights_of acl_text acl_entry_text directory_bytes name_bytes bytes_below name_ok word opaque pad
 short_record true true true = refl
 short_record true true false = refl
 short_record true false true = refl
@@ -209,17 +209,17 @@ short_record false true false = refl
 short_record false false true = refl
 short_record false false false = refl
 
-few_at : (server : ℕ) → length (volumes_at server volumes) ≤ 64
+few_at : (server : ℕ) → length (lines_of_server server made_volumes) ≤ 64
 few_at server = few (nat_eq 1 server) (nat_eq 2 server) (nat_eq 3 server)
 
 -- the first record is short
 fits : (ls : List VolumeLine) → AscendFrom 0 ls → IsShort ls → fits_server 268435456 ls ≡ true
 fits ls is_ascending is_short = ap (λ (n : ℕ). nat_le (1 + n) 268435456) (first_record 0 ls is_ascending) ∙ is_short
 
-fits_at : (server : ℕ) → fits_server 268435456 (volumes_at server volumes) ≡ true
-fits_at server = fits (volumes_at server volumes) (ascend (nat_eq 1 server) (nat_eq 2 server) (nat_eq 3 server)) (short_record (nat_eq 1 server) (nat_eq 2 server) (nat_eq 3 server))
+fits_at : (server : ℕ) → fits_server 268435456 (lines_of_server server made_volumes) ≡ true
+fits_at server = fits (lines_of_server server made_volumes) (ascend (nat_eq 1 server) (nat_eq 2 server) (nat_eq 3 server)) (short_record (nat_eq 1 server) (nat_eq 2 server) (nat_eq 3 server))
 
-fits_at_loc : fits_loc 268435456 volumes ≡ true
+fits_at_loc : fits_loc 268435456 made_volumes ≡ true
 unfolding digits
 fits_at_loc = refl
 

@@ -2,20 +2,20 @@
 use Rattle.std.proofs.Common.{◌≡◌, ℕ, ◌/◌, ◌%◌, List, [], ◌∷◌, ◌++◌, codes, map, refl, drop}
 use Rattle.std.specs.Fmt.{decimal, digits}
 use Rattle.std.specs.Prelude.{flat_map}
-use Rattle.afs_history.specs.declared.acts.Act.{Act}
-use Rattle.afs_history.specs.declared.acts.Act.TheVariants as acts
-use Rattle.afs_history.specs.declared.acts.Operand.{Operand}
-use Rattle.afs_history.specs.declared.acts.Operand.TheVariants as operands
-use Rattle.afs_history.specs.declared.acts.Written.{Written}
-use Rattle.afs_history.specs.declared.acts.Written.TheVariants as written
-use Rattle.afs_history.specs.declared.scripts.AdminAct.{AdminAct}
-use Rattle.afs_history.specs.declared.scripts.AdminAct.TheVariants as admin_acts
-use Rattle.afs_history.specs.declared.scripts.SetupLine.{SetupLine}
-use Rattle.afs_history.specs.declared.scripts.SetupLine.TheVariants as setup
-use Rattle.afs_history.specs.declared.scripts.Task.{Task}
-use Rattle.afs_history.specs.declared.scripts.Task.TheVariants as tasks
-use Rattle.afs_history.specs.declared.scripts.VolumeLine.{VolumeLine}
-use Rattle.afs_generate.specs.Generated.{acts_from, acts_of, drawn, generated, lines_from, next}
+use Rattle.spec_history.specs.declared.acts.Act.{Act}
+use Rattle.spec_history.specs.declared.acts.Act.TheVariants as acts
+use Rattle.spec_history.specs.declared.acts.Operand.{Operand}
+use Rattle.spec_history.specs.declared.acts.Operand.TheVariants as operands
+use Rattle.spec_history.specs.declared.acts.Written.{Written}
+use Rattle.spec_history.specs.declared.acts.Written.TheVariants as written
+use Rattle.spec_history.specs.declared.scripts.AdminAct.{AdminAct}
+use Rattle.spec_history.specs.declared.scripts.AdminAct.TheVariants as admin_acts
+use Rattle.spec_history.specs.declared.scripts.SetupLine.{SetupLine}
+use Rattle.spec_history.specs.declared.scripts.SetupLine.TheVariants as setup
+use Rattle.spec_history.specs.declared.scripts.Task.{Task}
+use Rattle.spec_history.specs.declared.scripts.Task.TheVariants as tasks
+use Rattle.spec_history.specs.declared.scripts.VolumeLine.{VolumeLine}
+use Rattle.afs_generate.specs.Generated.{acts_from, acts_of, drawn, generated, lines_from, lot_behind}
 
 -- ---- how a script writes what made scripts have
 
@@ -74,7 +74,7 @@ of_1 =
     ∷ []
 
 made_of_1 : map task (acts_of 1) ≡ of_1
-unfolding acts_from digits next drawn
+unfolding acts_from digits lot_behind drawn
 made_of_1 = refl
 
 abbrev of_4 : List (List ℕ)
@@ -126,7 +126,7 @@ of_4 =
     ∷ []
 
 made_of_4 : map task (acts_of 4) ≡ of_4
-unfolding acts_from digits next drawn
+unfolding acts_from digits lot_behind drawn
 made_of_4 = refl
 
 -- of the 1,004 acts that 100 makes the last ten
@@ -145,7 +145,7 @@ last_of_100 =
     ∷ []
 
 made_of_100 : drop 994 (map task (acts_of 100)) ≡ last_of_100
-unfolding acts_from digits next drawn
+unfolding acts_from digits lot_behind drawn
 made_of_100 = refl
 
 -- ---- the volumes and their files

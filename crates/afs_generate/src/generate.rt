@@ -1,22 +1,22 @@
 //! A script is made for a number.
 
 ghost use Rattle.std.specs.Prelude.{◌≡◌, ◌+◌, ◌<◌, ◌≤◌, [], ◌∷◌, ◌++◌, flat_map, IfOk, OnOk};
-ghost use Rattle.afs_generate.specs.Generated.{act_drawn, act_of, acts_of, behind, drawn, file_at, file_name, generated, line_of, lines_from, next, node_of, played, tasks_at, volume, volume_name, volumes};
+ghost use Rattle.afs_generate.specs.Generated.{act_drawn, act_drawn_at, acts_of, admin_act_behind, drawn, file_at, file_name, generated, made_file_line, lines_from, lot_behind, doer_of, played, tasks_at, volume, volume_name, made_volumes};
 
-use afs_history::acts::{Act, Operand, Path, Written};
-use afs_history::scripts::{
-    AdminAct, Event, Events, Script, SetupLine, SetupLines, Task, Tasks, VolumeLine, VolumeLines,
-};
 use afs_num::sequences::{Octets, Sequence};
 use afs_num::types::{Mem, Node};
+use spec_history::acts::{Act, Operand, Path, Written};
+use spec_history::scripts::{
+    AdminAct, Event, Events, Script, SetupLine, SetupLines, Task, Tasks, VolumeLine, VolumeLines,
+};
 use std::alloc::Global;
 
 // ---- draws
 
 /// The state of the lot behind this one.
-#[tactic(auto, unfolding(crate::specs::Generated::next))]
+#[tactic(auto, unfolding(crate::specs::Generated::lot_behind))]
 fn next(x: u32) -> u32
-    ensures { result ≡ next x }
+    ensures { result ≡ lot_behind x }
 {
     ((1_103_515_245 * x as u64 + 12_345) % 2_147_483_648) as u32
 }
@@ -101,7 +101,7 @@ fn act_drawn(alloc: Global, k: u32, file: u32, stored: u32, x: u32) -> Mem<Picke
 
 /// Act k, and the state behind it: which client, which file, and whether it is stored, are drawn one after the other.
 fn act_of(alloc: Global, k: u32, x: u32) -> Mem<(Task, u32)>
-    ensures { IfOk result (λ t. t ≡ act_of k x) }
+    ensures { IfOk result (λ t. t ≡ act_drawn_at k x) }
 {
     let client = next(x);
     let file = next(client);
@@ -116,7 +116,7 @@ fn act_of(alloc: Global, k: u32, x: u32) -> Mem<(Task, u32)>
 /// What the administrator does behind act k.
 fn behind(alloc: Global, n: u32, k: u32) -> Mem<Option<AdminAct>>
     requires { n ≤ 1000 }
-    ensures { IfOk result (λ o. o ≡ behind n k) }
+    ensures { IfOk result (λ o. o ≡ admin_act_behind n k) }
 {
     if k == 2 * n {
         let name = volume_name(alloc, 1)?;
@@ -140,8 +140,8 @@ fn behind(alloc: Global, n: u32, k: u32) -> Mem<Option<AdminAct>>
 /// Act k, and what the administrator does behind it, are put behind the others. What is given is the state of the lot behind it.
 fn put_act(alloc: Global, n: u32, k: u32, x: u32, tasks: &mut Tasks) -> Mem<u32>
     requires { n ≤ 1000 }
-    ensures tasks { OnOk result (tasks.new ≡ tasks.old ++ tasks_at (act_of k x).0 (behind n k)) }
-    ensures state { IfOk result (λ y. y ≡ (act_of k x).1) }
+    ensures tasks { OnOk result (tasks.new ≡ tasks.old ++ tasks_at (act_drawn_at k x).0 (admin_act_behind n k)) }
+    ensures state { IfOk result (λ y. y ≡ (act_drawn_at k x).1) }
 {
     let (task, state) = act_of(alloc, k, x)?;
     let behind = behind(alloc, n, k)?;
@@ -172,7 +172,7 @@ fn acts_of(alloc: Global, n: u32) -> Mem<Tasks>
 // ---- the schedule
 
 fn node_of(task: &Task) -> Node
-    ensures { result ≡ node_of task.now }
+    ensures { result ≡ doer_of task.now }
 {
     match task {
         Task::Client { client, act: _ } => Node::Client(*client),
@@ -205,7 +205,7 @@ fn schedule(alloc: Global, tasks: &[Task]) -> Mem<Events>
 
 /// File J has J bytes.
 fn line_of(alloc: Global, file: u32) -> Mem<SetupLine>
-    ensures { IfOk result (λ l. l ≡ line_of file) }
+    ensures { IfOk result (λ l. l ≡ made_file_line file) }
 {
     Ok(SetupLine::File {
         path: names(alloc, file)?,
@@ -250,7 +250,7 @@ fn volume(alloc: Global, number: u8, files: u32) -> Mem<VolumeLine>
 }
 
 fn volumes(alloc: Global) -> Mem<Sequence<VolumeLine>>
-    ensures { IfOk result (λ vs. vs ≡ volumes) }
+    ensures { IfOk result (λ vs. vs ≡ made_volumes) }
 {
     let mut volumes = Sequence::new(alloc);
     volumes.push(volume(alloc, 0, 14)?)?;

@@ -1,20 +1,21 @@
 -- Acts, plans and events that are read are of nodes of the cell, and within their limits.
+use Rattle.spec_ideal.specs.VnodeImage.{most_contents}
 use Rattle.std.proofs.Common.{◌≡◌, ℕ, Bool, true, false, List, Ok, subst}
 use Rattle.std.specs.Option.{ok_or}
 use Rattle.afs_num.specs.declared.types.Node.{Node}
 use Rattle.afs_num.specs.declared.types.Node.TheVariants as nodes
 use Rattle.afs_num.specs.declared.scripts.Reason.{Reason}
 use Rattle.afs_num.specs.declared.scripts.Reason.TheVariants as reasons
-use Rattle.afs_history.specs.declared.acts.Act.{Act}
-use Rattle.afs_history.specs.declared.acts.Operand.{Operand}
-use Rattle.afs_history.specs.declared.acts.Path.{Path}
-use Rattle.afs_history.specs.declared.acts.Written.{Written}
-use Rattle.afs_history.specs.declared.scripts.AdminAct.{AdminAct}
-use Rattle.afs_history.specs.declared.scripts.Event.{Event}
-use Rattle.afs_history.specs.declared.scripts.Plan.{Plan}
-use Rattle.afs_history.specs.declared.scripts.Task.{Task}
-use Rattle.afs_model.specs.ScriptWords.{ended, number_at, word_at}
-use Rattle.afs_model.proofs.ScriptReaders.{bound, ok_of}
+use Rattle.spec_history.specs.declared.acts.Act.{Act}
+use Rattle.spec_history.specs.declared.acts.Operand.{Operand}
+use Rattle.spec_history.specs.declared.acts.Path.{Path}
+use Rattle.spec_history.specs.declared.acts.Written.{Written}
+use Rattle.spec_history.specs.declared.scripts.AdminAct.{AdminAct}
+use Rattle.spec_history.specs.declared.scripts.Event.{Event}
+use Rattle.spec_history.specs.declared.scripts.Plan.{Plan}
+use Rattle.spec_history.specs.declared.scripts.Task.{Task}
+use Rattle.spec_model.specs.ScriptWords.{no_word_left, number_at, word_at}
+use Rattle.spec_model.proofs.ScriptReaders.{bound, ok_of}
 use Rattle.afs_words.specs.declared.nodes.Counts.{Counts}
 use Rattle.afs_words.specs.Words.{act_path_at, actors, all_nodes, callees, callers, disk_nodes, label_at, mode_at, name_at, node_at, operand_at, server_at, written_at}
 use Rattle.afs_grammar.specs.declared.spellings.ActWord.{ActWord}
@@ -25,7 +26,7 @@ use Rattle.afs_grammar.specs.declared.spellings.FirstWord.{FirstWord}
 use Rattle.afs_grammar.specs.declared.spellings.FirstWord.TheVariants as firsts
 use Rattle.afs_grammar.specs.declared.spellings.PlanWord.{PlanWord}
 use Rattle.afs_grammar.specs.declared.spellings.PlanWord.TheVariants as plan_words
-use Rattle.afs_grammar.specs.Acts.{act_event, act_parts, admin_act, admin_parts, client_act, crash_event, crash_of, deliver_event, dump_parts, event_at, fail_event, has_disk, most_contents, most_text, plan_at, plan_parts, restart_event, stop_event, task_at, task_of, tick_event, timeout_event, wake_event}
+use Rattle.afs_grammar.specs.Acts.{act_event, act_parts, admin_act_read, admin_parts, client_act_read, crash_event, crash_of, deliver_event, dump_act_in, event_at, fail_event, has_disk, most_text, plan_at, plan_parts, restart_event, stop_event, task_at, task_of, tick_event, timeout_event, wake_event}
 use Rattle.afs_grammar.specs.CellScripts.{FitsAdminAct, FitsEvent, FitsPlan, FitsTask, IsInCell, IsName, IsShortAct}
 use Rattle.afs_grammar.specs.Spellings.{act_spelled, admin_spelled, plan_spelled}
 use Rattle.afs_grammar.proofs.Readers.{act_path_in, label_in, name_in, node_in, node_number_in, number_in, operand_in, written_in}
@@ -90,19 +91,19 @@ parts_in words.GetAcl ws x e =
     subst (λ (y : Act × List (List ℕ)). IsShortAct y.0) (ok_of _ _ _ _ a.rest) (operand_in ws a.value a.first)
 parts_in words.GiveUp ws x e = subst (λ (y : Act × List (List ℕ)). IsShortAct y.0) (ok_of _ _ _ _ e) tt
 
-client_act_in : (ws : List (List ℕ)) (a : Act) → client_act ws ≡ Ok a → IsShortAct a
-unfolding client_act
+client_act_in : (ws : List (List ℕ)) (a : Act) → client_act_read ws ≡ Ok a → IsShortAct a
+unfolding client_act_read
 client_act_in ws a e =
     let word = bound (List ℕ × List (List ℕ)) _ Reason (word_at ws) _ _ e in
     let named = bound ActWord _ Reason (ok_or (act_spelled word.value.0) reasons.Word) _ _ word.rest in
     let act = bound (Act × List (List ℕ)) _ Reason (act_parts named.value word.value.1) _ _ named.rest in
-    let done = bound (Unit {0}) _ Reason (ended act.value.1) _ _ act.rest in
+    let done = bound (Unit {0}) _ Reason (no_word_left act.value.1) _ _ act.rest in
     subst IsShortAct (ok_of _ _ _ _ done.rest) (parts_in named.value word.value.1 act.value act.first)
 
 -- ---- acts of administrators
 
-dump_in : (c : Counts) (name : List ℕ) (ws : List (List ℕ)) (x : AdminAct × List (List ℕ)) → IsName 32 name → dump_parts name ws ≡ Ok x → FitsAdminAct c x.0
-unfolding dump_parts
+dump_in : (c : Counts) (name : List ℕ) (ws : List (List ℕ)) (x : AdminAct × List (List ℕ)) → IsName 32 name → dump_act_in name ws ≡ Ok x → FitsAdminAct c x.0
+unfolding dump_act_in
 dump_in c name ws x named e =
     let a = bound (List ℕ × List (List ℕ)) _ Reason (label_at ws) _ _ e in
     let b = bound (ℕ × List (List ℕ)) _ Reason (number_at 0 4294967295 a.value.1) _ _ a.rest in
@@ -130,14 +131,14 @@ admin_parts_in c admin_words.Dump name ws x named e = dump_in c name ws x named 
 admin_parts_in c admin_words.Remove name ws x named e = subst (λ (y : AdminAct × List (List ℕ)). FitsAdminAct c y.0) (ok_of _ _ _ _ e) named
 admin_parts_in c admin_words.Recover name ws x named e = subst (λ (y : AdminAct × List (List ℕ)). FitsAdminAct c y.0) (ok_of _ _ _ _ e) named
 
-admin_act_in : (c : Counts) (ws : List (List ℕ)) (a : AdminAct) → admin_act c ws ≡ Ok a → FitsAdminAct c a
-unfolding admin_act
+admin_act_in : (c : Counts) (ws : List (List ℕ)) (a : AdminAct) → admin_act_read c ws ≡ Ok a → FitsAdminAct c a
+unfolding admin_act_read
 admin_act_in c ws a e =
     let word = bound (List ℕ × List (List ℕ)) _ Reason (word_at ws) _ _ e in
     let named = bound AdminWord _ Reason (ok_or (admin_spelled word.value.0) reasons.Word) _ _ word.rest in
     let name = bound (List ℕ × List (List ℕ)) _ Reason (name_at 32 word.value.1) _ _ named.rest in
     let act = bound (AdminAct × List (List ℕ)) _ Reason (admin_parts c named.value name.value.0 name.value.1) _ _ name.rest in
-    let done = bound (Unit {0}) _ Reason (ended act.value.1) _ _ act.rest in
+    let done = bound (Unit {0}) _ Reason (no_word_left act.value.1) _ _ act.rest in
     subst (FitsAdminAct c) (ok_of _ _ _ _ done.rest) (admin_parts_in c named.value name.value.0 name.value.1 act.value (name_in 32 word.value.1 name.value name.first) act.first)
 
 -- ---- tasks
@@ -147,10 +148,10 @@ unfolding task_of
 task_of_in c nodes.Loc ws t h e = absurd cc
 task_of_in c (nodes.Server n) ws t h e = absurd cc
 task_of_in c (nodes.Client n) ws t h e =
-    let act = bound Act _ Reason (client_act ws) _ _ e in
+    let act = bound Act _ Reason (client_act_read ws) _ _ e in
     subst (FitsTask c) (ok_of _ _ _ _ act.rest) (h, client_act_in ws act.value act.first)
 task_of_in c (nodes.Admin n) ws t h e =
-    let act = bound AdminAct _ Reason (admin_act c ws) _ _ e in
+    let act = bound AdminAct _ Reason (admin_act_read c ws) _ _ e in
     subst (FitsTask c) (ok_of _ _ _ _ act.rest) (h, admin_act_in c ws act.value act.first)
 
 pub task_in : (c : Counts) (ws : List (List ℕ)) (t : Task) → task_at c ws ≡ Ok t → FitsTask c t
@@ -184,7 +185,7 @@ plan_in c ws p e =
     let word = bound (List ℕ × List (List ℕ)) _ Reason (word_at ws) _ _ e in
     let named = bound PlanWord _ Reason (ok_or (plan_spelled word.value.0) reasons.Word) _ _ word.rest in
     let plan = bound (Plan × List (List ℕ)) _ Reason (plan_parts c named.value word.value.1) _ _ named.rest in
-    let done = bound (Unit {0}) _ Reason (ended plan.value.1) _ _ plan.rest in
+    let done = bound (Unit {0}) _ Reason (no_word_left plan.value.1) _ _ plan.rest in
     subst (FitsPlan c) (ok_of _ _ _ _ done.rest) (plan_parts_in c named.value word.value.1 plan.value plan.first)
 
 -- ---- events

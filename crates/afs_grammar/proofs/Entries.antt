@@ -4,12 +4,12 @@ use Rattle.std.specs.List.{flat_map}
 use Rattle.std.proofs.lemmas.List.{length-append}
 use Rattle.std.proofs.lemmas.List.Concat.{flat_map-cons}
 use Rattle.afs_xdr.specs.Words.{word, opaque}
-use Rattle.afs_history.specs.declared.scripts.VolumeLine.{VolumeLine}
-use Rattle.afs_records.specs.Changes.{no_head}
-use Rattle.afs_records.specs.Entries.{entry_of_line, exists_read_write}
-use Rattle.afs_records.specs.LocDurable.{first_id, first_stamp, lines_listed, listed_line, loc_first_record}
-use Rattle.afs_records.specs.LocRecords.{entry_form, listed_form, lock_form, loc_record_bytes, sites_form}
-use Rattle.afs_records.specs.Records.{head_form}
+use Rattle.spec_history.specs.declared.scripts.VolumeLine.{VolumeLine}
+use Rattle.spec_records.specs.Changes.{no_head}
+use Rattle.spec_records.specs.Entries.{entry_of_line, exists_read_write}
+use Rattle.spec_records.specs.LocDurable.{first_id, first_stamp, lines_listed, listed_line, loc_first_record}
+use Rattle.spec_records.specs.LocRecords.{entry_form, listed_form, lock_form, loc_record_bytes, sites_form}
+use Rattle.spec_records.specs.Records.{head_form}
 use Rattle.afs_grammar.specs.Lines.{filled_up, loc_length}
 use Rattle.afs_grammar.proofs.Sizes.{behind, head_is, opaque_size}
 

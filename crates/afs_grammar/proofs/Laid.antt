@@ -1,10 +1,10 @@
 -- What the volumes are after a line was laid in one of them.
 use Rattle.std.proofs.Common.{◌≡◌, ℕ, zero, suc, ◌<◌, List, [], ◌∷◌, length, Option, Some, None, Ok, get_or, slice_get, slice_set, Result, Err, refl, sym, ap, subst, ◌∙◌}
 use Rattle.std.proofs.lemmas.Option.{slice_get-get_or, slice_get_within}
-use Rattle.afs_history.specs.declared.scripts.SetupLine.{SetupLine}
-use Rattle.afs_history.specs.declared.scripts.VolumeLine.{VolumeLine}
+use Rattle.spec_history.specs.declared.scripts.SetupLine.{SetupLine}
+use Rattle.spec_history.specs.declared.scripts.VolumeLine.{VolumeLine}
 use Rattle.afs_num.specs.declared.scripts.Reason.{Reason}
-use Rattle.afs_model.specs.ScriptWords.{◌>>=◌}
+use Rattle.spec_model.specs.ScriptWords.{◌>>=◌}
 use Rattle.afs_words.specs.Reads.{Gives}
 use Rattle.afs_words.specs.declared.faults.LineFault.{LineFault}
 use Rattle.afs_words.specs.declared.faults.LineFault.TheVariants as faults

@@ -3,9 +3,9 @@ use Rattle.std.proofs.Common.{◌≡◌, ℕ, ◌≤◌, true, List, length, ari
 use Rattle.std.specs.Prelude.{◌&&◌, nat_le, nat_lt, not}
 use Rattle.std.specs.List.{list_all}
 use Rattle.afs_num.specs.Names.{has_size, is_copy_name, is_in, is_name_of, is_plain, volume_name_ok}
-use Rattle.afs_ideal.proofs.Basics.{both}
-use Rattle.afs_model.proofs.ScriptReaders.{le_of_test}
-use Rattle.afs_records.specs.Records.{most_name}
+use Rattle.spec_ideal.proofs.Basics.{both}
+use Rattle.spec_model.proofs.ScriptReaders.{le_of_test}
+use Rattle.spec_records.specs.Records.{most_name}
 
 pub short_name : (name : List ℕ) → volume_name_ok name ≡ true → length name ≤ most_name
 unfolding volume_name_ok is_name_of

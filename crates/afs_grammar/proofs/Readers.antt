@@ -12,12 +12,12 @@ use Rattle.afs_num.specs.declared.types.Node.{Node}
 use Rattle.afs_num.specs.declared.types.Node.TheVariants as nodes
 use Rattle.afs_num.specs.declared.scripts.Reason.{Reason}
 use Rattle.afs_num.specs.declared.scripts.Reason.TheVariants as reasons
-use Rattle.afs_history.specs.declared.acts.Operand.{Operand}
-use Rattle.afs_history.specs.declared.acts.Operand.TheVariants as operands
-use Rattle.afs_history.specs.declared.acts.Path.{Path}
-use Rattle.afs_history.specs.declared.acts.Written.{Written}
-use Rattle.afs_model.specs.ScriptWords.{◌>>=◌, fid_of, hex_from, must, node_number, number_at, parts, ranged, word_at}
-use Rattle.afs_model.proofs.ScriptReaders.{bound, le_of_test, must_true, ok_of, range, some_in}
+use Rattle.spec_history.specs.declared.acts.Operand.{Operand}
+use Rattle.spec_history.specs.declared.acts.Operand.TheVariants as operands
+use Rattle.spec_history.specs.declared.acts.Path.{Path}
+use Rattle.spec_history.specs.declared.acts.Written.{Written}
+use Rattle.spec_model.specs.ScriptWords.{◌>>=◌, fid_of, hex_from, must, node_number_read, number_at, parts, ranged, word_at}
+use Rattle.spec_model.proofs.ScriptReaders.{bound, le_of_test, must_true, ok_of, range, some_in}
 use Rattle.afs_words.specs.declared.nodes.Counts.{Counts}
 use Rattle.afs_words.specs.declared.nodes.Kinds.{Kinds}
 use Rattle.afs_words.specs.Words.{act_path_at, byte_of, fill_in, fill_of, fit_in, hex_in, is_fid, is_numeral, label_at, loc_of, name_at, name_of, names_from, node_at, node_number_at, node_of, numbered, operand_at, operand_of, or_else, path_in, path_of, unescaped_from, written_at, written_of}
@@ -36,8 +36,8 @@ letter_by : (t : Bool) (count n : ℕ) (digits : List ℕ) → (if t then ranged
 letter_by true count n digits e = range 1 count n digits e
 letter_by false count n digits e = absurd cc
 
-numbered_in : (letter count n : ℕ) (word : List ℕ) → node_number letter count word ≡ Some n → IsFrom 1 count n
-unfolding node_number
+numbered_in : (letter count n : ℕ) (word : List ℕ) → node_number_read letter count word ≡ Some n → IsFrom 1 count n
+unfolding node_number_read
 numbered_in letter count n [] e = absurd cc
 numbered_in letter count n (b ∷ digits) e = letter_by (nat_eq b letter) count n digits e
 
@@ -45,7 +45,7 @@ pub node_number_in : (letter count : ℕ) (ws : List (List ℕ)) (x : ℕ × Lis
 unfolding node_number_at
 node_number_in letter count ws x e =
     let a = bound (List ℕ × List (List ℕ)) _ Reason (word_at ws) _ _ e in
-    let b = bound ℕ _ Reason (ok_or (node_number letter count a.value.0) reasons.Node) _ _ a.rest in
+    let b = bound ℕ _ Reason (ok_or (node_number_read letter count a.value.0) reasons.Node) _ _ a.rest in
     subst (λ (y : ℕ × List (List ℕ)). IsFrom 1 count y.0) (ok_of _ _ _ _ b.rest) (numbered_in letter count b.value a.value.0 (some_in _ _ _ _ _ b.first))
 
 some_node : (m n : Node) → Some m ≡ Some n → m ≡ n
@@ -64,7 +64,7 @@ kind_by node c count n None is e = absurd cc
 kind_by node c count n (Some k) is e = subst (IsInCell c) (some_node (node k) n e) (is k refl)
 
 kind_in : (node : ℕ → Node) (allowed : Bool) (letter count : ℕ) (c : Counts) (n : Node) (word : List ℕ) → ((k : ℕ) → IsFrom 1 count k → IsInCell c (node k)) → numbered node allowed letter count word ≡ Some n → IsInCell c n
-kind_in node true letter count c n word is e = kind_by node c count n (node_number letter count word) (λ k f. is k (numbered_in letter count k word f)) e
+kind_in node true letter count c n word is e = kind_by node c count n (node_number_read letter count word) (λ k f. is k (numbered_in letter count k word f)) e
 kind_in node false letter count c n word is e = absurd cc
 
 or_in : (c : Counts) (n : Node) (o p : Option Node) → (o ≡ Some n → IsInCell c n) → (p ≡ Some n → IsInCell c n) → or_else o p ≡ Some n → IsInCell c n

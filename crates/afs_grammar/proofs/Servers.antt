@@ -1,27 +1,28 @@
 -- Narrower forms have one server: line by line.
+use Rattle.spec_ideal.specs.VnodeImage.{most_contents}
 use Rattle.std.proofs.Common.{◌≡◌, ℕ, ◌+◌, ◌-◌, ◌<◌, ◌≤◌, Bool, true, false, List, [], ◌∷◌, ◌++◌, length, Ok, not, nat_eq, nat_le, nat_lt, if◌then◌else◌, refl, sym, subst, ◌∙◌, arith, eqb-true}
 use Rattle.std.specs.Prelude.{◌&&◌, ◌||◌}
 use Rattle.std.specs.List.{list_any}
 use Rattle.std.proofs.lemmas.Bool.Decides.{nat_tests}
 use Rattle.afs_num.specs.declared.scripts.Reason.{Reason}
 use Rattle.afs_num.specs.declared.scripts.Reason.TheVariants as reasons
-use Rattle.afs_history.specs.declared.acts.Path.{Path}
-use Rattle.afs_history.specs.declared.acts.Written.{Written}
-use Rattle.afs_history.specs.declared.scripts.Event.{Event}
-use Rattle.afs_history.specs.declared.scripts.Plan.{Plan}
-use Rattle.afs_history.specs.declared.scripts.Script.{Script}
-use Rattle.afs_history.specs.declared.scripts.SetupLine.{SetupLine}
-use Rattle.afs_history.specs.declared.scripts.Task.{Task}
-use Rattle.afs_ideal.proofs.Basics.{both}
-use Rattle.afs_model.specs.ScriptWords.{◌>>=◌, ended, must, number_at, parts, word_at}
-use Rattle.afs_model.specs.Script.{at_line, is_silent}
-use Rattle.afs_model.proofs.ScriptReaders.{bound, le_of_test, must_true, ok_of, at_line_ok}
+use Rattle.spec_history.specs.declared.acts.Path.{Path}
+use Rattle.spec_history.specs.declared.acts.Written.{Written}
+use Rattle.spec_history.specs.declared.scripts.Event.{Event}
+use Rattle.spec_history.specs.declared.scripts.Plan.{Plan}
+use Rattle.spec_history.specs.declared.scripts.Script.{Script}
+use Rattle.spec_history.specs.declared.scripts.SetupLine.{SetupLine}
+use Rattle.spec_history.specs.declared.scripts.Task.{Task}
+use Rattle.spec_ideal.proofs.Basics.{both}
+use Rattle.spec_model.specs.ScriptWords.{◌>>=◌, no_word_left, must, number_at, parts, word_at}
+use Rattle.spec_model.specs.Script.{at_line, is_silent}
+use Rattle.spec_model.proofs.ScriptReaders.{bound, le_of_test, must_true, ok_of, at_line_ok}
 use Rattle.afs_words.specs.Words.{label_at, name_at, node_number_at, path_at, server_at, written_at}
 use Rattle.afs_grammar.specs.declared.spellings.FirstWord.{FirstWord}
 use Rattle.afs_grammar.specs.declared.spellings.FirstWord.TheVariants as words
-use Rattle.afs_grammar.specs.Acts.{event_at, most_contents, most_text, plan_at, task_at, Words}
+use Rattle.afs_grammar.specs.Acts.{event_at, most_text, plan_at, task_at, Words}
 use Rattle.afs_grammar.specs.Forms.{is_unbuilt}
-use Rattle.afs_grammar.specs.Lines.{acl_line, admins_line, bounded_for, cache_line, capacity_line, cell_line, clients_line, dir_line, do_line, end_line, event_line, event_told, file_line, first_of, has_name, last_at, line_at, line_by_word, line_of, lines_at, link_line, new_line, nothing_read, place_of, plan_line, schedule_line, schedule_so_far, script_of, servers_line, setup_accepted, setup_laid, ticks_in, user_line, volume_accepted, volume_added, volume_line, LinesRead}
+use Rattle.afs_grammar.specs.Lines.{acl_line, admins_line, bounded_for, cache_line, capacity_line, cell_line, clients_line, dir_line, do_line, end_line, event_line, event_told, file_line, first_word, has_name, last_at, line_at, line_by_word, line_of, lines_read_from, link_line, new_line, nothing_read, place_of, plan_line, schedule_line, schedule_so_far, script_of, servers_line, setup_accepted, setup_laid, ticks_in, user_line, volume_accepted, volume_added, volume_line, LinesRead}
 use Rattle.afs_grammar.specs.Turns.{from_turn, has_ended, is_due, next_turn, to_turn}
 
 -- the server line is behind, and told one
@@ -40,14 +41,14 @@ cell_same : (r x : LinesRead) (ws : Words) → cell_line r ws ≡ Ok x → Same 
 unfolding cell_line Same
 cell_same r x ws e =
     let version = bound (ℕ × List (List ℕ)) _ Reason (number_at 1 1 ws) _ _ e in
-    let done = bound (Unit {0}) _ Reason (ended version.value.1) _ _ version.rest in
+    let done = bound (Unit {0}) _ Reason (no_word_left version.value.1) _ _ version.rest in
     subst (Same r) (ok_of _ _ _ _ done.rest) (refl, refl)
 
 clients_same : (level : ℕ) (r x : LinesRead) (ws : Words) → clients_line level r ws ≡ Ok x → Same r x
 unfolding clients_line Same
 clients_same level r x ws e =
     let count = bound (ℕ × List (List ℕ)) _ Reason (number_at 0 16 ws) _ _ e in
-    let done = bound (Unit {0}) _ Reason (ended count.value.1) _ _ count.rest in
+    let done = bound (Unit {0}) _ Reason (no_word_left count.value.1) _ _ count.rest in
     let built = bound (Unit {0}) _ Reason (must (nat_le 6 level || nat_le count.value.0 1) reasons.Limit) _ _ done.rest in
     subst (Same r) (ok_of _ _ _ _ built.rest) (refl, refl)
 
@@ -55,21 +56,21 @@ admins_same : (r x : LinesRead) (ws : Words) → admins_line r ws ≡ Ok x → S
 unfolding admins_line Same
 admins_same r x ws e =
     let count = bound (ℕ × List (List ℕ)) _ Reason (number_at 0 4 ws) _ _ e in
-    let done = bound (Unit {0}) _ Reason (ended count.value.1) _ _ count.rest in
+    let done = bound (Unit {0}) _ Reason (no_word_left count.value.1) _ _ count.rest in
     subst (Same r) (ok_of _ _ _ _ done.rest) (refl, refl)
 
 cache_same : (r x : LinesRead) (ws : Words) → cache_line r ws ≡ Ok x → Same r x
 unfolding cache_line Same
 cache_same r x ws e =
     let most = bound (ℕ × List (List ℕ)) _ Reason (number_at 1 256 ws) _ _ e in
-    let done = bound (Unit {0}) _ Reason (ended most.value.1) _ _ most.rest in
+    let done = bound (Unit {0}) _ Reason (no_word_left most.value.1) _ _ most.rest in
     subst (Same r) (ok_of _ _ _ _ done.rest) (refl, refl)
 
 capacity_same : (r x : LinesRead) (ws : Words) → capacity_line r ws ≡ Ok x → Same r x
 unfolding capacity_line Same
 capacity_same r x ws e =
     let bytes = bound (ℕ × List (List ℕ)) _ Reason (number_at 65536 268435456 ws) _ _ e in
-    let done = bound (Unit {0}) _ Reason (ended bytes.value.1) _ _ bytes.rest in
+    let done = bound (Unit {0}) _ Reason (no_word_left bytes.value.1) _ _ bytes.rest in
     subst (Same r) (ok_of _ _ _ _ done.rest) (refl, refl)
 
 user_same : (r x : LinesRead) (ws : Words) → user_line r ws ≡ Ok x → Same r x
@@ -77,7 +78,7 @@ unfolding user_line Same
 user_same r x ws e =
     let client = bound (ℕ × List (List ℕ)) _ Reason (node_number_at 99 r.counts.clients ws) _ _ e in
     let name = bound (List ℕ × List (List ℕ)) _ Reason (name_at 64 client.value.1) _ _ client.rest in
-    let done = bound (Unit {0}) _ Reason (ended name.value.1) _ _ name.rest in
+    let done = bound (Unit {0}) _ Reason (no_word_left name.value.1) _ _ name.rest in
     subst (Same r) (ok_of _ _ _ _ done.rest) (refl, refl)
 
 volume_same : (level : ℕ) (r x : LinesRead) (ws : Words) → volume_line level r ws ≡ Ok x → Same r x
@@ -87,7 +88,7 @@ volume_same level r x ws e =
     let fresh = bound (Unit {0}) _ Reason (must (not (list_any (has_name name.value.0) r.volumes)) reasons.Name) _ _ name.rest in
     let server = bound (ℕ × List (List ℕ)) _ Reason (server_at r.counts name.value.1) _ _ fresh.rest in
     let quota = bound (ℕ × List (List ℕ)) _ Reason (number_at 1 16384 server.value.1) _ _ server.rest in
-    let done = bound (Unit {0}) _ Reason (ended quota.value.1) _ _ quota.rest in
+    let done = bound (Unit {0}) _ Reason (no_word_left quota.value.1) _ _ quota.rest in
     let taken = bound (Unit {0}) _ Reason (volume_accepted level r (new_line (length r.volumes) name.value.0 server.value.0 quota.value.0)) _ _ done.rest in
     subst (Same r) (ok_of _ _ _ _ taken.rest) (refl, refl)
 
@@ -101,7 +102,7 @@ dir_same : (level : ℕ) (r x : LinesRead) (ws : Words) → dir_line level r ws 
 unfolding dir_line
 dir_same level r x ws e =
     let path = bound (Path × List (List ℕ)) _ Reason (path_at ws) _ _ e in
-    let done = bound (Unit {0}) _ Reason (ended path.value.1) _ _ path.rest in
+    let done = bound (Unit {0}) _ Reason (no_word_left path.value.1) _ _ path.rest in
     setup_same level r x path.value.0.volume _ done.rest
 
 file_same : (level : ℕ) (r x : LinesRead) (ws : Words) → file_line level r ws ≡ Ok x → Same r x
@@ -109,7 +110,7 @@ unfolding file_line
 file_same level r x ws e =
     let path = bound (Path × List (List ℕ)) _ Reason (path_at ws) _ _ e in
     let bytes = bound (Written × List (List ℕ)) _ Reason (written_at most_contents path.value.1) _ _ path.rest in
-    let done = bound (Unit {0}) _ Reason (ended bytes.value.1) _ _ bytes.rest in
+    let done = bound (Unit {0}) _ Reason (no_word_left bytes.value.1) _ _ bytes.rest in
     setup_same level r x path.value.0.volume _ done.rest
 
 link_same : (level : ℕ) (r x : LinesRead) (ws : Words) → link_line level r ws ≡ Ok x → Same r x
@@ -117,7 +118,7 @@ unfolding link_line
 link_same level r x ws e =
     let path = bound (Path × List (List ℕ)) _ Reason (path_at ws) _ _ e in
     let bytes = bound (Written × List (List ℕ)) _ Reason (written_at most_text path.value.1) _ _ path.rest in
-    let done = bound (Unit {0}) _ Reason (ended bytes.value.1) _ _ bytes.rest in
+    let done = bound (Unit {0}) _ Reason (no_word_left bytes.value.1) _ _ bytes.rest in
     setup_same level r x path.value.0.volume _ done.rest
 
 acl_same : (level : ℕ) (r x : LinesRead) (ws : Words) → acl_line level r ws ≡ Ok x → Same r x
@@ -125,7 +126,7 @@ unfolding acl_line
 acl_same level r x ws e =
     let path = bound (Path × List (List ℕ)) _ Reason (path_at ws) _ _ e in
     let bytes = bound (Written × List (List ℕ)) _ Reason (written_at most_text path.value.1) _ _ path.rest in
-    let done = bound (Unit {0}) _ Reason (ended bytes.value.1) _ _ bytes.rest in
+    let done = bound (Unit {0}) _ Reason (no_word_left bytes.value.1) _ _ bytes.rest in
     setup_same level r x path.value.0.volume _ done.rest
 
 do_same : (level : ℕ) (r x : LinesRead) (ws : Words) → do_line level r ws ≡ Ok x → Same r x
@@ -144,21 +145,21 @@ plan_same r x ws e =
 schedule_same : (r x : LinesRead) (ws : Words) → schedule_line r ws ≡ Ok x → Same r x
 unfolding schedule_line Same
 schedule_same r x ws e =
-    let done = bound (Unit {0}) _ Reason (ended ws) _ _ e in
+    let done = bound (Unit {0}) _ Reason (no_word_left ws) _ _ e in
     subst (Same r) (ok_of _ _ _ _ done.rest) (refl, refl)
 
 event_same : (first : FirstWord) (r x : LinesRead) (ws : Words) → event_line first r ws ≡ Ok x → Same r x
 unfolding event_line event_told Same
 event_same first r x ws e =
     let event = bound (Event × List (List ℕ)) _ Reason (event_at first r.counts ws) _ _ e in
-    let done = bound (Unit {0}) _ Reason (ended event.value.1) _ _ event.rest in
+    let done = bound (Unit {0}) _ Reason (no_word_left event.value.1) _ _ event.rest in
     let few = bound (Unit {0}) _ Reason (must (nat_le (ticks_in (schedule_so_far r.schedule ++ event.value.0 ∷ [])) 1000000000) reasons.Limit) _ _ done.rest in
     subst (Same r) (ok_of _ _ _ _ few.rest) (refl, refl)
 
 end_same : (r x : LinesRead) (ws : Words) → end_line r ws ≡ Ok x → Same r x
 unfolding end_line Same
 end_same r x ws e =
-    let done = bound (Unit {0}) _ Reason (ended ws) _ _ e in
+    let done = bound (Unit {0}) _ Reason (no_word_left ws) _ _ e in
     subst (Same r) (ok_of _ _ _ _ done.rest) (refl, refl)
 
 -- one server alone is built below this level
@@ -170,7 +171,7 @@ servers_one : (level : ℕ) (r x : LinesRead) (ws : Words) → level < 7 → ser
 unfolding servers_line HasOne
 servers_one level r x ws lt e =
     let count = bound (ℕ × List (List ℕ)) _ Reason (number_at 1 8 ws) _ _ e in
-    let done = bound (Unit {0}) _ Reason (ended count.value.1) _ _ count.rest in
+    let done = bound (Unit {0}) _ Reason (no_word_left count.value.1) _ _ count.rest in
     let built = bound (Unit {0}) _ Reason (must (nat_le 7 level || nat_eq count.value.0 1) reasons.Limit) _ _ done.rest in
     let narrow : nat_le 7 level ≡ false = grind (arith, nat_tests, lt) in
     let one = one_by (nat_le 7 level) count.value.0 narrow (must_true _ _ _ built.first) in
@@ -211,7 +212,7 @@ line_one : (level : ℕ) (r x : LinesRead) (line : Words) → level < 7 → HasO
 unfolding line_of
 line_one level r x line lt h e =
     let word = bound (List ℕ × List (List ℕ)) _ Reason (word_at line) _ _ e in
-    let first = bound FirstWord _ Reason (first_of level word.value.0) _ _ word.rest in
+    let first = bound FirstWord _ Reason (first_word level word.value.0) _ _ word.rest in
     let due = bound (Unit {0}) _ Reason (must (is_due r.turn first.value) reasons.Order) _ _ first.rest in
     let built = bound (Unit {0}) _ Reason (must (not (is_unbuilt level first.value word.value.1)) reasons.Word) _ _ due.rest in
     let turns = both (nat_le (from_turn first.value) r.turn) (nat_le r.turn (to_turn first.value)) (must_true _ _ _ due.first) in
@@ -241,7 +242,7 @@ last_one r s number room last h e =
     let end : r.turn ≡ 14 = eqb-true r.turn 14 (must_true _ _ _ whole.first) in
     subst (λ (t : Script). t.servers ≡ 1) (ok_of _ _ _ _ none.rest) (h (omega (arith, end)))
 
-lines_one : (level : ℕ) (r : LinesRead) (s : Script) (number room : ℕ) (ls : List (List ℕ)) → level < 7 → HasOne r → lines_at level r number room ls ≡ Ok s → s.servers ≡ 1
+lines_one : (level : ℕ) (r : LinesRead) (s : Script) (number room : ℕ) (ls : List (List ℕ)) → level < 7 → HasOne r → lines_read_from level r number room ls ≡ Ok s → s.servers ≡ 1
 lines_one level r s number room [] lt h e = absurd cc
 lines_one level r s number room (last ∷ []) lt h e = last_one r s (number + 1) room last h (at_line_ok _ _ _ _ e)
 lines_one level r s number room (line ∷ next ∷ more) lt h e =

@@ -1,21 +1,21 @@
 -- How long the first record of a server is.
-use Rattle.afs_ideal.specs.SetUp.{first_volume}
+use Rattle.spec_ideal.specs.SetUp.{first_volume}
 use Rattle.std.proofs.Common.{◌≡◌, ℕ, suc, ◌+◌, ◌*◌, ◌≤◌, Bool, true, false, List, [], ◌∷◌, ◌++◌, length, map, replicate, Some, None, refl, ap, ◌∙◌, arith, nat_eq, nat_lt, if◌then◌else◌}
 use Rattle.std.specs.List.{flat_map}
 use Rattle.std.proofs.lemmas.List.{length-append, length-replicate}
 use Rattle.std.proofs.lemmas.List.Concat.{flat_map-cons}
 use Rattle.std.proofs.lemmas.Bool.Decides.{nat_tests}
 use Rattle.afs_xdr.specs.Words.{word, words, opaque, pad, pad_length}
-use Rattle.afs_ideal.specs.Images.{Image, image_of}
-use Rattle.afs_ideal.specs.Tables.{Table, get, set}
-use Rattle.afs_ideal.specs.VnodeImage.{image, image_words}
-use Rattle.afs_ideal.specs.Volumes.{Vnode}
-use Rattle.afs_ideal.proofs.Tables.{get_set}
+use Rattle.spec_ideal.specs.Images.{Image, image_of}
+use Rattle.spec_ideal.specs.Tables.{Table, get, set}
+use Rattle.spec_ideal.specs.VnodeImage.{image, image_words}
+use Rattle.spec_ideal.specs.Volumes.{Vnode}
+use Rattle.spec_ideal.proofs.Tables.{get_set}
 use Rattle.afs_num.specs.declared.records.StoredVolume.{StoredVolume}
-use Rattle.afs_records.specs.Changes.{at_set_up, images_of, no_head, record_of_volumes, stored_volume}
-use Rattle.afs_records.specs.Durable.{Stored, or_zero, place_length}
-use Rattle.afs_records.specs.Records.{head_form, listed, listed_form, marked_form, record_bytes, vnodes_form, volume_form}
-use Rattle.afs_history.specs.declared.scripts.VolumeLine.{VolumeLine}
+use Rattle.spec_records.specs.Changes.{at_set_up, images_of, no_head, record_of_volumes, stored_volume}
+use Rattle.spec_records.specs.Durable.{Stored, or_zero, place_length}
+use Rattle.spec_records.specs.Records.{head_form, listed_vnode, listed_form, marked_form, record_bytes, vnodes_form, volume_form}
+use Rattle.spec_history.specs.declared.scripts.VolumeLine.{VolumeLine}
 use Rattle.afs_grammar.specs.Lines.{filled_up, stored_all}
 use Rattle.afs_grammar.specs.Sizes.{vnodes_size, volume_size, volumes_size, AscendFrom}
 
@@ -53,11 +53,11 @@ image_is i =
     let e = opaque_size i.contents in
     omega (arith, a, b, c, d, e)
 
-listed_is : (vs : List Image) → length (flat_map listed_form.spelled (map listed vs)) ≡ 8 * length vs
+listed_is : (vs : List Image) → length (flat_map listed_form.spelled (map listed_vnode vs)) ≡ 8 * length vs
 listed_is [] = refl
 listed_is (v ∷ vs) =
-    let a = ap length (flat_map-cons listed_form.spelled (listed v) (map listed vs)) in
-    let b = length-append (word v.vnode ++ word v.unique) (flat_map listed_form.spelled (map listed vs)) in
+    let a = ap length (flat_map-cons listed_form.spelled (listed_vnode v) (map listed_vnode vs)) in
+    let b = length-append (word v.vnode ++ word v.unique) (flat_map listed_form.spelled (map listed_vnode vs)) in
     let c = behind v.vnode (word v.unique) in
     let d = word_size v.unique in
     let e = listed_is vs in
@@ -77,14 +77,14 @@ marked_is (i ∷ is) =
     let e = marked_is is in
     a ∙ (b ∙ omega (arith, c, d, e))
 
-length_listed : (vs : List Image) → length (map listed vs) ≡ length vs
+length_listed : (vs : List Image) → length (map listed_vnode vs) ≡ length vs
 length_listed [] = refl
 length_listed (v ∷ vs) = ap suc (length_listed vs)
 
 vnodes_is : (is : List Image) → length (vnodes_form.spelled is) ≡ 4 + 8 * length is + images_size is
 vnodes_is is =
-    let a = length-append (word (length (map listed is)) ++ flat_map listed_form.spelled (map listed is)) (flat_map marked_form.spelled is) in
-    let b = behind (length (map listed is)) (flat_map listed_form.spelled (map listed is)) in
+    let a = length-append (word (length (map listed_vnode is)) ++ flat_map listed_form.spelled (map listed_vnode is)) (flat_map marked_form.spelled is) in
+    let b = behind (length (map listed_vnode is)) (flat_map listed_form.spelled (map listed_vnode is)) in
     let c = listed_is is in
     let d = marked_is is in
     a ∙ omega (arith, b, c, d)

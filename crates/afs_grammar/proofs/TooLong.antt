@@ -3,12 +3,12 @@ use Rattle.std.proofs.Common.{◌≡◌, ℕ, ◌+◌, ◌-◌, ◌<◌, ◌≤�
 use Rattle.std.proofs.lemmas.Bool.Decides.{nat_tests}
 use Rattle.afs_num.specs.declared.scripts.Reason.{Reason}
 use Rattle.afs_num.specs.declared.scripts.Reason.TheVariants as reasons
-use Rattle.afs_model.specs.ScriptWords.{◌>>=◌, must, parts}
-use Rattle.afs_model.specs.ScriptText.{is_part}
-use Rattle.afs_history.specs.declared.scripts.Script.{Script}
-use Rattle.afs_model.specs.Script.{at_line}
-use Rattle.afs_model.proofs.ScriptLines.{all_append, uncut}
-use Rattle.afs_grammar.specs.Lines.{LinesRead, nothing_read, line_at, last_at, lines_at, script_of}
+use Rattle.spec_model.specs.ScriptWords.{◌>>=◌, must, parts}
+use Rattle.spec_model.specs.ScriptText.{is_part}
+use Rattle.spec_history.specs.declared.scripts.Script.{Script}
+use Rattle.spec_model.specs.Script.{at_line}
+use Rattle.spec_model.proofs.ScriptLines.{all_append, uncut}
+use Rattle.afs_grammar.specs.Lines.{LinesRead, nothing_read, line_at, last_at, lines_read_from, script_of}
 use Rattle.afs_grammar.proofs.FirstBad.{line_then}
 
 is_or : (t : Bool) → (t ≡ true) ⊎ (t ≡ false)
@@ -58,44 +58,44 @@ still_long : (line bytes : List ℕ) (b room : ℕ) → room < length (line ++ b
 still_long line bytes b room lt within = omega (arith, length-append line (b ∷ bytes), lt, within)
 
 -- a line that begins with too long a front is too long
-over_long : (level : ℕ) (rest line : List ℕ) (r : LinesRead) (number room : ℕ) → is_part 10 line ≡ true → room < length line → lines_at level r number room (parts 10 (line ++ rest)) ≡ Err (number + 1, reasons.Limit)
+over_long : (level : ℕ) (rest line : List ℕ) (r : LinesRead) (number room : ℕ) → is_part 10 line ≡ true → room < length line → lines_read_from level r number room (parts 10 (line ++ rest)) ≡ Err (number + 1, reasons.Limit)
 over_long level [] line r number room h lt =
-    ap (λ (bs : List ℕ). lines_at level r number room (parts 10 bs)) (append-nil line)
-    ∙ (ap (lines_at level r number room) (uncut 10 line h)
+    ap (λ (bs : List ℕ). lines_read_from level r number room (parts 10 bs)) (append-nil line)
+    ∙ (ap (lines_read_from level r number room) (uncut 10 line h)
     ∙ ap (at_line (number + 1)) (last_too_long r (number + 1) room line lt))
 over_long level (b ∷ rest) line r number room h lt = elim (is_or (nat_eq b 10)) [
-  | inl e ↦ ap (λ (x : ℕ). lines_at level r number room (parts 10 (line ++ x ∷ rest))) (eqb-true b 10 e)
+  | inl e ↦ ap (λ (x : ℕ). lines_read_from level r number room (parts 10 (line ++ x ∷ rest))) (eqb-true b 10 e)
       ∙ (line_then level r number room line rest h
-      ∙ ap (λ (o : Result LinesRead Reason). at_line (number + 1) o >>= (λ (s : LinesRead). lines_at level s (number + 1) (room - (length line + 1)) (parts 10 rest))) (line_too_long level r (number + 1) room line (let z : room ≤ length line = omega (arith, lt) in z)))
-  | inr e ↦ ap (λ (bs : List ℕ). lines_at level r number room (parts 10 bs)) (sym (append_assoc line (b ∷ []) rest))
+      ∙ ap (λ (o : Result LinesRead Reason). at_line (number + 1) o >>= (λ (s : LinesRead). lines_read_from level s (number + 1) (room - (length line + 1)) (parts 10 rest))) (line_too_long level r (number + 1) room line (let z : room ≤ length line = omega (arith, lt) in z)))
+  | inr e ↦ ap (λ (bs : List ℕ). lines_read_from level r number room (parts 10 bs)) (sym (append_assoc line (b ∷ []) rest))
       ∙ over_long level rest (line ++ b ∷ []) r number room (with_byte line b h e) (let z : room < length (line ++ b ∷ []) = omega (arith, length-append line (b ∷ []), lt) in z)
 ]
 
-front_decides : (level : ℕ) (bytes line rest : List ℕ) (r : LinesRead) (number room : ℕ) → is_part 10 line ≡ true → room < length (line ++ bytes) → lines_at level r number room (parts 10 (line ++ (bytes ++ rest))) ≡ lines_at level r number room (parts 10 (line ++ bytes))
+front_decides : (level : ℕ) (bytes line rest : List ℕ) (r : LinesRead) (number room : ℕ) → is_part 10 line ≡ true → room < length (line ++ bytes) → lines_read_from level r number room (parts 10 (line ++ (bytes ++ rest))) ≡ lines_read_from level r number room (parts 10 (line ++ bytes))
 front_decides level [] line rest r number room h lt =
     let long : room < length line = omega (arith, length-append line [], lt) in
     over_long level rest line r number room h long ∙ sym (over_long level [] line r number room h long)
 front_decides level (b ∷ bytes) line rest r number room h lt = elim (is_or (nat_eq b 10)) [
-  | inl e ↦ subst (λ (x : ℕ). lines_at level r number room (parts 10 (line ++ x ∷ (bytes ++ rest))) ≡ lines_at level r number room (parts 10 (line ++ x ∷ bytes))) (sym (eqb-true b 10 e))
+  | inl e ↦ subst (λ (x : ℕ). lines_read_from level r number room (parts 10 (line ++ x ∷ (bytes ++ rest))) ≡ lines_read_from level r number room (parts 10 (line ++ x ∷ bytes))) (sym (eqb-true b 10 e))
       (line_then level r number room line (bytes ++ rest) h
-      ∙ (same_behind (line_at level r (number + 1) room line) (number + 1) (λ s. lines_at level s (number + 1) (room - (length line + 1)) (parts 10 (bytes ++ rest))) (λ s. lines_at level s (number + 1) (room - (length line + 1)) (parts 10 bytes))
+      ∙ (same_behind (line_at level r (number + 1) room line) (number + 1) (λ s. lines_read_from level s (number + 1) (room - (length line + 1)) (parts 10 (bytes ++ rest))) (λ s. lines_read_from level s (number + 1) (room - (length line + 1)) (parts 10 bytes))
       (λ s good. front_decides level bytes [] rest s (number + 1) (room - (length line + 1)) refl (still_long line bytes b room lt (line_within level r s (number + 1) room line good)))
       ∙ sym (line_then level r number room line bytes h)))
-  | inr e ↦ ap (λ (bs : List ℕ). lines_at level r number room (parts 10 bs)) (sym (append_assoc line (b ∷ []) (bytes ++ rest)))
+  | inr e ↦ ap (λ (bs : List ℕ). lines_read_from level r number room (parts 10 bs)) (sym (append_assoc line (b ∷ []) (bytes ++ rest)))
       ∙ (front_decides level bytes (line ++ b ∷ []) rest r number room (with_byte line b h e) (subst (λ (bs : List ℕ). room < length bs) (sym (append_assoc line (b ∷ []) bytes)) lt)
-      ∙ ap (λ (bs : List ℕ). lines_at level r number room (parts 10 bs)) (append_assoc line (b ∷ []) bytes))
+      ∙ ap (λ (bs : List ℕ). lines_read_from level r number room (parts 10 bs)) (append_assoc line (b ∷ []) bytes))
 ]
 
-not_whole : (level : ℕ) (bytes line : List ℕ) (r : LinesRead) (number room : ℕ) (s : Script) → is_part 10 line ≡ true → room < length (line ++ bytes) → lines_at level r number room (parts 10 (line ++ bytes)) ≡ Ok s → ⊥
+not_whole : (level : ℕ) (bytes line : List ℕ) (r : LinesRead) (number room : ℕ) (s : Script) → is_part 10 line ≡ true → room < length (line ++ bytes) → lines_read_from level r number room (parts 10 (line ++ bytes)) ≡ Ok s → ⊥
 not_whole level [] line r number room s h lt e =
     let limit = over_long level [] line r number room h (let z : room < length line = omega (arith, length-append line [], lt) in z) in
     absurd cc
 not_whole level (b ∷ bytes) line r number room s h lt e = elim (is_or (nat_eq b 10)) [
-  | inl same ↦ none_behind (line_at level r (number + 1) room line) (number + 1) (λ q. lines_at level q (number + 1) (room - (length line + 1)) (parts 10 bytes)) s
+  | inl same ↦ none_behind (line_at level r (number + 1) room line) (number + 1) (λ q. lines_read_from level q (number + 1) (room - (length line + 1)) (parts 10 bytes)) s
       (λ q good. not_whole level bytes [] q (number + 1) (room - (length line + 1)) s refl (still_long line bytes b room lt (line_within level r q (number + 1) room line good)))
-      (sym (line_then level r number room line bytes h) ∙ (ap (λ (x : ℕ). lines_at level r number room (parts 10 (line ++ x ∷ bytes))) (sym (eqb-true b 10 same)) ∙ e))
+      (sym (line_then level r number room line bytes h) ∙ (ap (λ (x : ℕ). lines_read_from level r number room (parts 10 (line ++ x ∷ bytes))) (sym (eqb-true b 10 same)) ∙ e))
   | inr other ↦ not_whole level bytes (line ++ b ∷ []) r number room s (with_byte line b h other) (subst (λ (bs : List ℕ). room < length bs) (sym (append_assoc line (b ∷ []) bytes)) lt)
-      (ap (λ (bs : List ℕ). lines_at level r number room (parts 10 bs)) (append_assoc line (b ∷ []) bytes) ∙ e)
+      (ap (λ (bs : List ℕ). lines_read_from level r number room (parts 10 bs)) (append_assoc line (b ∷ []) bytes) ∙ e)
 ]
 
 -- what stands behind a front that is too long changes nothing

@@ -1,21 +1,22 @@
 -- Acts, events and plans of a script, by their words.
+use Rattle.spec_ideal.specs.VnodeImage.{most_contents}
 use Rattle.std.specs.Prelude.{ℕ, Bool, true, false, List, Result, Ok, Err}
 use Rattle.std.specs.Option.{ok_or}
 use Rattle.afs_num.specs.declared.types.Node.{Node}
 use Rattle.afs_num.specs.declared.types.Node.TheVariants as nodes
 use Rattle.afs_num.specs.declared.scripts.Reason.{Reason}
 use Rattle.afs_num.specs.declared.scripts.Reason.TheVariants as reasons
-use Rattle.afs_model.specs.ScriptWords.{◌>>=◌, word_at, ended, number_at}
-use Rattle.afs_history.specs.declared.acts.Act.{Act}
-use Rattle.afs_history.specs.declared.acts.Act.TheVariants as acts
-use Rattle.afs_history.specs.declared.scripts.AdminAct.{AdminAct}
-use Rattle.afs_history.specs.declared.scripts.AdminAct.TheVariants as admin_acts
-use Rattle.afs_history.specs.declared.scripts.Task.{Task}
-use Rattle.afs_history.specs.declared.scripts.Task.TheVariants as tasks
-use Rattle.afs_history.specs.declared.scripts.Plan.{Plan}
-use Rattle.afs_history.specs.declared.scripts.Plan.TheVariants as plans
-use Rattle.afs_history.specs.declared.scripts.Event.{Event}
-use Rattle.afs_history.specs.declared.scripts.Event.TheVariants as events
+use Rattle.spec_model.specs.ScriptWords.{◌>>=◌, word_at, no_word_left, number_at}
+use Rattle.spec_history.specs.declared.acts.Act.{Act}
+use Rattle.spec_history.specs.declared.acts.Act.TheVariants as acts
+use Rattle.spec_history.specs.declared.scripts.AdminAct.{AdminAct}
+use Rattle.spec_history.specs.declared.scripts.AdminAct.TheVariants as admin_acts
+use Rattle.spec_history.specs.declared.scripts.Task.{Task}
+use Rattle.spec_history.specs.declared.scripts.Task.TheVariants as tasks
+use Rattle.spec_history.specs.declared.scripts.Plan.{Plan}
+use Rattle.spec_history.specs.declared.scripts.Plan.TheVariants as plans
+use Rattle.spec_history.specs.declared.scripts.Event.{Event}
+use Rattle.spec_history.specs.declared.scripts.Event.TheVariants as events
 use Rattle.afs_words.specs.declared.nodes.Counts.{Counts}
 use Rattle.afs_grammar.specs.declared.spellings.FirstWord.{FirstWord}
 use Rattle.afs_grammar.specs.declared.spellings.FirstWord.TheVariants as firsts
@@ -29,9 +30,6 @@ use Rattle.afs_grammar.specs.Spellings.{act_spelled, admin_spelled, plan_spelled
 use Rattle.afs_words.specs.Words.{actors, all_nodes, callees, callers, disk_nodes, node_at, server_at, name_at, label_at, act_path_at, operand_at, written_at, mode_at}
 
 -- ---- acts of clients
-
-abbrev pub most_contents : ℕ
-most_contents = 2097152
 
 -- of a link's text, and of an access list
 abbrev pub most_text : ℕ
@@ -97,18 +95,18 @@ act_parts words.GetAcl ws = do
   Ok (acts.GetAccessList o.0, o.1)
 act_parts words.GiveUp ws = Ok (acts.GiveUp, ws)
 
-unfoldable pub client_act : Words → Result Act Reason
-client_act ws = do
+unfoldable pub client_act_read : Words → Result Act Reason
+client_act_read ws = do
   word ← word_at ws
   named ← ok_or (act_spelled word.0) reasons.Word
   act ← act_parts named word.1
-  done ← ended act.1
+  done ← no_word_left act.1
   Ok act.0
 
 -- ---- acts of administrators
 
-unfoldable pub dump_parts : List ℕ → Words → Result (AdminAct × Words) Reason
-dump_parts name ws = do
+unfoldable pub dump_act_in : List ℕ → Words → Result (AdminAct × Words) Reason
+dump_act_in name ws = do
   label ← label_at ws
   from ← number_at 0 4294967295 label.1
   Ok (admin_acts.Dump name label.0 from.0, from.1)
@@ -130,27 +128,27 @@ admin_parts c admin_words.Release name ws = Ok (admin_acts.Release name, ws)
 admin_parts c admin_words.Move name ws = do
   server ← server_at c ws
   Ok (admin_acts.Move name server.0, server.1)
-admin_parts c admin_words.Dump name ws = dump_parts name ws
+admin_parts c admin_words.Dump name ws = dump_act_in name ws
 admin_parts c admin_words.Remove name ws = Ok (admin_acts.Remove name, ws)
 admin_parts c admin_words.Recover name ws = Ok (admin_acts.Recover name, ws)
 
 -- each act names its volume first
-unfoldable pub admin_act : Counts → Words → Result AdminAct Reason
-admin_act c ws = do
+unfoldable pub admin_act_read : Counts → Words → Result AdminAct Reason
+admin_act_read c ws = do
   word ← word_at ws
   named ← ok_or (admin_spelled word.0) reasons.Word
   name ← name_at 32 word.1
   act ← admin_parts c named name.0 name.1
-  done ← ended act.1
+  done ← no_word_left act.1
   Ok act.0
 
 -- a client or an administrator
 unfoldable pub task_of : Counts → Node → Words → Result Task Reason
 task_of c (nodes.Client n) ws = do
-  act ← client_act ws
+  act ← client_act_read ws
   Ok (tasks.Client n act)
 task_of c (nodes.Admin n) ws = do
-  act ← admin_act c ws
+  act ← admin_act_read c ws
   Ok (tasks.Admin n act)
 task_of c node ws = Err reasons.Node
 
@@ -182,7 +180,7 @@ plan_at c ws = do
   word ← word_at ws
   named ← ok_or (plan_spelled word.0) reasons.Word
   plan ← plan_parts c named word.1
-  done ← ended plan.1
+  done ← no_word_left plan.1
   Ok plan.0
 
 -- ---- events: each behind its word

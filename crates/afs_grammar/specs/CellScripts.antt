@@ -4,29 +4,29 @@ use Rattle.std.specs.List.{All}
 use Rattle.afs_num.specs.Names.{volume_name_ok}
 use Rattle.afs_num.specs.declared.types.Node.{Node}
 use Rattle.afs_num.specs.declared.types.Node.TheVariants as nodes
-use Rattle.afs_ideal.specs.SetUp.{empty_volume, laid, laid_or}
-use Rattle.afs_ideal.specs.Volumes.{Volume}
-use Rattle.afs_history.specs.Written.{bytes_in}
-use Rattle.afs_history.specs.declared.acts.Act.{Act}
-use Rattle.afs_history.specs.declared.acts.Act.TheVariants as acts
-use Rattle.afs_history.specs.declared.acts.Operand.{Operand}
-use Rattle.afs_history.specs.declared.acts.Operand.TheVariants as operands
-use Rattle.afs_history.specs.declared.acts.Path.{Path}
-use Rattle.afs_history.specs.declared.acts.Written.{Written}
-use Rattle.afs_history.specs.declared.scripts.AdminAct.{AdminAct}
-use Rattle.afs_history.specs.declared.scripts.AdminAct.TheVariants as admin_acts
-use Rattle.afs_history.specs.declared.scripts.Event.{Event}
-use Rattle.afs_history.specs.declared.scripts.Event.TheVariants as events
-use Rattle.afs_history.specs.declared.scripts.Plan.{Plan}
-use Rattle.afs_history.specs.declared.scripts.Plan.TheVariants as plans
-use Rattle.afs_history.specs.declared.scripts.Script.{Script}
-use Rattle.afs_history.specs.declared.scripts.SetupLine.{SetupLine}
-use Rattle.afs_history.specs.declared.scripts.Task.{Task}
-use Rattle.afs_history.specs.declared.scripts.Task.TheVariants as tasks
-use Rattle.afs_history.specs.declared.scripts.UserLine.{UserLine}
-use Rattle.afs_history.specs.declared.scripts.VolumeLine.{VolumeLine}
+use Rattle.spec_ideal.specs.SetUp.{empty_volume, laid, laid_or}
+use Rattle.spec_ideal.specs.Volumes.{Volume}
+use Rattle.spec_history.specs.Written.{bytes_in}
+use Rattle.spec_history.specs.declared.acts.Act.{Act}
+use Rattle.spec_history.specs.declared.acts.Act.TheVariants as acts
+use Rattle.spec_history.specs.declared.acts.Operand.{Operand}
+use Rattle.spec_history.specs.declared.acts.Operand.TheVariants as operands
+use Rattle.spec_history.specs.declared.acts.Path.{Path}
+use Rattle.spec_history.specs.declared.acts.Written.{Written}
+use Rattle.spec_history.specs.declared.scripts.AdminAct.{AdminAct}
+use Rattle.spec_history.specs.declared.scripts.AdminAct.TheVariants as admin_acts
+use Rattle.spec_history.specs.declared.scripts.Event.{Event}
+use Rattle.spec_history.specs.declared.scripts.Event.TheVariants as events
+use Rattle.spec_history.specs.declared.scripts.Plan.{Plan}
+use Rattle.spec_history.specs.declared.scripts.Plan.TheVariants as plans
+use Rattle.spec_history.specs.declared.scripts.Script.{Script}
+use Rattle.spec_history.specs.declared.scripts.SetupLine.{SetupLine}
+use Rattle.spec_history.specs.declared.scripts.Task.{Task}
+use Rattle.spec_history.specs.declared.scripts.Task.TheVariants as tasks
+use Rattle.spec_history.specs.declared.scripts.UserLine.{UserLine}
+use Rattle.spec_history.specs.declared.scripts.VolumeLine.{VolumeLine}
 use Rattle.afs_words.specs.declared.nodes.Counts.{Counts}
-use Rattle.afs_grammar.specs.Lines.{fits_loc, fits_server, has_name, schedule_so_far, script_of, setup_accepts, ticks_in, volumes_at}
+use Rattle.afs_grammar.specs.Lines.{fits_loc, fits_server, has_name, schedule_so_far, script_of, setup_accepts, ticks_in, lines_of_server}
 
 -- from the first number to the last
 abbrev pub IsFrom : ℕ → ℕ → ℕ → Type 0
@@ -155,9 +155,9 @@ pub record IsCellScript (s : Script) : Type 0 where
   pub capacity : IsFrom 65536 268435456 s.capacity
   pub users : All (FitsUser (counts_of s)) s.users
   pub volumes : AreVolumes (counts_of s) 536870912 s.volumes
-  pub few : (server : ℕ) → length (volumes_at server s.volumes) ≤ 64
+  pub few : (server : ℕ) → length (lines_of_server server s.volumes) ≤ 64
   pub apart : AreApart s.volumes
-  pub fits : (server : ℕ) → fits_server s.capacity (volumes_at server s.volumes) ≡ true
+  pub fits : (server : ℕ) → fits_server s.capacity (lines_of_server server s.volumes) ≡ true
   pub loc : fits_loc s.capacity s.volumes ≡ true
   pub tasks : All (FitsTask (counts_of s)) s.tasks
   pub plans : All (FitsPlan (counts_of s)) s.plans

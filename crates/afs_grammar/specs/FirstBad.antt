@@ -2,10 +2,10 @@
 use Rattle.std.specs.Prelude.{◌≡◌, ◌<◌, ℕ, ◌+◌, ◌-◌, List, [], ◌∷◌, ◌++◌, length, true, Result, Ok, Err}
 use Rattle.std.specs.List.{list_all}
 use Rattle.afs_num.specs.declared.scripts.Reason.{Reason}
-use Rattle.afs_history.specs.declared.scripts.Script.{Script}
-use Rattle.afs_model.specs.ScriptWords.{◌>>=◌}
-use Rattle.afs_model.specs.Script.{at_line}
-use Rattle.afs_model.specs.ScriptText.{is_part, closed, room_behind}
+use Rattle.spec_history.specs.declared.scripts.Script.{Script}
+use Rattle.spec_model.specs.ScriptWords.{◌>>=◌}
+use Rattle.spec_model.specs.Script.{at_line}
+use Rattle.spec_model.specs.ScriptText.{is_part, closed, room_behind}
 use Rattle.afs_grammar.specs.Lines.{LinesRead, nothing_read, line_at, last_at, script_of}
 
 -- what lines tell behind others, if all of them are good

@@ -1,4 +1,5 @@
 -- Which bytes are a script, and which; or the first bad line, counted from 1, and why it is bad.
+use Rattle.spec_ideal.specs.VnodeImage.{most_contents}
 use Rattle.std.specs.Prelude.{ℕ, Bool, true, false, List, [], ◌∷◌, ◌++◌, ◌+◌, ◌-◌, ◌%◌, ◌&&◌, ◌||◌, not, nat_eq, nat_le, nat_lt, length, filter, Option, Some, None, Result, Ok, Err, slice_get, slice_set, if◌then◌else◌}
 use Rattle.std.specs.List.{list_all, list_any, position_or_len}
 use Rattle.std.specs.Option.{ok_or}
@@ -6,33 +7,33 @@ use Rattle.std.specs.Str.{bytes_eq}
 use Rattle.afs_num.specs.declared.types.Fid.{Fid}
 use Rattle.afs_num.specs.declared.scripts.Reason.{Reason}
 use Rattle.afs_num.specs.declared.scripts.Reason.TheVariants as reasons
-use Rattle.afs_model.specs.ScriptWords.{◌>>=◌, must, parts, word_at, ended, number_at}
-use Rattle.afs_model.specs.Script.{at_line, is_silent}
-use Rattle.afs_ideal.specs.Tables.{Table, set}
-use Rattle.afs_ideal.specs.Volumes.{Volume}
-use Rattle.afs_ideal.specs.SetUp.{first_volume, laid}
-use Rattle.afs_records.specs.Changes.{at_set_up, record_of_volumes}
-use Rattle.afs_records.specs.Durable.{Stored, place_length}
-use Rattle.afs_history.specs.Written.{bytes_in}
-use Rattle.afs_history.specs.declared.acts.Operand.{Operand}
-use Rattle.afs_history.specs.declared.acts.Operand.TheVariants as operands
-use Rattle.afs_history.specs.declared.acts.Act.TheVariants as acts
-use Rattle.afs_history.specs.declared.scripts.Task.{Task}
-use Rattle.afs_history.specs.declared.scripts.Task.TheVariants as tasks
-use Rattle.afs_history.specs.declared.scripts.Plan.{Plan}
-use Rattle.afs_history.specs.declared.scripts.Event.{Event}
-use Rattle.afs_history.specs.declared.scripts.Event.TheVariants as events
-use Rattle.afs_history.specs.declared.scripts.SetupLine.{SetupLine}
-use Rattle.afs_history.specs.declared.scripts.SetupLine.TheVariants as setups
-use Rattle.afs_history.specs.declared.scripts.VolumeLine.{VolumeLine}
-use Rattle.afs_history.specs.declared.scripts.UserLine.{UserLine}
-use Rattle.afs_history.specs.declared.scripts.Script.{Script}
+use Rattle.spec_model.specs.ScriptWords.{◌>>=◌, must, parts, word_at, no_word_left, number_at}
+use Rattle.spec_model.specs.Script.{at_line, is_silent}
+use Rattle.spec_ideal.specs.Tables.{Table, set}
+use Rattle.spec_ideal.specs.Volumes.{Volume}
+use Rattle.spec_ideal.specs.SetUp.{first_volume, laid}
+use Rattle.spec_records.specs.Changes.{at_set_up, record_of_volumes}
+use Rattle.spec_records.specs.Durable.{Stored, place_length}
+use Rattle.spec_history.specs.Written.{bytes_in}
+use Rattle.spec_history.specs.declared.acts.Operand.{Operand}
+use Rattle.spec_history.specs.declared.acts.Operand.TheVariants as operands
+use Rattle.spec_history.specs.declared.acts.Act.TheVariants as acts
+use Rattle.spec_history.specs.declared.scripts.Task.{Task}
+use Rattle.spec_history.specs.declared.scripts.Task.TheVariants as tasks
+use Rattle.spec_history.specs.declared.scripts.Plan.{Plan}
+use Rattle.spec_history.specs.declared.scripts.Event.{Event}
+use Rattle.spec_history.specs.declared.scripts.Event.TheVariants as events
+use Rattle.spec_history.specs.declared.scripts.SetupLine.{SetupLine}
+use Rattle.spec_history.specs.declared.scripts.SetupLine.TheVariants as setups
+use Rattle.spec_history.specs.declared.scripts.VolumeLine.{VolumeLine}
+use Rattle.spec_history.specs.declared.scripts.UserLine.{UserLine}
+use Rattle.spec_history.specs.declared.scripts.Script.{Script}
 use Rattle.afs_words.specs.declared.nodes.Counts.{Counts}
 use Rattle.afs_grammar.specs.declared.spellings.FirstWord.{FirstWord}
 use Rattle.afs_grammar.specs.declared.spellings.FirstWord.TheVariants as words
 use Rattle.afs_grammar.specs.Spellings.{first_spelled}
 use Rattle.afs_words.specs.Words.{server_at, name_at, label_at, path_at, written_at, node_number_at}
-use Rattle.afs_grammar.specs.Acts.{Words, most_contents, most_text, task_at, plan_at, event_at}
+use Rattle.afs_grammar.specs.Acts.{Words, most_text, task_at, plan_at, event_at}
 use Rattle.afs_grammar.specs.Turns.{next_turn, is_due, has_ended}
 use Rattle.afs_grammar.specs.Forms.{level_of, is_unbuilt}
 
@@ -66,14 +67,14 @@ nothing_read = record {
 unfoldable pub cell_line : LinesRead → Words → Result LinesRead Reason
 cell_line r ws = do
   version ← number_at 1 1 ws
-  done ← ended version.1
+  done ← no_word_left version.1
   Ok r
 
 -- narrower forms have one server
 unfoldable pub servers_line : ℕ → LinesRead → Words → Result LinesRead Reason
 servers_line level r ws = do
   count ← number_at 1 8 ws
-  done ← ended count.1
+  done ← no_word_left count.1
   built ← must (nat_le 7 level || nat_eq count.0 1) reasons.Limit
   Ok (record r { counts = record r.counts { servers = count.0 } })
 
@@ -81,33 +82,33 @@ servers_line level r ws = do
 unfoldable pub clients_line : ℕ → LinesRead → Words → Result LinesRead Reason
 clients_line level r ws = do
   count ← number_at 0 16 ws
-  done ← ended count.1
+  done ← no_word_left count.1
   built ← must (nat_le 6 level || nat_le count.0 1) reasons.Limit
   Ok (record r { counts = record r.counts { clients = count.0 } })
 
 unfoldable pub admins_line : LinesRead → Words → Result LinesRead Reason
 admins_line r ws = do
   count ← number_at 0 4 ws
-  done ← ended count.1
+  done ← no_word_left count.1
   Ok (record r { counts = record r.counts { admins = count.0 } })
 
 unfoldable pub cache_line : LinesRead → Words → Result LinesRead Reason
 cache_line r ws = do
   most ← number_at 1 256 ws
-  done ← ended most.1
+  done ← no_word_left most.1
   Ok (record r { cache = most.0 })
 
 unfoldable pub capacity_line : LinesRead → Words → Result LinesRead Reason
 capacity_line r ws = do
   bytes ← number_at 65536 268435456 ws
-  done ← ended bytes.1
+  done ← no_word_left bytes.1
   Ok (record r { capacity = bytes.0 })
 
 unfoldable pub user_line : LinesRead → Words → Result LinesRead Reason
 user_line r ws = do
   client ← node_number_at 99 r.counts.clients ws
   name ← name_at 64 client.1
-  done ← ended name.1
+  done ← no_word_left name.1
   Ok (record r { users = r.users ++ (record { client = client.0; name = name.0 }) ∷ [] })
 
 -- ---- volumes, and what is laid in them: by the operations of set-up
@@ -120,11 +121,11 @@ abbrev pub setup_accepts : Result Volume ℕ → Result (Unit {0}) Reason
 setup_accepts (Ok v) = Ok tt
 setup_accepts (Err code) = Err (setup_reason code)
 
-abbrev pub is_at : ℕ → VolumeLine → Bool
-is_at server l = nat_eq l.server server
+abbrev pub stands_at_server : ℕ → VolumeLine → Bool
+stands_at_server server l = nat_eq l.server server
 
-abbrev pub volumes_at : ℕ → List VolumeLine → List VolumeLine
-volumes_at server ls = filter (is_at server) ls
+abbrev pub lines_of_server : ℕ → List VolumeLine → List VolumeLine
+lines_of_server server ls = filter (stands_at_server server) ls
 
 abbrev pub stored_all : List VolumeLine → Table Stored
 stored_all [] = []
@@ -154,7 +155,7 @@ new_line count name server quota = record { id = 536870912 + count; name = name;
 
 -- the first records of the server and of the location database fit
 abbrev pub fits_all : ℕ → ℕ → List VolumeLine → Bool
-fits_all capacity server ls = fits_server capacity (volumes_at server ls) && fits_loc capacity ls
+fits_all capacity server ls = fits_server capacity (lines_of_server server ls) && fits_loc capacity ls
 
 -- with one more volume
 abbrev pub volume_fits : ℕ → VolumeLine → List VolumeLine → Result (Unit {0}) Reason
@@ -162,7 +163,7 @@ volume_fits capacity line ls = must (fits_all capacity line.server (ls ++ line �
 
 unfoldable pub volume_accepted : ℕ → LinesRead → VolumeLine → Result (Unit {0}) Reason
 volume_accepted level r line = do
-  few ← must (nat_lt (length (volumes_at line.server r.volumes)) 64) reasons.Limit
+  few ← must (nat_lt (length (lines_of_server line.server r.volumes)) 64) reasons.Limit
   fits ← volume_fits r.capacity line r.volumes
   only ← must (nat_le 7 level || nat_eq (length r.volumes) 0) reasons.Limit
   must (nat_le 5 level || nat_le 1000 line.quota) reasons.Number
@@ -178,7 +179,7 @@ volume_line level r ws = do
   fresh ← must (not (list_any (has_name name.0) r.volumes)) reasons.Name
   server ← server_at r.counts name.1
   quota ← number_at 1 16384 server.1
-  done ← ended quota.1
+  done ← no_word_left quota.1
   volume_added level r (new_line (length r.volumes) name.0 server.0 quota.0)
 
 -- a line at the end of the volume's own
@@ -202,7 +203,7 @@ abbrev pub line_fits_in : ℕ → ℕ → SetupLine → List VolumeLine → Opti
 line_fits_in capacity place x ls None = Err reasons.Path
 line_fits_in capacity place x ls (Some volume) = do
   stands ← setup_accepts (laid volume.id x (first_volume volume))
-  must (fits_server capacity (volumes_at volume.server (slice_set ls place (with_line x volume)))) reasons.Limit
+  must (fits_server capacity (lines_of_server volume.server (slice_set ls place (with_line x volume)))) reasons.Limit
 
 unfoldable pub line_fits : ℕ → ℕ → SetupLine → List VolumeLine → Result (Unit {0}) Reason
 line_fits capacity place x ls = line_fits_in capacity place x ls (slice_get ls place)
@@ -230,28 +231,28 @@ setup_laid level r name x = do
 unfoldable pub dir_line : ℕ → LinesRead → Words → Result LinesRead Reason
 dir_line level r ws = do
   path ← path_at ws
-  done ← ended path.1
+  done ← no_word_left path.1
   setup_laid level r path.0.volume (setups.Directory path.0.names)
 
 unfoldable pub file_line : ℕ → LinesRead → Words → Result LinesRead Reason
 file_line level r ws = do
   path ← path_at ws
   contents ← written_at most_contents path.1
-  done ← ended contents.1
+  done ← no_word_left contents.1
   setup_laid level r path.0.volume (setups.File path.0.names contents.0)
 
 unfoldable pub link_line : ℕ → LinesRead → Words → Result LinesRead Reason
 link_line level r ws = do
   path ← path_at ws
   target ← written_at most_text path.1
-  done ← ended target.1
+  done ← no_word_left target.1
   setup_laid level r path.0.volume (setups.Link path.0.names target.0)
 
 unfoldable pub acl_line : ℕ → LinesRead → Words → Result LinesRead Reason
 acl_line level r ws = do
   path ← path_at ws
   text ← written_at most_text path.1
-  done ← ended text.1
+  done ← no_word_left text.1
   setup_laid level r path.0.volume (setups.AccessList path.0.names text.0)
 
 -- ---- acts and plans
@@ -289,7 +290,7 @@ plan_line r ws = do
 
 unfoldable pub schedule_line : LinesRead → Words → Result LinesRead Reason
 schedule_line r ws = do
-  done ← ended ws
+  done ← no_word_left ws
   Ok (record r { schedule = Some [] })
 
 abbrev pub ticks_of : Event → ℕ
@@ -307,7 +308,7 @@ schedule_so_far (Some es) = es
 -- all ticks of a script are 1,000,000,000 at most
 unfoldable pub event_told : LinesRead → Event → Words → Result LinesRead Reason
 event_told r event ws = do
-  done ← ended ws
+  done ← no_word_left ws
   few ← must (nat_le (ticks_in (schedule_so_far r.schedule ++ event ∷ [])) 1000000000) reasons.Limit
   Ok (record r { schedule = Some (schedule_so_far r.schedule ++ event ∷ []) })
 
@@ -318,7 +319,7 @@ event_line first r ws = do
 
 unfoldable pub end_line : LinesRead → Words → Result LinesRead Reason
 end_line r ws = do
-  done ← ended ws
+  done ← no_word_left ws
   Ok r
 
 -- ---- a line by its first word
@@ -346,8 +347,8 @@ line_by_word level words.Link r ws = link_line level r ws
 line_by_word level words.Acl r ws = acl_line level r ws
 line_by_word level first r ws = line_told level first r ws
 
-unfoldable pub first_of : ℕ → List ℕ → Result FirstWord Reason
-first_of level word = do
+unfoldable pub first_word : ℕ → List ℕ → Result FirstWord Reason
+first_word level word = do
   first ← ok_or (first_spelled word) reasons.Word
   built ← must (nat_le (level_of first) level) reasons.Word
   Ok first
@@ -355,7 +356,7 @@ first_of level word = do
 unfoldable pub line_of : ℕ → LinesRead → Words → Result LinesRead Reason
 line_of level r line = do
   word ← word_at line
-  first ← first_of level word.0
+  first ← first_word level word.0
   due ← must (is_due r.turn first) reasons.Order
   built ← must (not (is_unbuilt level first word.1)) reasons.Word
   line_by_word level first (record r { turn = next_turn first }) word.1
@@ -394,13 +395,13 @@ last_at r number room last = do
   Ok (script_in r)
 
 -- the lines from here on, of which `number` were read
-abbrev pub lines_at : ℕ → LinesRead → ℕ → ℕ → List (List ℕ) → Result Script (ℕ × Reason)
-lines_at level r number room [] = Err (number + 1, reasons.Missing)
-lines_at level r number room (last ∷ []) = at_line (number + 1) (last_at r (number + 1) room last)
-lines_at level r number room (line ∷ next ∷ more) = do
+abbrev pub lines_read_from : ℕ → LinesRead → ℕ → ℕ → List (List ℕ) → Result Script (ℕ × Reason)
+lines_read_from level r number room [] = Err (number + 1, reasons.Missing)
+lines_read_from level r number room (last ∷ []) = at_line (number + 1) (last_at r (number + 1) room last)
+lines_read_from level r number room (line ∷ next ∷ more) = do
   read ← at_line (number + 1) (line_at level r (number + 1) room line)
-  lines_at level read (number + 1) (room - (length line + 1)) (next ∷ more)
+  lines_read_from level read (number + 1) (room - (length line + 1)) (next ∷ more)
 
 -- a script of the form of this level; it has at most 16,777,216 bytes
 unfoldable pub script_of : ℕ → List ℕ → Result Script (ℕ × Reason)
-script_of level bytes = lines_at level nothing_read 0 16777216 (parts 10 bytes)
+script_of level bytes = lines_read_from level nothing_read 0 16777216 (parts 10 bytes)

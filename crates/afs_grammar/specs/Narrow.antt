@@ -1,6 +1,6 @@
 -- What narrower forms have.
 use Rattle.std.specs.Prelude.{◌≡◌, ◌<◌, ℕ, List, Ok}
-use Rattle.afs_history.specs.declared.scripts.Script.{Script}
+use Rattle.spec_history.specs.declared.scripts.Script.{Script}
 use Rattle.afs_grammar.specs.Lines.{script_of}
 
 -- below the level of several servers a script has one

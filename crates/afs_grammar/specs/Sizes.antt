@@ -1,14 +1,14 @@
 -- How long the first record of a server is, counted by its volumes, whose numbers ascend; and that of the location database.
-use Rattle.afs_ideal.specs.SetUp.{first_volume}
+use Rattle.spec_ideal.specs.SetUp.{first_volume}
 use Rattle.std.specs.Prelude.{◌≡◌, ◌≤◌, ℕ, ◌+◌, List, [], ◌∷◌, length}
-use Rattle.afs_ideal.specs.Images.{acl_by}
-use Rattle.afs_ideal.specs.Tables.{Table}
-use Rattle.afs_ideal.specs.Volumes.{Vnode, Volume, bytes_by}
-use Rattle.afs_records.specs.Changes.{record_of_volumes}
-use Rattle.afs_records.specs.Durable.{place_length}
-use Rattle.afs_records.specs.LocDurable.{loc_first_record}
-use Rattle.afs_records.specs.LocRecords.{loc_record_bytes}
-use Rattle.afs_history.specs.declared.scripts.VolumeLine.{VolumeLine}
+use Rattle.spec_ideal.specs.Images.{acl_by}
+use Rattle.spec_ideal.specs.Tables.{Table}
+use Rattle.spec_ideal.specs.Volumes.{Vnode, Volume, bytes_by}
+use Rattle.spec_records.specs.Changes.{record_of_volumes}
+use Rattle.spec_records.specs.Durable.{place_length}
+use Rattle.spec_records.specs.LocDurable.{loc_first_record}
+use Rattle.spec_records.specs.LocRecords.{loc_record_bytes}
+use Rattle.spec_history.specs.declared.scripts.VolumeLine.{VolumeLine}
 use Rattle.afs_grammar.specs.Lines.{filled_up, loc_length, stored_all}
 
 -- a vnode has two words where it is listed, and its image has seventeen and a mark, beside its access list and its bytes

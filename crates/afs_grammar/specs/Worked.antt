@@ -3,10 +3,10 @@ use Rattle.std.specs.Prelude.{◌≡◌, ℕ, List, [], ◌∷◌, ◌++◌, Som
 use Rattle.afs_num.specs.declared.scripts.Reason.{Reason}
 use Rattle.afs_num.specs.declared.scripts.Reason.TheVariants as reasons
 use Rattle.afs_num.specs.declared.types.Node.TheVariants as nodes
-use Rattle.afs_history.specs.declared.acts.Act.TheVariants as acts
-use Rattle.afs_history.specs.declared.acts.Operand.TheVariants as operands
-use Rattle.afs_history.specs.declared.scripts.Event.TheVariants as events
-use Rattle.afs_history.specs.declared.scripts.Task.TheVariants as tasks
+use Rattle.spec_history.specs.declared.acts.Act.TheVariants as acts
+use Rattle.spec_history.specs.declared.acts.Operand.TheVariants as operands
+use Rattle.spec_history.specs.declared.scripts.Event.TheVariants as events
+use Rattle.spec_history.specs.declared.scripts.Task.TheVariants as tasks
 use Rattle.afs_grammar.specs.Lines.{script_of}
 
 abbrev pub whole : ℕ

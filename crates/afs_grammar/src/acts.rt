@@ -1,17 +1,15 @@
 //! Acts and plans.
 
 ghost use Rattle.std.specs.Prelude.{◌≡◌};
-ghost use Rattle.afs_history.specs.declared.scripts.Plan.TheVariants as plans;
+ghost use Rattle.spec_history.specs.declared.scripts.Plan.TheVariants as plans;
 ghost use Rattle.afs_grammar.specs.declared.spellings.ActWord.TheVariants as act_words;
 ghost use Rattle.afs_grammar.specs.declared.spellings.AdminWord.TheVariants as admin_words;
 ghost use Rattle.afs_grammar.specs.declared.spellings.PlanWord.TheVariants as plan_words;
 ghost use Rattle.afs_words.specs.Words.{server_at};
-ghost use Rattle.afs_grammar.specs.Acts.{act_parts, client_act, dump_parts, admin_parts, admin_act, task_of, plan_parts, plan_at};
+ghost use Rattle.afs_grammar.specs.Acts.{act_parts, client_act_read, dump_act_in, admin_parts, admin_act_read, task_of, plan_parts, plan_at};
 ghost use Rattle.afs_words.specs.Reads.{Reads, ReadsInMemory, Gives};
 
 use crate::spellings::{ActWord, AdminWord, PlanWord, act_spelled, admin_spelled, plan_spelled};
-use afs_history::acts::Act;
-use afs_history::scripts::{AdminAct, Plan, Task};
 use afs_num::scripts::Reason;
 use afs_num::sequences::Octets;
 use afs_num::types::Node;
@@ -21,6 +19,8 @@ use afs_words::names::{act_path, label, operand, volume_name};
 use afs_words::nodes::{ALL_NODES, Counts, node, one_of};
 use afs_words::parts::Parts;
 use afs_words::words::{end, number, word};
+use spec_history::acts::Act;
+use spec_history::scripts::{AdminAct, Plan, Task};
 use std::alloc::Global;
 
 /// The act that holds this operand alone.
@@ -113,9 +113,9 @@ fn set_access_list(alloc: Global, words: &mut Parts<'_>) -> Result<Act, LineFaul
     Ok(Act::SetAccessList { operand, text })
 }
 
-#[tactic(auto, unfolding(crate::specs::Acts::client_act))]
+#[tactic(auto, unfolding(crate::specs::Acts::client_act_read))]
 fn client_act(alloc: Global, words: &mut Parts<'_>) -> Result<Act, LineFault>
-    ensures { Gives (client_act words.old) result }
+    ensures { Gives (client_act_read words.old) result }
 {
     let named = act_spelled(word(words)?).ok_or(Reason::Word)?;
     let act = act_parts(alloc, named, words)?;
@@ -160,9 +160,9 @@ fn restore(
     })
 }
 
-#[tactic(auto, unfolding(crate::specs::Acts::dump_parts))]
+#[tactic(auto, unfolding(crate::specs::Acts::dump_act_in))]
 fn dump(alloc: Global, name: Octets, words: &mut Parts<'_>) -> Result<AdminAct, LineFault>
-    ensures { ReadsInMemory (dump_parts name) (λ a. a) words.old words.new result }
+    ensures { ReadsInMemory (dump_act_in name) (λ a. a) words.old words.new result }
 {
     let label = Octets::from_slice(alloc, label(words)?)?;
     let from = number(words, 0, 4_294_967_295)? as u32;
@@ -199,9 +199,9 @@ fn admin_parts(
     }
 }
 
-#[tactic(auto, unfolding(crate::specs::Acts::admin_act))]
+#[tactic(auto, unfolding(crate::specs::Acts::admin_act_read))]
 fn admin_act(alloc: Global, counts: Counts, words: &mut Parts<'_>) -> Result<AdminAct, LineFault>
-    ensures { Gives (admin_act counts words.old) result }
+    ensures { Gives (admin_act_read counts words.old) result }
 {
     let named = admin_spelled(word(words)?).ok_or(Reason::Word)?;
     let name = volume_name(alloc, words)?;

@@ -5,12 +5,12 @@ ghost use Rattle.afs_grammar.specs.Acts.{event_at, act_event, deliver_event, tim
 ghost use Rattle.afs_words.specs.Reads.{Reads};
 
 use crate::spellings::FirstWord;
-use afs_history::scripts::Event;
 use afs_num::scripts::Reason;
 use afs_num::types::Node;
 use afs_words::nodes::{ACTORS, ALL_NODES, CALLERS, Counts, DISK_NODES, callees, node, one_of};
 use afs_words::parts::Parts;
 use afs_words::words::number;
+use spec_history::scripts::Event;
 
 #[tactic(auto, unfolding(crate::specs::Acts::act_event))]
 fn act(counts: Counts, words: &mut Parts<'_>) -> Result<Event, Reason>

@@ -2,13 +2,13 @@
 
 ghost use Rattle.std.specs.Prelude.{◌≡◌, ◌++◌, ◌∷◌, [], List, true, OnOk};
 ghost use Rattle.afs_num.specs.Names.{volume_name_ok};
-ghost use Rattle.afs_history.specs.declared.scripts.VolumeLine.{VolumeLine};
+ghost use Rattle.spec_history.specs.declared.scripts.VolumeLine.{VolumeLine};
 ghost use Rattle.afs_words.specs.Reads.{Gives};
 ghost use Rattle.afs_grammar.specs.Grounds.{IsNext};
 ghost use Rattle.afs_grammar.specs.Lines.{line_fits, line_laid, volume_fits};
 
-use afs_history::scripts::{SetupLine, VolumeLine};
 use afs_words::faults::LineFault;
+use spec_history::scripts::{SetupLine, VolumeLine};
 use std::alloc::Global;
 
 /// The volumes at set-up. A ground need not hold the lines that were laid on it. After a refusal, or where memory was

@@ -2,9 +2,9 @@
 
 ghost use Rattle.std.specs.Prelude.{◌≡◌, ◌≤◌, ◌<◌, ◌+◌, ◌++◌, ◌∷◌, ◌^◌, ℕ, [], length, nat_le, true, Ok, Err, Some, IfOk, OnErr, OnOk};
 ghost use Rattle.afs_num.specs.Names.{volume_name_ok};
-ghost use Rattle.afs_history.specs.declared.scripts.Task.TheVariants.{Client};
-ghost use Rattle.afs_model.specs.Script.{is_silent};
-ghost use Rattle.afs_grammar.specs.Lines.{nothing_read, cell_line, servers_line, clients_line, admins_line, cache_line, capacity_line, user_line, new_line, line_laid, volume_accepted, volume_added, volume_line, setup_accepted, setup_laid, dir_line, file_line, link_line, acl_line, is_file_here, is_operand_here, task_bounded, bounded_for, do_line, plan_line, schedule_line, schedule_so_far, event_told, event_line, end_line, line_told, line_by_word, first_of, line_of, line_at, script_in, last_at, ticks_of};
+ghost use Rattle.spec_history.specs.declared.scripts.Task.TheVariants.{Client};
+ghost use Rattle.spec_model.specs.Script.{is_silent};
+ghost use Rattle.afs_grammar.specs.Lines.{nothing_read, cell_line, servers_line, clients_line, admins_line, cache_line, capacity_line, user_line, new_line, line_laid, volume_accepted, volume_added, volume_line, setup_accepted, setup_laid, dir_line, file_line, link_line, acl_line, is_file_here, is_operand_here, task_bounded, bounded_for, do_line, plan_line, schedule_line, schedule_so_far, event_told, event_line, end_line, line_told, line_by_word, first_word, line_of, line_at, script_in, last_at, ticks_of};
 ghost use Rattle.afs_grammar.specs.Grounds.{IsNext};
 ghost use Rattle.afs_words.specs.Reads.{Gives};
 ghost use Rattle.afs_grammar.specs.Heard.{Hears};
@@ -16,11 +16,6 @@ use crate::ground::Ground;
 use crate::spellings::{FirstWord, first_spelled};
 use crate::turns::{ENDED, is_due, next_turn};
 use crate::volumes::{are_bare, count_at, is_taken, place_of, written_length};
-use afs_history::acts::{Act, Operand, Path};
-use afs_history::scripts::{
-    Event, Events, Plans, Script, SetupLine, SetupLines, Task, Tasks, UserLine, UserLines,
-    VolumeLine, VolumeLines,
-};
 use afs_num::scripts::Reason;
 use afs_num::sequences::Octets;
 use afs_num::types::Fid;
@@ -30,6 +25,11 @@ use afs_words::names::{label, name, path};
 use afs_words::nodes::{ACTORS, Counts, node, one_of};
 use afs_words::parts::Parts;
 use afs_words::words::{end, must, number, word};
+use spec_history::acts::{Act, Operand, Path};
+use spec_history::scripts::{
+    Event, Events, Plans, Script, SetupLine, SetupLines, Task, Tasks, UserLine, UserLines,
+    VolumeLine, VolumeLines,
+};
 use std::alloc::{AllocError, Global};
 use std::marker::Model;
 
@@ -694,9 +694,9 @@ fn ticks_of(event: Event) -> u64
 }
 
 /// The word that a line begins with, if it is built.
-#[tactic(auto, unfolding(crate::specs::Lines::first_of))]
+#[tactic(auto, unfolding(crate::specs::Lines::first_word))]
 fn first_of(form: Form, word: &[u8]) -> Result<FirstWord, Reason>
-    ensures { result ≡ first_of form.level word.now }
+    ensures { result ≡ first_word form.level word.now }
 {
     let first = first_spelled(word).ok_or(Reason::Word)?;
     must(form.has(first), Reason::Word)?;

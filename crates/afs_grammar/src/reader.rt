@@ -1,18 +1,18 @@
 //! The reader of scripts.
 
 ghost use Rattle.std.specs.Prelude.{◌≡◌, ◌<◌, ◌≤◌, [], length, IfOk, OnOk};
-ghost use Rattle.afs_model.specs.Script.{at_line};
-ghost use Rattle.afs_grammar.specs.Lines.{line_at, lines_at, nothing_read, script_of};
+ghost use Rattle.spec_model.specs.Script.{at_line};
+ghost use Rattle.afs_grammar.specs.Lines.{line_at, lines_read_from, nothing_read, script_of};
 ghost use Rattle.afs_words.specs.Reads.{GivesAtLine, IsAtLine};
 ghost use Rattle.afs_grammar.specs.Heard.{HearsAtLine};
 
 use crate::forms::Form;
 use crate::ground::Ground;
 use crate::lines::LinesRead;
-use afs_history::scripts::Script;
 use afs_num::scripts::Reason;
 use afs_words::faults::{LineFault, ScriptFault};
 use afs_words::parts::Parts;
+use spec_history::scripts::Script;
 use std::alloc::Global;
 
 /// The most bytes of a script.
@@ -60,7 +60,7 @@ fn read_lines<G: Ground>(
     mut lines: Parts<'_>,
 ) -> Result<Script, ScriptFault>
     requires { G.lays ground.old [] }
-    ensures script { GivesAtLine (lines_at form.level nothing_read 0 16777216 lines.entry) result }
+    ensures script { GivesAtLine (lines_read_from form.level nothing_read 0 16777216 lines.entry) result }
     ensures laid { IfOk result (λ s. G.lays ground.new s.volumes) }
 {
     let mut reading = LinesRead::new(alloc);

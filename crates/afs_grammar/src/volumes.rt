@@ -2,11 +2,11 @@
 
 ghost use Rattle.std.specs.Prelude.{◌≡◌, ◌≤◌, length, filter, Ok, Err, IfOk, OnOk};
 ghost use Rattle.std.specs.List.{list_all, list_any, position_or_len};
-ghost use Rattle.afs_history.specs.Written.{bytes_in};
-ghost use Rattle.afs_grammar.specs.Lines.{has_name, has_no_lines, is_at, place_of, volumes_at, written_length};
+ghost use Rattle.spec_history.specs.Written.{bytes_in};
+ghost use Rattle.afs_grammar.specs.Lines.{has_name, has_no_lines, stands_at_server, place_of, lines_of_server, written_length};
 
-use afs_history::scripts::{SetupLine, VolumeLine};
 use afs_words::bytes::length_of;
+use spec_history::scripts::{SetupLine, VolumeLine};
 
 pub fn has_name(volume: &VolumeLine, name: &[u8]) -> bool
     ensures { result ≡ has_name name.now volume.now }
@@ -33,7 +33,7 @@ pub fn is_taken(name: &[u8], volumes: &[VolumeLine]) -> bool
 
 /// How many volumes the server has.
 pub fn count_at(server: u8, volumes: &[VolumeLine]) -> usize
-    ensures { result ≡ length (volumes_at server volumes.now) }
+    ensures { result ≡ length (lines_of_server server volumes.now) }
 {
     volumes
         .iter()

@@ -4,19 +4,19 @@ use Rattle.std.specs.Prelude.{◌&&◌}
 use Rattle.std.proofs.lemmas.Option.{slice_get-get_or, slice_get_past}
 use Rattle.afs_num.specs.declared.scripts.Reason.{Reason}
 use Rattle.afs_num.specs.declared.scripts.Reason.TheVariants as reasons
-use Rattle.afs_ideal.specs.SetUp.{empty_volume, filled_by, first_volume, laid, laid_or}
-use Rattle.afs_ideal.specs.Volumes.{Volume}
-use Rattle.afs_history.specs.declared.scripts.SetupLine.{SetupLine}
-use Rattle.afs_history.specs.declared.scripts.VolumeLine.{VolumeLine}
-use Rattle.afs_model.specs.ScriptWords.{must}
-use Rattle.afs_records.specs.Changes.{record_of_volumes}
-use Rattle.afs_records.specs.Durable.{place_length}
+use Rattle.spec_ideal.specs.SetUp.{empty_volume, filled_by, first_volume, laid, laid_or}
+use Rattle.spec_ideal.specs.Volumes.{Volume}
+use Rattle.spec_history.specs.declared.scripts.SetupLine.{SetupLine}
+use Rattle.spec_history.specs.declared.scripts.VolumeLine.{VolumeLine}
+use Rattle.spec_model.specs.ScriptWords.{must}
+use Rattle.spec_records.specs.Changes.{record_of_volumes}
+use Rattle.spec_records.specs.Durable.{place_length}
 use Rattle.afs_volume.specs.Giving.{volume_of}
 use Rattle.afs_words.specs.Reads.{Gives}
 use Rattle.afs_words.specs.declared.faults.LineFault.{LineFault}
 use Rattle.afs_words.specs.declared.faults.LineFault.TheVariants as faults
 use Rattle.afs_grammar.specs.Grounds.{IsNext}
-use Rattle.afs_grammar.specs.Lines.{fits_all, fits_loc, fits_server, is_at, line_fits, line_fits_in, line_laid, line_laid_in, loc_length, setup_accepts, stored_all, volume_fits, volumes_at, with_line}
+use Rattle.afs_grammar.specs.Lines.{fits_all, fits_loc, fits_server, stands_at_server, line_fits, line_fits_in, line_laid, line_laid_in, loc_length, setup_accepts, stored_all, volume_fits, lines_of_server, with_line}
 use Rattle.afs_grammar.specs.Sizes.{volume_size, volumes_size, AscendFrom}
 use Rattle.afs_grammar.proofs.Sizes.{first_record}
 use Rattle.afs_ground.specs.Grounds.{names_size, sizes_at, AreLaid, AreNumbered, IsGround, IsLaid}
@@ -102,13 +102,13 @@ sized_by : (t : Bool) (size sizes : ℕ) (l : VolumeLine) (ls : List VolumeLine)
 sized_by true size sizes l ls one more = omega (arith, one, more)
 sized_by false size sizes l ls one more = omega (arith, more)
 
-sizes_are : (server : ℕ) (gs : List Laid) (ls : List VolumeLine) → AreLaid gs ls → sizes_at server gs ≡ volumes_size (volumes_at server ls)
+sizes_are : (server : ℕ) (gs : List Laid) (ls : List VolumeLine) → AreLaid gs ls → sizes_at server gs ≡ volumes_size (lines_of_server server ls)
 sizes_are server [] [] h = refl
 sizes_are server [] (l ∷ ls) h = absurd h
 sizes_are server (g ∷ gs) [] h = absurd h
 sizes_are server (g ∷ gs) (l ∷ ls) h =
     ap (λ (s : ℕ). (if nat_eq s server then g.size else 0) + sizes_at server gs) h.0.server
-    ∙ sized_by (is_at server l) g.size (sizes_at server gs) l (volumes_at server ls) h.0.size (sizes_are server gs ls h.1)
+    ∙ sized_by (stands_at_server server l) g.size (sizes_at server gs) l (lines_of_server server ls) h.0.size (sizes_are server gs ls h.1)
 
 names_are : (gs : List Laid) (ls : List VolumeLine) → AreLaid gs ls → 40 + names_size gs ≡ loc_length ls
 names_are [] [] h = refl
@@ -120,16 +120,16 @@ ascend_by : (t : Bool) (m : ℕ) (l : VolumeLine) (ls : List VolumeLine) → m �
 ascend_by true m l ls le low high = (le, high)
 ascend_by false m l ls le low high = low
 
-ascend : (m n server : ℕ) (ls : List VolumeLine) → m ≤ n → AreNumbered n ls → AscendFrom m (volumes_at server ls)
+ascend : (m n server : ℕ) (ls : List VolumeLine) → m ≤ n → AreNumbered n ls → AscendFrom m (lines_of_server server ls)
 ascend m n server [] le h = tt
 ascend m n server (l ∷ ls) le h =
-    ascend_by (is_at server l) m l (volumes_at server ls) (omega (arith, le, h.0)) (ascend m (n + 1) server ls (omega (arith, le)) h.1) (ascend (l.id + 1) (n + 1) server ls (omega (arith, h.0)) h.1)
+    ascend_by (stands_at_server server l) m l (lines_of_server server ls) (omega (arith, le, h.0)) (ascend m (n + 1) server ls (omega (arith, le)) h.1) (ascend (l.id + 1) (n + 1) server ls (omega (arith, h.0)) h.1)
 
-pub server_fits : (capacity server : ℕ) (gs : List Laid) (ls : List VolumeLine) → IsGround gs ls → nat_le (42 + sizes_at server gs) capacity ≡ fits_server capacity (volumes_at server ls)
+pub server_fits : (capacity server : ℕ) (gs : List Laid) (ls : List VolumeLine) → IsGround gs ls → nat_le (42 + sizes_at server gs) capacity ≡ fits_server capacity (lines_of_server server ls)
 server_fits capacity server gs ls h =
     let sizes = sizes_are server gs ls h.volumes in
-    let sum = first_record 536870912 (volumes_at server ls) (ascend 536870912 536870912 server ls (omega arith) h.numbers) in
-    ap (λ (n : ℕ). nat_le n capacity) (let z : 42 + sizes_at server gs ≡ 1 + place_length (record_of_volumes (stored_all (volumes_at server ls))) = omega (arith, sizes, sum) in z)
+    let sum = first_record 536870912 (lines_of_server server ls) (ascend 536870912 536870912 server ls (omega arith) h.numbers) in
+    ap (λ (n : ℕ). nat_le n capacity) (let z : 42 + sizes_at server gs ≡ 1 + place_length (record_of_volumes (stored_all (lines_of_server server ls))) = omega (arith, sizes, sum) in z)
 
 loc_fits : (capacity : ℕ) (gs : List Laid) (ls : List VolumeLine) → IsGround gs ls → nat_le (50 + names_size gs) capacity ≡ fits_loc capacity ls
 loc_fits capacity gs ls h =
@@ -139,7 +139,7 @@ loc_fits capacity gs ls h =
 pub both_fit : (capacity server : ℕ) (gs : List Laid) (ls : List VolumeLine) → IsGround gs ls → (nat_le (42 + sizes_at server gs) capacity && nat_le (50 + names_size gs) capacity) ≡ fits_all capacity server ls
 both_fit capacity server gs ls h =
     ap (λ (t : Bool). t && nat_le (50 + names_size gs) capacity) (server_fits capacity server gs ls h)
-    ∙ ap (λ (t : Bool). fits_server capacity (volumes_at server ls) && t) (loc_fits capacity gs ls h)
+    ∙ ap (λ (t : Bool). fits_server capacity (lines_of_server server ls) && t) (loc_fits capacity gs ls h)
 
 -- ---- a volume
 
@@ -187,7 +187,7 @@ refuses capacity place x gs ls g e there h declines = refuses_at capacity place 
 
 -- the volume of a place takes the line, and the sum decides
 takes_by : (capacity place : ℕ) (x : SetupLine) (ls : List VolumeLine) (l : VolumeLine) → setup_accepts (laid l.id x (first_volume l)) ≡ Ok tt
-    → line_fits_in capacity place x ls (Some l) ≡ must (fits_server capacity (volumes_at l.server (slice_set ls place (with_line x l)))) reasons.Limit
+    → line_fits_in capacity place x ls (Some l) ≡ must (fits_server capacity (lines_of_server l.server (slice_set ls place (with_line x l)))) reasons.Limit
 takes_by capacity place x ls l accepted = rw accepted refl
 
 takes_at : (capacity place : ℕ) (x : SetupLine) (gs : List Laid) (ls : List VolumeLine) (g : Laid) (at : At ls place g) → IsGround gs (line_laid place x ls) → ((l : VolumeLine) → IsLaid g l → setup_accepts (laid l.id x (first_volume l)) ≡ Ok tt)
@@ -196,8 +196,8 @@ unfolding line_fits
 takes_at capacity place x gs ls g at h accepted =
     let l : VolumeLine = at.0 in
     let put : line_laid place x ls ≡ slice_set ls place (with_line x l) = ap (line_laid_in place x ls) at.1.0 in
-    let fits : nat_le (42 + sizes_at g.server gs) capacity ≡ fits_server capacity (volumes_at l.server (slice_set ls place (with_line x l))) =
-    server_fits capacity g.server gs (line_laid place x ls) h ∙ (ap (λ (s : ℕ). fits_server capacity (volumes_at s (line_laid place x ls))) at.1.1.server ∙ ap (λ (zs : List VolumeLine). fits_server capacity (volumes_at l.server zs)) put) in
+    let fits : nat_le (42 + sizes_at g.server gs) capacity ≡ fits_server capacity (lines_of_server l.server (slice_set ls place (with_line x l))) =
+    server_fits capacity g.server gs (line_laid place x ls) h ∙ (ap (λ (s : ℕ). fits_server capacity (lines_of_server s (line_laid place x ls))) at.1.1.server ∙ ap (λ (zs : List VolumeLine). fits_server capacity (lines_of_server l.server zs)) put) in
     ap (line_fits_in capacity place x ls) at.1.0 ∙ (takes_by capacity place x ls l (accepted l at.1.1) ∙ ap (λ (t : Bool). must t reasons.Limit) (sym fits))
 
 pub takes : (capacity place : ℕ) (x : SetupLine) (gs : List Laid) (ls : List VolumeLine) (old new : Laid) (server : ℕ) (fits : Bool) → slice_get gs place ≡ Some old → IsGround gs ls → ((l : VolumeLine) → IsLaid old l → IsLaid new (with_line x l))

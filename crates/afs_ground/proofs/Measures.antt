@@ -2,7 +2,7 @@
 use Rattle.std.proofs.Common.{◌≡◌, ℕ, zero, suc, ◌+◌, ◌≤◌, [], ◌∷◌, length, take, slice_get, nat_eq, refl, ap, arith}
 use Rattle.std.proofs.lemmas.Bool.Decides.{nat_tests}
 use Rattle.afs_num.specs.declared.vnodes.Vnode as image
-use Rattle.afs_ideal.specs.Tables.{Table, AscendsFrom}
+use Rattle.spec_ideal.specs.Tables.{Table, AscendsFrom}
 use Rattle.afs_volume.specs.Giving.{volume_of}
 use Rattle.afs_volume.specs.Seen.{all_seen, seen, AreReadable, IsReadable}
 use Rattle.afs_volume.specs.declared.volume.Volume.{Volume}

@@ -1,7 +1,7 @@
 -- When a ground lays the volumes of a script.
 use Rattle.std.specs.Prelude.{◌≡◌, ℕ, ◌+◌, List, [], ◌∷◌, length, nat_eq, if◌then◌else◌}
-use Rattle.afs_ideal.specs.SetUp.{first_volume}
-use Rattle.afs_history.specs.declared.scripts.VolumeLine.{VolumeLine}
+use Rattle.spec_ideal.specs.SetUp.{first_volume}
+use Rattle.spec_history.specs.declared.scripts.VolumeLine.{VolumeLine}
 use Rattle.afs_volume.specs.Giving.{volume_of}
 use Rattle.afs_grammar.specs.Lines.{filled_up}
 use Rattle.afs_grammar.specs.Sizes.{volume_size}

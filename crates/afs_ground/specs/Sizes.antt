@@ -1,7 +1,7 @@
 -- How long a volume in memory is in the first record of its server.
 use Rattle.std.specs.Prelude.{ℕ, ◌+◌, [], ◌∷◌, Option, Some, None, length}
 use Rattle.afs_num.specs.declared.vnodes.Vnode as image
-use Rattle.afs_ideal.specs.Tables.{Table}
+use Rattle.spec_ideal.specs.Tables.{Table}
 use Rattle.afs_grammar.specs.Lines.{filled_up}
 
 abbrev pub image_size : image.Vnode → ℕ

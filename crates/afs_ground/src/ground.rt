@@ -5,10 +5,10 @@ ghost use Rattle.afs_ground.specs.Grounds.{names_size, sizes_at, IsGround};
 
 use crate::laid::{Laid, fit_at, names_fit};
 use afs_grammar::ground::Ground;
-use afs_history::scripts::{SetupLine, VolumeLine};
 use afs_num::scripts::Reason;
 use afs_words::faults::LineFault;
 use afs_words::words::must;
+use spec_history::scripts::{SetupLine, VolumeLine};
 use std::alloc::Global;
 
 /// How many bytes a disk has on which a server's first record tells no volume: the journal's first byte, and a record's place.

@@ -2,22 +2,22 @@
 
 ghost use Rattle.std.specs.Prelude.{◌≡◌, ◌≤◌, ℕ, [], Result, Ok, Err, true, pos, nat_le, IfOk, OnOk};
 ghost use Rattle.afs_num.specs.Names.{volume_name_ok};
-ghost use Rattle.afs_ideal.specs.SetUp.{first_volume, laid};
-ghost use Rattle.afs_ideal.specs.Volumes.{Volume as Ideal};
-ghost use Rattle.afs_history.specs.declared.scripts.VolumeLine.{VolumeLine};
+ghost use Rattle.spec_ideal.specs.SetUp.{first_volume, laid};
+ghost use Rattle.spec_ideal.specs.Volumes.{Volume as Ideal};
+ghost use Rattle.spec_history.specs.declared.scripts.VolumeLine.{VolumeLine};
 ghost use Rattle.afs_laying.specs.Filled.{IsCodeOf};
 ghost use Rattle.afs_words.specs.Reads.{Gives};
 ghost use Rattle.afs_grammar.specs.Lines.{setup_accepts, setup_reason, with_line};
 ghost use Rattle.afs_ground.specs.Grounds.{names_size, sizes_at, IsLaid};
 
 use crate::sizes::{filled_up, volume_size};
-use afs_history::scripts::{SetupLine, VolumeLine};
 use afs_laying::lay;
 use afs_num::scripts::Reason;
 use afs_num::types::{Code, Mem};
 use afs_reads::faults::OpFault;
 use afs_volume::Volume;
 use afs_words::faults::LineFault;
+use spec_history::scripts::{SetupLine, VolumeLine};
 use std::alloc::Global;
 
 /// A volume that is laid: its server, how long its name is, filled up, and how long it is in the server's first record.

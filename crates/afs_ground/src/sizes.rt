@@ -1,8 +1,8 @@
 //! How long a volume is in the first record of its server.
 
 ghost use Rattle.std.specs.Prelude.{◌≡◌, ◌≤◌, ◌<◌, ◌+◌, ◌^◌, length, slice_get};
-ghost use Rattle.afs_ideal.specs.Tables.{AscendsFrom};
-ghost use Rattle.afs_ideal.specs.VnodeImage.{FitsImage};
+ghost use Rattle.spec_ideal.specs.Tables.{AscendsFrom};
+ghost use Rattle.spec_ideal.specs.VnodeImage.{FitsImage};
 ghost use Rattle.afs_volume.specs.Giving.{volume_of};
 ghost use Rattle.afs_grammar.specs.Lines.{filled_up};
 ghost use Rattle.afs_grammar.specs.Sizes.{volume_size};

@@ -6,7 +6,7 @@ use Rattle.std.proofs.Math.Dec.{eqb-suc-zero}
 use Rattle.std.proofs.Math.Nat.{le_refl}
 use Rattle.std.proofs.lemmas.Bool.{ltb-true, ltb-false}
 use Rattle.afs_disk.specs.Disk.{IsAt, IsBeyond, Setting, Trips}
-use Rattle.afs_rows.specs.Hosts.{fail_blow, gives_out, own_blow, sooner, steady, stop_blow, struck, within, Armed, Blow, Luck, GivesOut, IsLuck}
+use Rattle.spec_rows.specs.Hosts.{fail_blow, gives_out, own_blow, sooner, steady, stop_blow, struck, within, Armed, Blow, Luck, GivesOut, IsLuck}
 use Rattle.afs_journal.specs.Left.{ReachesCall}
 use Rattle.afs_host.specs.Setting.{pick_of, stops_at, stops_now}
 

@@ -4,14 +4,14 @@ use Rattle.std.proofs.Common.{refl, ap, sym, subst, ◌∙◌, inl, inr, arith}
 use Rattle.std.proofs.lemmas.List.{length-append}
 use Rattle.afs_num.specs.declared.faults.StoreFault.{StoreFault}
 use Rattle.afs_num.specs.declared.faults.StoreFault.TheVariants as refusals
-use Rattle.afs_history.specs.declared.lines.Line.{Line}
-use Rattle.afs_history.specs.declared.lines.Line.TheVariants as lines
+use Rattle.spec_history.specs.declared.lines.Line.{Line}
+use Rattle.spec_history.specs.declared.lines.Line.TheVariants as lines
 use Rattle.afs_disk.specs.Disk.{LeavesOnly, Rose}
 use Rattle.afs_disk.specs.Fuses.{Fused}
 use Rattle.afs_disk.specs.declared.disk.Disk.{Ghosts}
 use Rattle.afs_journal.specs.Records.{whole_records}
-use Rattle.afs_rows.specs.Hosts.{at_rest, comes_up, fails_midway, in_boot, is_full, settled, stays}
-use Rattle.afs_rows.specs.Steps.{Begun, Step}
+use Rattle.spec_rows.specs.Hosts.{at_rest, comes_up, fails_midway, in_boot, is_full, without_boot_record, stays}
+use Rattle.spec_rows.specs.Steps.{Begun, Step}
 use Rattle.afs_store.specs.Stores.{IsCounted, IsKept, LeftAround, SameBut, StoreOf}
 use Rattle.afs_host.specs.Seats.{IsHostStepDown, Resting, Running}
 use Rattle.afs_host.specs.Standing.{IsKeptFound, IsKeptIn, Keeping}
@@ -44,19 +44,19 @@ memory_failed f is failed = absurd cc
 
 -- ---- whether the record of the boot fits
 
-full_by : (can : Bool) → can ≡ false → settled can is_full ≡ is_full
+full_by : (can : Bool) → can ≡ false → without_boot_record can is_full ≡ is_full
 full_by can not = ap (λ (t : Bool). if t then comes_up else is_full) not
 
-pub up_by : (can : Bool) → can ≡ true → settled can comes_up ≡ comes_up
+pub up_by : (can : Bool) → can ≡ true → without_boot_record can comes_up ≡ comes_up
 up_by can is = ap (λ (t : Bool). if t then comes_up else is_full) is
 
-midway_by : (can : Bool) → can ≡ true → settled can fails_midway ≡ fails_midway
+midway_by : (can : Bool) → can ≡ true → without_boot_record can fails_midway ≡ fails_midway
 midway_by can is = ap (λ (t : Bool). if t then fails_midway else is_full) is
 
 up_not_full : comes_up ≡ is_full → ⊥
 up_not_full e = absurd cc
 
-pub not_full : (can : Bool) → can ≡ true → settled can is_full ≡ is_full → ⊥
+pub not_full : (can : Bool) → can ≡ true → without_boot_record can is_full ≡ is_full → ⊥
 not_full can is full = up_not_full (sym (up_by can is) ∙ full)
 
 -- ---- records of which one is begun

@@ -5,15 +5,15 @@ use Rattle.afs_num.specs.declared.messages.Message.{Message}
 use Rattle.afs_num.specs.declared.messages.Received.TheVariants.{Whole}
 use Rattle.afs_num.specs.declared.records.Mark.{Mark}
 use Rattle.afs_num.specs.declared.types.Node.{Node}
-use Rattle.afs_history.specs.declared.lines.Line.{Line}
-use Rattle.afs_history.specs.declared.lines.Line.TheVariants as lines
+use Rattle.spec_history.specs.declared.lines.Line.{Line}
+use Rattle.spec_history.specs.declared.lines.Line.TheVariants as lines
 use Rattle.afs_disk.specs.Disk.{IsBeyond, LeavesOnly, Rose, Setting, Trips}
 use Rattle.afs_disk.specs.Fuses.{Fused}
 use Rattle.afs_disk.specs.declared.disk.Disk.{Ghosts}
 use Rattle.afs_journal.specs.Left.{is_left_whole, records_left, ReachesCall}
 use Rattle.afs_journal.specs.Records.{whole_records}
-use Rattle.afs_rows.specs.Hosts.{fall_line, in_step, leaves_after, served, served_by, struck, Armed, Blow, Host}
-use Rattle.afs_rows.specs.Steps.{Begun}
+use Rattle.spec_rows.specs.Hosts.{fall_line, in_step, leaves_after, served, served_by, struck, Armed, Blow, Host}
+use Rattle.spec_rows.specs.Steps.{Begun}
 use Rattle.afs_store.specs.Stores.{IsCounted, IsKept, LeftAround, StoreOf}
 use Rattle.afs_host.specs.Seats.{IsHostStepDown, IsHostUp, Resting, Running}
 use Rattle.afs_host.specs.Serving.{HasGoneDown, HasServed}

@@ -2,10 +2,10 @@
 use Rattle.std.specs.Prelude.{◌≡◌, ◌↔◌, ℕ, List, Bool, true, false, Option, Some, None, IfSome, IsSome}
 use Rattle.std.proofs.Common.{refl, ap, sym, subst, ◌∙◌}
 use Rattle.afs_num.specs.declared.types.Node.{Node}
-use Rattle.afs_history.specs.declared.lines.Line.{Line}
-use Rattle.afs_history.specs.declared.lines.Line.TheVariants as lines
+use Rattle.spec_history.specs.declared.lines.Line.{Line}
+use Rattle.spec_history.specs.declared.lines.Line.TheVariants as lines
 use Rattle.afs_disk.specs.Disk.{IsBeyond, LeavesJust}
-use Rattle.afs_rows.specs.Hosts.{Armed, fall_line}
+use Rattle.spec_rows.specs.Hosts.{Armed, fall_line}
 use Rattle.afs_host.specs.Seats.{Resting}
 use Rattle.afs_host.specs.Views.{count_mark, StoreView}
 use Rattle.afs_host.specs.Serving.{HasGoneDown}

@@ -5,11 +5,11 @@ use Rattle.std.proofs.lemmas.Bool.{ne_eqb}
 use Rattle.std.proofs.lemmas.List.{length-append}
 use Rattle.std.proofs.Common.{refl, ap, sym, subst, ◌∙◌, inl, inr, arith, eq-eqb}
 use Rattle.afs_num.specs.declared.records.Mark.{Mark}
-use Rattle.afs_history.specs.declared.lines.Line.{Line}
-use Rattle.afs_records.specs.Durable.{mark_of}
-use Rattle.afs_records.proofs.Forms.{some_is}
-use Rattle.afs_rows.specs.Hosts.{at_rest, begun_from, in_boot, in_step, Fall, Kind, MayFind}
-use Rattle.afs_rows.specs.Steps.{begun_before, Begun}
+use Rattle.spec_history.specs.declared.lines.Line.{Line}
+use Rattle.spec_records.specs.Durable.{mark_of}
+use Rattle.spec_records.proofs.Forms.{some_is}
+use Rattle.spec_rows.specs.Hosts.{at_rest, begun_from, in_boot, in_step, Fall, NodeKind, MayFind}
+use Rattle.spec_rows.specs.Steps.{begun_before, Begun}
 use Rattle.afs_store.specs.Opening.{lines_begun, same_mark}
 use Rattle.afs_store.specs.Stores.{StandFor}
 use Rattle.afs_host.specs.Standing.{IsKeptAs, IsKeptFound, IsKeptIn, Keeping, LiesAfter, LiesBefore}
@@ -39,7 +39,7 @@ last_told words mark records o e front other is h =
 
 -- ---- what is found
 
-state_before : {S : Type 0} (kind : Kind S) (s : S) (fall : Fall) → begun_from kind s false fall ≡ begun_before s
+state_before : {S : Type 0} (kind : NodeKind S) (s : S) (fall : Fall) → begun_from kind s false fall ≡ begun_before s
 state_before {S} kind s at_rest = refl
 state_before {S} kind s (in_step m clock b) = refl
 state_before {S} kind s in_boot = refl

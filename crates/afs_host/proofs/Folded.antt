@@ -2,9 +2,9 @@
 use Rattle.std.specs.Prelude.{◌≡◌, ◌+◌, ℕ, List, [], ◌∷◌, ◌++◌, true, Option, Some, None}
 use Rattle.std.proofs.Common.{refl, ap, sym, subst, ◌∙◌}
 use Rattle.afs_num.specs.declared.types.Node.{Node}
-use Rattle.afs_history.specs.declared.lines.Line.{Line}
-use Rattle.afs_shape.specs.Taking.{◌>>=◌}
-use Rattle.afs_records.proofs.Forms.{bound, some_is}
+use Rattle.spec_history.specs.declared.lines.Line.{Line}
+use Rattle.spec_shape.specs.Taking.{◌>>=◌}
+use Rattle.spec_records.proofs.Forms.{bound, some_is}
 use Rattle.afs_store.specs.Folding.{Folding}
 use Rattle.afs_store.specs.Folds.{all_folded, first_unfit, folded_from, last_told, taken_as, told_from, unfit_by, unfit_from}
 use Rattle.afs_store.specs.Sound.{IsSound}

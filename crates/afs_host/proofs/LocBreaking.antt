@@ -4,16 +4,16 @@ use Rattle.std.proofs.Common.{refl, ap, sym, ◌∙◌}
 use Rattle.afs_num.specs.declared.messages.Message.{Message}
 use Rattle.afs_num.specs.declared.messages.Received.{Received}
 use Rattle.afs_num.specs.declared.messages.Received.TheVariants.{Whole}
-use Rattle.afs_history.specs.declared.lines.Line.{Line}
-use Rattle.afs_history.specs.declared.lines.Line.TheVariants as lines
+use Rattle.spec_history.specs.declared.lines.Line.{Line}
+use Rattle.spec_history.specs.declared.lines.Line.TheVariants as lines
 use Rattle.afs_disk.specs.Disk.{Rose}
 use Rattle.afs_disk.specs.Fuses.{Fused}
 use Rattle.afs_disk.specs.declared.disk.Disk.{Ghosts}
-use Rattle.afs_model.specs.Messages.{FoundBy}
-use Rattle.afs_records.specs.LocDurable.{LocDurable}
-use Rattle.afs_records.specs.LocRecords.{LocRecord}
-use Rattle.afs_rows.specs.LocRow.{drops, loc_decides, loc_device_calls, refuses, repeats, saves, shows, tells_boot, LocDecision, LocState}
-use Rattle.afs_rows.specs.LocSteps.{loc_begun_after, loc_kind, LocHost}
+use Rattle.spec_model.specs.Messages.{FoundBy}
+use Rattle.spec_records.specs.LocDurable.{LocDurable}
+use Rattle.spec_records.specs.LocRecords.{LocRecord}
+use Rattle.spec_rows.specs.LocRow.{drops, loc_decides, loc_device_calls, refuses, repeats, saves, shows, tells_boot, LocDecision, LocState}
+use Rattle.spec_rows.specs.LocSteps.{loc_begun_after, loc_kind, LocHost}
 use Rattle.afs_store.specs.Stores.{StoreOf}
 use Rattle.afs_locdb.specs.Handling.{loc_calls_served, loc_record_decided}
 use Rattle.afs_locdb.specs.Seen.{loc_seen, Database}

@@ -3,16 +3,16 @@ use Rattle.std.specs.Prelude.{◌≡◌, ◌≤◌, ℕ, ◌+◌, List, [], ◌�
 use Rattle.std.proofs.Common.{refl, ap, sym, subst, ◌∙◌, arith}
 use Rattle.afs_num.specs.declared.messages.Message.{Message}
 use Rattle.afs_num.specs.declared.messages.Received.TheVariants.{Whole}
-use Rattle.afs_history.specs.declared.lines.Line.TheVariants as lines
-use Rattle.afs_history.specs.declared.lines.Outs.{Outs}
+use Rattle.spec_history.specs.declared.lines.Line.TheVariants as lines
+use Rattle.spec_history.specs.declared.lines.Outs.{Outs}
 use Rattle.afs_disk.specs.Disk.{PassesAll}
 use Rattle.afs_disk.specs.Fuses.{Fused}
-use Rattle.afs_model.specs.Messages.{received, received_by, FindsMessages}
-use Rattle.afs_records.specs.LocDurable.{LocDurable}
-use Rattle.afs_records.specs.LocRecords.{LocRecord}
-use Rattle.afs_rows.specs.Hosts.{given, lowered, served, steady, Armed}
-use Rattle.afs_rows.specs.LocRow.{loc_device_calls}
-use Rattle.afs_rows.specs.LocSteps.{loc_kind, loc_row, LocHost}
+use Rattle.spec_model.specs.Messages.{received, received_by, FindsMessages}
+use Rattle.spec_records.specs.LocDurable.{LocDurable}
+use Rattle.spec_records.specs.LocRecords.{LocRecord}
+use Rattle.spec_rows.specs.Hosts.{given, lowered, served, steady, Armed}
+use Rattle.spec_rows.specs.LocRow.{loc_device_calls}
+use Rattle.spec_rows.specs.LocSteps.{loc_kind, loc_row, LocHost}
 use Rattle.afs_store.specs.Stores.{StoreOf}
 use Rattle.afs_locdb.specs.Handling.{loc_calls_served, loc_decided_then, IsQuiet, IsUntouched, Makes}
 use Rattle.afs_locdb.specs.Saving.{KeepsStore}

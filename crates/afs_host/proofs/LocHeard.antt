@@ -7,13 +7,13 @@ use Rattle.afs_num.specs.declared.messages.Received.{Received}
 use Rattle.afs_num.specs.declared.messages.Received.TheVariants.{Nothing, Unserved, Unreadable, Whole}
 use Rattle.afs_num.specs.declared.types.Head.{Head}
 use Rattle.afs_num.specs.declared.types.Node.TheVariants.{Loc}
-use Rattle.afs_shape.specs.Tables.{is_among}
-use Rattle.afs_model.specs.Calls.{admitted, Admitted}
-use Rattle.afs_model.specs.Calls as pairs
-use Rattle.afs_model.specs.CellRows.{all_calls}
-use Rattle.afs_model.specs.Messages.{received, received_by}
-use Rattle.afs_rows.specs.LocRow.{admits, drops, loc_decides, loc_serves, refuses, LocDecision, LocState}
-use Rattle.afs_rows.specs.ServerRow.{bad_fields, not_served}
+use Rattle.spec_shape.specs.Tables.{is_among}
+use Rattle.spec_model.specs.Calls.{admitted, Admitted}
+use Rattle.spec_model.specs.Calls as pairs
+use Rattle.spec_model.specs.CellRows.{all_calls}
+use Rattle.spec_model.specs.Messages.{received, received_by}
+use Rattle.spec_rows.specs.LocRow.{admits, drops, loc_decides, loc_serves, refuses, LocDecision, LocState}
+use Rattle.spec_rows.specs.ServerRow.{bad_fields, not_served}
 use Rattle.afs_locdb.specs.Handling.{loc_calls_served, loc_record_decided}
 use Rattle.afs_server_parts.proofs.Standing.{among_all, stands_by}
 

@@ -4,21 +4,21 @@ use Rattle.std.proofs.Common.{refl, ap, sym, ◌∙◌, arith}
 use Rattle.std.proofs.lemmas.Bool.{ltb-true}
 use Rattle.afs_num.specs.declared.messages.Received.TheVariants.{Whole}
 use Rattle.afs_num.specs.declared.types.Node.TheVariants.{Loc}
-use Rattle.afs_history.specs.declared.lines.Line.{Line}
-use Rattle.afs_history.specs.declared.lines.Line.TheVariants as lines
-use Rattle.afs_history.specs.declared.lines.Outs.{Outs}
+use Rattle.spec_history.specs.declared.lines.Line.{Line}
+use Rattle.spec_history.specs.declared.lines.Line.TheVariants as lines
+use Rattle.spec_history.specs.declared.lines.Outs.{Outs}
 use Rattle.afs_disk.specs.Fuses.{Fused}
 use Rattle.afs_disk.specs.declared.disk.Disk.{Ghosts}
-use Rattle.afs_ideal.specs.Operations.{last_count}
-use Rattle.afs_model.specs.Messages.{messages_spelled, parcels_read}
-use Rattle.afs_records.specs.LocDurable.{loc_boot_record, loc_can_boot, loc_folded, loc_has_room, LocDurable}
-use Rattle.afs_records.specs.LocLaws.{loc_started, LocStartsAreKept}
-use Rattle.afs_records.specs.LocRecords.{FitsLocRecord}
-use Rattle.afs_records.proofs.Forms.{some_is}
-use Rattle.afs_rows.specs.Hosts.{at_rest, goes, in_boot, in_step, unarmed, Fall}
-use Rattle.afs_rows.specs.LocRow.{drops, loc_can_start, loc_decides, loc_durable_of, loc_lasting_started, loc_revived, refuses, repeats, saves, shows, tells_boot, LocDecision, LocLasting, LocState}
-use Rattle.afs_rows.specs.LocSteps.{loc_begun_after, loc_start_row}
-use Rattle.afs_rows.specs.Steps.{Begun}
+use Rattle.spec_ideal.specs.Operations.{last_count}
+use Rattle.spec_model.specs.Messages.{messages_spelled, parcels_read}
+use Rattle.spec_records.specs.LocDurable.{loc_boot_record, loc_can_boot, loc_folded, loc_has_room, LocDurable}
+use Rattle.spec_records.specs.LocLaws.{loc_started, LocStartsAreKept}
+use Rattle.spec_records.specs.LocRecords.{FitsLocRecord}
+use Rattle.spec_records.proofs.Forms.{some_is}
+use Rattle.spec_rows.specs.Hosts.{at_rest, goes, in_boot, in_step, unarmed, Fall}
+use Rattle.spec_rows.specs.LocRow.{drops, loc_can_start, loc_decides, loc_durable_of, loc_lasting_started, loc_revived, refuses, repeats, saves, shows, tells_boot, LocDecision, LocLasting, LocState}
+use Rattle.spec_rows.specs.LocSteps.{loc_begun_after, loc_start_row}
+use Rattle.spec_rows.specs.Steps.{Begun}
 use Rattle.afs_locstore.specs.LocSound.{loc_sound}
 use Rattle.afs_locdb.specs.Seen.{lasting_of, loc_seen, Database}
 use Rattle.afs_host.specs.LocSeats.{DatabaseRunning, IsLocStepUp}

@@ -13,20 +13,20 @@ use Rattle.afs_num.specs.declared.messages.Received.{Received}
 use Rattle.afs_num.specs.declared.messages.Received.TheVariants.{Unserved, Whole}
 use Rattle.afs_num.specs.declared.types.Head.{Head}
 use Rattle.afs_num.specs.declared.types.Node.TheVariants.{Loc}
-use Rattle.afs_history.specs.declared.lines.Line.TheVariants as lines
-use Rattle.afs_history.specs.declared.lines.Outs.{Outs}
-use Rattle.afs_shape.specs.Tables.{is_among}
+use Rattle.spec_history.specs.declared.lines.Line.TheVariants as lines
+use Rattle.spec_history.specs.declared.lines.Outs.{Outs}
+use Rattle.spec_shape.specs.Tables.{is_among}
 use Rattle.afs_disk.specs.Fuses.{Fused}
-use Rattle.afs_model.specs.Calls.{admitted, Admitted}
-use Rattle.afs_model.specs.Calls as pairs
-use Rattle.afs_model.specs.CellRows.{call_number}
-use Rattle.afs_model.specs.Messages.{is_unserved, is_whole, messages_spelled, FoundBy}
-use Rattle.afs_rows.specs.Hosts.{lowered, served, served_by, steady, struck, Blow}
-use Rattle.afs_rows.specs.LocRow.{admits, called, drops, loc_decides, loc_device_calls, refuses, repeats, runs, runs_carried, saves, shows, tells_boot, LocDecision, LocState}
-use Rattle.afs_rows.specs.LocSteps.{loc_does, loc_kind, loc_row, LocHost}
-use Rattle.afs_rows.specs.ServerRow.{not_served, whole}
-use Rattle.afs_rows.specs.Steps.{Step}
-use Rattle.afs_locdb.specs.Handling.{loc_calls_served, loc_record_decided, IsDone, Makes}
+use Rattle.spec_model.specs.Calls.{admitted, Admitted}
+use Rattle.spec_model.specs.Calls as pairs
+use Rattle.spec_model.specs.CellRows.{call_number}
+use Rattle.spec_model.specs.Messages.{is_unserved, is_whole, messages_spelled, FoundBy}
+use Rattle.spec_rows.specs.Hosts.{lowered, served, served_by, steady, struck, Blow}
+use Rattle.spec_rows.specs.LocRow.{admits, called, drops, loc_decides, loc_device_calls, refuses, repeats, runs, runs_carried, saves, shows, tells_boot, LocDecision, LocState}
+use Rattle.spec_rows.specs.LocSteps.{loc_does, loc_kind, loc_row, LocHost}
+use Rattle.spec_rows.specs.ServerRow.{not_served, whole}
+use Rattle.spec_rows.specs.Steps.{Step}
+use Rattle.afs_locdb.specs.Handling.{loc_calls_served, loc_record_decided, IsKeptBehind, Makes}
 use Rattle.afs_locdb.specs.Seen.{loc_seen, Database}
 use Rattle.afs_host.specs.LocSeats.{DatabaseRunning, IsLocStepUp, IsLocUp}
 use Rattle.afs_host.proofs.Stepping.{as_host_up}
@@ -88,7 +88,7 @@ same_loc_row s m found (is_unserved user call is among e) = subst (SameLocRow s 
 -- ---- a step that passed
 
 -- a step makes a record, by four device calls, or none
-pub loc_made_calls : {D : Type 0} (x : LocState) (d : LocDecision) (s t : Database D) → IsDone (loc_record_decided x.lasting.boot d) s t → (t.store.count - s.store.count) * 4 ≡ loc_device_calls x d
+pub loc_made_calls : {D : Type 0} (x : LocState) (d : LocDecision) (s t : Database D) → IsKeptBehind (loc_record_decided x.lasting.boot d) s t → (t.store.count - s.store.count) * 4 ≡ loc_device_calls x d
 loc_made_calls {D} x drops s t done = omega (arith, done.1)
 loc_made_calls {D} x (tells_boot head) s t done = omega (arith, done.1)
 loc_made_calls {D} x (repeats reply) s t done = omega (arith, done.1)

@@ -3,10 +3,10 @@ use Rattle.std.specs.Prelude.{◌≡◌, ◌⊎◌, ◌+◌, ℕ, List, [], ◌�
 use Rattle.std.proofs.Common.{refl, ap, sym, subst, inl, inr}
 use Rattle.afs_num.specs.declared.records.Mark.{Mark}
 use Rattle.afs_num.specs.declared.types.Node.{Node}
-use Rattle.afs_history.specs.declared.lines.Line.{Line}
+use Rattle.spec_history.specs.declared.lines.Line.{Line}
 use Rattle.afs_disk.specs.Disk.{LeavesJust}
 use Rattle.afs_journal.specs.Records.{whole_records}
-use Rattle.afs_rows.specs.Hosts.{begun_from, Fall, MayFind}
+use Rattle.spec_rows.specs.Hosts.{begun_from, Fall, MayFind}
 use Rattle.afs_store.specs.Sound.{IsSound}
 use Rattle.afs_store.specs.Stores.{IsCounted, IsKept, StandFor, StandsAround}
 use Rattle.afs_host.specs.Standing.{record_of_fall, IsKeptAs, IsKeptFound, IsKeptIn, Keeping, LiesAfter, LiesBefore}

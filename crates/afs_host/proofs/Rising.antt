@@ -1,8 +1,8 @@
 -- Of the record of a boot.
 use Rattle.std.specs.Prelude.{◌≡◌, ◌&&◌, Bool, true, false}
 use Rattle.std.proofs.Common.{refl, arith}
-use Rattle.afs_records.specs.Changes.{no_head}
-use Rattle.afs_records.specs.Records.{head_form}
+use Rattle.spec_records.specs.Changes.{no_head}
+use Rattle.spec_records.specs.Records.{head_form}
 
 -- ---- the record of its boot
 

@@ -4,16 +4,16 @@ use Rattle.std.proofs.Common.{refl, ap, sym, subst, ◌∙◌, inl, inr}
 use Rattle.afs_num.specs.declared.faults.StoreFault.{StoreFault}
 use Rattle.afs_num.specs.declared.faults.StoreFault.TheVariants as refusals
 use Rattle.afs_num.specs.declared.records.Mark.{Mark}
-use Rattle.afs_history.specs.declared.lines.Line.{Line}
-use Rattle.afs_history.specs.declared.lines.Line.TheVariants as lines
-use Rattle.afs_history.specs.declared.lines.Outs.{Outs}
+use Rattle.spec_history.specs.declared.lines.Line.{Line}
+use Rattle.spec_history.specs.declared.lines.Line.TheVariants as lines
+use Rattle.spec_history.specs.declared.lines.Outs.{Outs}
 use Rattle.afs_disk.specs.Disk.{LeavesOnly, Rose, Setting}
 use Rattle.afs_disk.specs.Fuses.{Fused}
 use Rattle.afs_disk.specs.declared.disk.Disk.{Ghosts}
 use Rattle.afs_journal.specs.Log.{IsJournal, StandsAsBefore}
 use Rattle.afs_journal.specs.Records.{journal_bytes, whole_records}
-use Rattle.afs_rows.specs.Hosts.{begun_from, comes_up, ends, fails_early, fails_midway, falls, is_full, Fall, Host, MayFind, Outcome}
-use Rattle.afs_rows.specs.Steps.{Begun, Step}
+use Rattle.spec_rows.specs.Hosts.{begun_from, comes_up, ends, fails_early, fails_midway, falls, is_full, Fall, Host, MayFind, Outcome}
+use Rattle.spec_rows.specs.Steps.{Begun, Step}
 use Rattle.afs_store.specs.Opening.{lines_begun, IsAttachFault}
 use Rattle.afs_store.specs.Stores.{IsCaused, StandFor, StoreOf}
 use Rattle.afs_host.specs.Seats.{IsHostDown, IsHostStepDown, IsHostStepUp, Resting, Running}

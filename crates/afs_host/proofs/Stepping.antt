@@ -5,8 +5,8 @@ use Rattle.std.proofs.Common.{refl, ap, sym, subst, ◌∙◌, inl, inr, arith, 
 use Rattle.std.proofs.lemmas.Bool.{ltb-true, ltb-false}
 use Rattle.afs_disk.specs.Disk.{IsAt, IsBeyond, PassesAll, Setting}
 use Rattle.afs_disk.specs.Fuses.{Fused}
-use Rattle.afs_rows.specs.Hosts.{fail_blow, lowered, sooner, steady, stop_blow, struck, within, Armed, Blow, Host}
-use Rattle.afs_records.proofs.Forms.{some_is}
+use Rattle.spec_rows.specs.Hosts.{fail_blow, lowered, sooner, steady, stop_blow, struck, within, Armed, Blow, Host}
+use Rattle.spec_records.proofs.Forms.{some_is}
 use Rattle.afs_host.specs.Seats.{IsHostUp, Running}
 use Rattle.afs_host.specs.Setting.{IsSet}
 

@@ -1,6 +1,6 @@
 -- The place of the location database: the host that it is, up or down, its disk, and what the next input may rely on.
 use Rattle.std.specs.Prelude.{◌≤◌, ◌+◌, ◌*◌, ℕ, List, Option}
-use Rattle.afs_rows.specs.LocSteps.{LocHost}
+use Rattle.spec_rows.specs.LocSteps.{LocHost}
 use Rattle.afs_host.specs.LocSeats.{loc_disk_of, DatabaseRunning, IsLocDown, IsLocUp, LocCanRun}
 use Rattle.afs_host.specs.Seats.{Resting}
 use Rattle.afs_host.specs.declared.seats.Seat.{Seat}

@@ -1,13 +1,13 @@
 -- The location database as a node with its disk, up or down, and the host of the cell that it stands for.
 use Rattle.std.specs.Prelude.{◌≡◌, ◌≤◌, ◌+◌, ℕ, List, false, Option}
-use Rattle.afs_history.specs.declared.lines.Line.{Line}
-use Rattle.afs_history.specs.declared.lines.Outs.{Outs}
+use Rattle.spec_history.specs.declared.lines.Line.{Line}
+use Rattle.spec_history.specs.declared.lines.Outs.{Outs}
 use Rattle.afs_disk.specs.Fuses.{Fused}
 use Rattle.afs_disk.specs.Words.{SameDiskBy}
 use Rattle.afs_disk.specs.declared.disk.Disk.{Ghosts}
-use Rattle.afs_rows.specs.Hosts.{HostStep}
-use Rattle.afs_rows.specs.LocRow.{LocState}
-use Rattle.afs_rows.specs.LocSteps.{LocHost}
+use Rattle.spec_rows.specs.Hosts.{HostStep}
+use Rattle.spec_rows.specs.LocRow.{LocState}
+use Rattle.spec_rows.specs.LocSteps.{LocHost}
 use Rattle.afs_locdb.specs.Handling.{IsUntouched}
 use Rattle.afs_locdb.specs.Seen.{loc_seen, Database, Serves}
 use Rattle.afs_host.specs.LocStanding.{loc_keeping}

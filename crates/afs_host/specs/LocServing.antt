@@ -4,17 +4,17 @@ use Rattle.afs_num.specs.declared.messages.Message.{Message}
 use Rattle.afs_num.specs.declared.messages.Received.{Received}
 use Rattle.afs_num.specs.declared.messages.Received.TheVariants.{Whole}
 use Rattle.afs_num.specs.declared.types.Node.TheVariants.{Loc}
-use Rattle.afs_history.specs.declared.lines.Line.{Line}
-use Rattle.afs_history.specs.declared.lines.Line.TheVariants as lines
-use Rattle.afs_history.specs.declared.lines.Outs.{Outs}
+use Rattle.spec_history.specs.declared.lines.Line.{Line}
+use Rattle.spec_history.specs.declared.lines.Line.TheVariants as lines
+use Rattle.spec_history.specs.declared.lines.Outs.{Outs}
 use Rattle.afs_disk.specs.Disk.{LeavesJust, Rose, Trips}
 use Rattle.afs_disk.specs.declared.disk.Disk.{Ghosts}
 use Rattle.afs_journal.specs.Left.{is_left_whole, ReachesCall}
 use Rattle.afs_journal.specs.Records.{whole_records}
-use Rattle.afs_model.specs.Messages.{received, received_by}
-use Rattle.afs_rows.specs.Hosts.{given, in_step, served, steady, Blow}
-use Rattle.afs_rows.specs.LocRow.{loc_decides, loc_device_calls}
-use Rattle.afs_rows.specs.LocSteps.{loc_kind, LocHost}
+use Rattle.spec_model.specs.Messages.{received, received_by}
+use Rattle.spec_rows.specs.Hosts.{given, in_step, served, steady, Blow}
+use Rattle.spec_rows.specs.LocRow.{loc_decides, loc_device_calls}
+use Rattle.spec_rows.specs.LocSteps.{loc_kind, LocHost}
 use Rattle.afs_locdb.specs.Handling.{loc_calls_served, IsClosed}
 use Rattle.afs_locdb.specs.Seen.{loc_seen}
 use Rattle.afs_server_parts.specs.declared.faults.NodeFault.{NodeFault}

@@ -3,12 +3,12 @@ use Rattle.std.specs.Prelude.{ℕ, List, [], Bool}
 use Rattle.afs_num.specs.declared.messages.Received.TheVariants.{Whole}
 use Rattle.afs_num.specs.declared.records.Mark.{Mark}
 use Rattle.afs_journal.specs.Records.{whole_records}
-use Rattle.afs_records.specs.LocDurable.{LocDurable}
-use Rattle.afs_records.specs.LocRecords.{LocRecord}
-use Rattle.afs_rows.specs.Hosts.{begun_from, Fall}
-use Rattle.afs_rows.specs.LocRow.{loc_decides, LocLasting, LocState}
-use Rattle.afs_rows.specs.LocSteps.{loc_kind}
-use Rattle.afs_rows.specs.Steps.{Begun}
+use Rattle.spec_records.specs.LocDurable.{LocDurable}
+use Rattle.spec_records.specs.LocRecords.{LocRecord}
+use Rattle.spec_rows.specs.Hosts.{begun_from, Fall}
+use Rattle.spec_rows.specs.LocRow.{loc_decides, LocLasting, LocState}
+use Rattle.spec_rows.specs.LocSteps.{loc_kind}
+use Rattle.spec_rows.specs.Steps.{Begun}
 use Rattle.afs_locstore.specs.LocFold.{loc_fold}
 use Rattle.afs_locstore.specs.declared.held.Held.{Held}
 use Rattle.afs_locstore.specs.declared.ready.Ready.{Ready}

@@ -2,17 +2,17 @@
 use Rattle.std.specs.Prelude.{◌≡◌, ◌≤◌, ◌⊎◌, ◌+◌, ℕ, List, [], ◌∷◌, ◌++◌}
 use Rattle.afs_num.specs.declared.records.Mark.{Mark}
 use Rattle.afs_num.specs.declared.types.Node.TheVariants.{Loc}
-use Rattle.afs_history.specs.declared.lines.Line.{Line}
-use Rattle.afs_history.specs.declared.lines.Line.TheVariants as lines
-use Rattle.afs_history.specs.declared.lines.Outs.{Outs}
+use Rattle.spec_history.specs.declared.lines.Line.{Line}
+use Rattle.spec_history.specs.declared.lines.Line.TheVariants as lines
+use Rattle.spec_history.specs.declared.lines.Outs.{Outs}
 use Rattle.afs_disk.specs.Disk.{Rose}
 use Rattle.afs_disk.specs.Fuses.{Fused}
 use Rattle.afs_disk.specs.declared.disk.Disk.{Ghosts}
-use Rattle.afs_records.specs.LocDurable.{LocDurable}
-use Rattle.afs_rows.specs.Hosts.{unarmed}
-use Rattle.afs_rows.specs.LocRow.{LocState}
-use Rattle.afs_rows.specs.LocSteps.{loc_kind, loc_start_row, LocHost}
-use Rattle.afs_rows.specs.Steps.{Begun}
+use Rattle.spec_records.specs.LocDurable.{LocDurable}
+use Rattle.spec_rows.specs.Hosts.{unarmed}
+use Rattle.spec_rows.specs.LocRow.{LocState}
+use Rattle.spec_rows.specs.LocSteps.{loc_kind, loc_start_row, LocHost}
+use Rattle.spec_rows.specs.Steps.{Begun}
 use Rattle.afs_locdb.specs.Seen.{loc_seen, Database}
 use Rattle.afs_host.specs.LocSeats.{loc_disk_of, DatabaseRunning, IsLocDown, IsLocStepDown, IsLocStepUp, LocCanRun}
 use Rattle.afs_host.specs.LocStanding.{loc_keeping}

@@ -1,11 +1,11 @@
 -- A node with its disk, up or down, and the host of the cell that it stands for.
 use Rattle.std.specs.Prelude.{◌≡◌, ◌+◌, ℕ, List, [], ◌++◌, Option, Some, None, IsSome}
 use Rattle.afs_num.specs.declared.records.Mark.{Mark}
-use Rattle.afs_history.specs.declared.lines.Line.{Line}
-use Rattle.afs_history.specs.declared.lines.Outs.{Outs}
+use Rattle.spec_history.specs.declared.lines.Line.{Line}
+use Rattle.spec_history.specs.declared.lines.Outs.{Outs}
 use Rattle.afs_journal.specs.Records.{whole_records}
-use Rattle.afs_model.specs.Messages.{messages_spelled, parcels_read}
-use Rattle.afs_rows.specs.Hosts.{unarmed, Armed, Fall, Host, HostStep}
+use Rattle.spec_model.specs.Messages.{messages_spelled, parcels_read}
+use Rattle.spec_rows.specs.Hosts.{unarmed, Armed, Fall, Host, HostStep}
 use Rattle.afs_host.specs.Standing.{IsKeptFound, IsKeptIn, Keeping}
 
 -- a node that is up: what it has in memory, its store, and how its disk is set

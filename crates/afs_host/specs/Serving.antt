@@ -1,11 +1,11 @@
 -- What becomes of a node that is up and is given a message, of whatever kind it is.
 use Rattle.std.specs.Prelude.{◌≡◌, ◌↔◌, ℕ, List, Bool, true, Option, IfSome, IsSome}
 use Rattle.afs_num.specs.declared.messages.Message.{Message}
-use Rattle.afs_history.specs.declared.lines.Line.{Line}
-use Rattle.afs_history.specs.declared.lines.Line.TheVariants as lines
-use Rattle.afs_history.specs.declared.lines.Outs.{Outs}
+use Rattle.spec_history.specs.declared.lines.Line.{Line}
+use Rattle.spec_history.specs.declared.lines.Line.TheVariants as lines
+use Rattle.spec_history.specs.declared.lines.Outs.{Outs}
 use Rattle.afs_disk.specs.Disk.{IsBeyond, LeavesJust}
-use Rattle.afs_rows.specs.Hosts.{fall_line, served, Armed, GivesOut, Host, HostStep, IsLuck, Kind, Luck}
+use Rattle.spec_rows.specs.Hosts.{fall_line, served, Armed, GivesOut, Host, HostStep, IsLuck, NodeKind, Luck}
 use Rattle.afs_host.specs.Seats.{Resting}
 use Rattle.afs_host.specs.Setting.{pick_of, stops_now}
 use Rattle.afs_host.specs.Views.{count_mark, StoreView}
@@ -18,7 +18,7 @@ pub data Served (U D : Type 0) : Type 0 where
   unchanged : U → Served U D
 
 -- With some luck of the disk the step of the host, of a node of this kind, is this. Where the disk fails by itself, its count rose.
-pub record HasServed {S : Type 0} (kind : Kind S) (h : Host S) (clock place : ℕ) (m : Message) (Is : HostStep S → Type 0) (rose : Type 0) : Type 0 where
+pub record HasServed {S : Type 0} (kind : NodeKind S) (h : Host S) (clock place : ℕ) (m : Message) (Is : HostStep S → Type 0) (rose : Type 0) : Type 0 where
   pub luck : Luck
   pub is_luck : IsLuck luck
   pub is : Is (served kind h clock place luck m)

@@ -2,7 +2,7 @@
 use Rattle.std.specs.Prelude.{◌≡◌, ◌≤◌, ℕ, ◌+◌, Bool, true, false, Option, Some, None, nat_lt, nat_eq, ◌&&◌, ◌||◌}
 use Rattle.std.specs.Option.{option_map}
 use Rattle.afs_disk.specs.Fuses.{Fused}
-use Rattle.afs_rows.specs.Runs as runs
+use Rattle.spec_rows.specs.Runs as runs
 use Rattle.afs_host.specs.declared.setting.Armed.{Armed}
 use Rattle.afs_host.specs.declared.setting.Stop.{Stop}
 

@@ -2,9 +2,9 @@
 use Rattle.std.specs.Prelude.{◌≡◌, ◌⊎◌, ◌+◌, ℕ, List, [], ◌∷◌, ◌++◌, Bool, true, false, Option, Some, None}
 use Rattle.afs_num.specs.declared.messages.Message.{Message}
 use Rattle.afs_num.specs.declared.records.Mark.{Mark}
-use Rattle.afs_history.specs.declared.lines.Line.{Line}
-use Rattle.afs_records.specs.Durable.{mark_of}
-use Rattle.afs_rows.specs.Hosts.{at_rest, begun_from, in_boot, in_step, Fall, Kind, MayFind}
+use Rattle.spec_history.specs.declared.lines.Line.{Line}
+use Rattle.spec_records.specs.Durable.{mark_of}
+use Rattle.spec_rows.specs.Hosts.{at_rest, begun_from, in_boot, in_step, Fall, NodeKind, MayFind}
 use Rattle.afs_store.specs.Folding.{Folding}
 use Rattle.afs_store.specs.Stores.{StandFor}
 
@@ -12,7 +12,7 @@ use Rattle.afs_store.specs.Stores.{StandFor}
 -- read of this, and what of the state lasts, both as one of L, with the room of the disk and the boot in that; the record of a step that
 -- a message begins at this clock; and the state over what a restart finds.
 pub record Keeping (R T M P L S : Type 0) : Type 1 where
-  pub kind : Kind S
+  pub kind : NodeKind S
   pub fold : Folding R T M P
   pub read : T → L
   pub lasting : S → L

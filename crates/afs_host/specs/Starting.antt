@@ -2,14 +2,14 @@
 use Rattle.std.specs.Prelude.{◌≡◌, ◌⊎◌, ◌+◌, ℕ, List, [], ◌∷◌, ◌++◌, Bool, Some, length, IsSome}
 use Rattle.afs_num.specs.declared.faults.StoreFault.{StoreFault}
 use Rattle.afs_num.specs.declared.faults.StoreFault.TheVariants as refusals
-use Rattle.afs_history.specs.declared.lines.Line.{Line}
-use Rattle.afs_history.specs.declared.lines.Line.TheVariants as lines
+use Rattle.spec_history.specs.declared.lines.Line.{Line}
+use Rattle.spec_history.specs.declared.lines.Line.TheVariants as lines
 use Rattle.afs_disk.specs.Disk.{Rose}
 use Rattle.afs_disk.specs.Fuses.{Fused}
 use Rattle.afs_disk.specs.declared.disk.Disk.{Ghosts}
 use Rattle.afs_journal.specs.Records.{whole_records}
-use Rattle.afs_rows.specs.Hosts.{at_rest, begun_from, comes_up, fails_midway, goes, in_boot, is_full, restarted, settled, stays, unarmed, Fails, Fall, Host, HostStep, Kind, MayFind, Outcome}
-use Rattle.afs_rows.specs.Steps.{Begun, Step}
+use Rattle.spec_rows.specs.Hosts.{at_rest, begun_from, comes_up, fails_midway, goes, in_boot, is_full, restarted, without_boot_record, stays, unarmed, Fails, Fall, Host, HostStep, NodeKind, MayFind, Outcome}
+use Rattle.spec_rows.specs.Steps.{Begun, Step}
 use Rattle.afs_store.specs.Stores.{StandFor, StoreOf}
 use Rattle.afs_host.specs.Seats.{IsHostDown, IsHostStepDown, IsHostStepUp, Resting, Running}
 use Rattle.afs_host.specs.Standing.{Keeping}
@@ -26,7 +26,7 @@ pub record Sight (N V D S : Type 0) : Type 1 where
 
 -- One of the two that the disk may hold was found, as the blow that ended the step allows it, and the restart ended so; the step of the
 -- host, of a node of this kind, is this. Where the disk failed, its count rose.
-pub record HasStarted {S : Type 0} (kind : Kind S) (h : Host S) (clock count : ℕ) (fall : Fall) (Is : HostStep S → Type 0) (rose : Type 0) : Type 0 where
+pub record HasStarted {S : Type 0} (kind : NodeKind S) (h : Host S) (clock count : ℕ) (fall : Fall) (Is : HostStep S → Type 0) (rose : Type 0) : Type 0 where
   pub after : Bool
   pub may : MayFind fall after
   pub outcome : Outcome
@@ -56,10 +56,10 @@ begun_over k d front = record { state = k.begun d; before = λ ls. front ++ ls }
 -- disk. Where it isn't told that the disk failed, its count is what it was before.
 abbrev pub BootsOverBy : {R T M P L S N V D : Type 0} → Keeping R T M P L S → Sight N V D S → Ghosts D → (Begun S → Step S) → T → List Line → ℕ → Start (Running N V) (Resting D) → Type 0
 BootsOverBy k v w start d front before (starts.Up r outs) =
-    (settled (k.kind.can_start (k.begun d)) comes_up ≡ comes_up) × (IsHostStepUp v.state r [] outs (goes unarmed (start (begun_over k d front))) × (w.faults (v.shown r.store).fuse.disk ≡ before))
+    (without_boot_record (k.kind.can_start (k.begun d)) comes_up ≡ comes_up) × (IsHostStepUp v.state r [] outs (goes unarmed (start (begun_over k d front))) × (w.faults (v.shown r.store).fuse.disk ≡ before))
 BootsOverBy k v w start d front before (starts.Down s ls) =
-    ((settled (k.kind.can_start (k.begun d)) is_full ≡ is_full) × ((ls ≡ front ++ lines.Full k.kind.me ∷ []) × (w.faults s.disk ≡ before)))
-    ⊎ ((settled (k.kind.can_start (k.begun d)) fails_midway ≡ fails_midway) × ((ls ≡ front ++ lines.Fault k.kind.me ∷ []) × Rose before (w.faults s.disk)))
+    ((without_boot_record (k.kind.can_start (k.begun d)) is_full ≡ is_full) × ((ls ≡ front ++ lines.Full k.kind.me ∷ []) × (w.faults s.disk ≡ before)))
+    ⊎ ((without_boot_record (k.kind.can_start (k.begun d)) fails_midway ≡ fails_midway) × ((ls ≡ front ++ lines.Fault k.kind.me ∷ []) × Rose before (w.faults s.disk)))
 BootsOverBy k v w start d front before (starts.Unchanged s) = w.faults s.disk ≡ before
 BootsOverBy k v w start d front before (starts.Lost s) = v.Lost (k.begun d) × (w.faults s.disk ≡ before)
 
@@ -96,10 +96,10 @@ pub record IsFound {R T M P L S D : Type 0} (k : Keeping R T M P L S) (w : Ghost
 -- The record of the boot was put on the disk, and the node is up; or it didn't fit, or the disk failed, and the node stays down. Or
 -- memory ran out before that, and whatever a crash leaves has the records that were there; or after it.
 abbrev pub BootsBy : {R T M P L S N V D : Type 0} → Keeping R T M P L S → Sight N V D S → Ghosts D → (Begun S → Step S) → Begun S → List (List ℕ) → D → Start (Running N V) (Resting D) → Type 0
-BootsBy k v w start begun records disk (starts.Up r outs) = (settled (k.kind.can_start begun.state) comes_up ≡ comes_up) × IsHostStepUp v.state r [] outs (goes unarmed (start begun))
+BootsBy k v w start begun records disk (starts.Up r outs) = (without_boot_record (k.kind.can_start begun.state) comes_up ≡ comes_up) × IsHostStepUp v.state r [] outs (goes unarmed (start begun))
 BootsBy k v w start begun records disk (starts.Down d ls) =
-    ((settled (k.kind.can_start begun.state) is_full ≡ is_full) × IsHostStepDown w.seen w.may_leave w.limit k d ls (stays begun (lines.Full k.kind.me) at_rest))
-    ⊎ ((settled (k.kind.can_start begun.state) fails_midway ≡ fails_midway) × (IsHostStepDown w.seen w.may_leave w.limit k d ls (stays begun (lines.Fault k.kind.me) in_boot) × Rose (w.faults disk) (w.faults d.disk)))
+    ((without_boot_record (k.kind.can_start begun.state) is_full ≡ is_full) × IsHostStepDown w.seen w.may_leave w.limit k d ls (stays begun (lines.Full k.kind.me) at_rest))
+    ⊎ ((without_boot_record (k.kind.can_start begun.state) fails_midway ≡ fails_midway) × (IsHostStepDown w.seen w.may_leave w.limit k d ls (stays begun (lines.Fault k.kind.me) in_boot) × Rose (w.faults disk) (w.faults d.disk)))
 BootsBy k v w start begun records disk (starts.Unchanged d) = IsSome (w.seen d.disk) → (c : List ℕ) → w.may_leave d.disk c → whole_records c ≡ records
 BootsBy k v w start begun records disk (starts.Lost d) = v.Lost begun.state
 

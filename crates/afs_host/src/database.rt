@@ -2,8 +2,8 @@
 
 ghost use Rattle.std.specs.Prelude.{◌≡◌, ◌≤◌, ◌<◌, ◌^◌, ◌↔◌, None, Some, false, IsSome};
 ghost use Rattle.afs_disk.specs.Fuses.{armed, failing};
-ghost use Rattle.afs_rows.specs.Hosts.{crashed, set_to_fail, set_to_stop};
-ghost use Rattle.afs_rows.specs.LocSteps.{loc_kind, LocHost};
+ghost use Rattle.spec_rows.specs.Hosts.{crashed, set_to_fail, set_to_stop};
+ghost use Rattle.spec_rows.specs.LocSteps.{loc_kind, LocHost};
 ghost use Rattle.afs_locdb.specs.Seen.{over, Serves};
 ghost use Rattle.afs_host.specs.LocSeats.{loc_disk_of, IsLocDown, IsLocUp, LocCanRun};
 ghost use Rattle.afs_host.specs.Views.{count_mark};

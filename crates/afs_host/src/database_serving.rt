@@ -1,15 +1,15 @@
 //! The location database, which is up, is given a message.
 
 ghost use Rattle.std.specs.Prelude.{◌≡◌, ◌≤◌, ◌↔◌, IsSome};
-ghost use Rattle.afs_model.specs.Messages.{received};
+ghost use Rattle.spec_model.specs.Messages.{received};
 ghost use Rattle.afs_host.specs.LocSeats.{loc_disk_of, LocCanRun};
 ghost use Rattle.afs_host.specs.LocServing.{loc_disk_served, IsLocHandled, IsLocServed, LocBecomes, LocGoesOnServed, LocKeepsMark, LocRestsServed, MakesLocRow, RunsLocRow};
 
 use crate::running::{CALLS_OF_A_RECORD, Running};
 use afs_disk::{Disk, Fuse};
-use afs_history::lines::Outs;
 use afs_locdb::LocDb;
 use afs_server_parts::faults::NodeFault;
+use spec_history::lines::Outs;
 
 impl<D: Disk> Running<(), LocDb<Fuse<D>>> {
     /// The database is given the bytes of a message. Where its disk ended the step, it is to fall.

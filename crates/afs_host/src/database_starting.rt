@@ -2,8 +2,8 @@
 
 ghost use Rattle.std.specs.Prelude.{◌≡◌, ◌≤◌, ◌<◌, ◌↔◌, ℕ, List, None, false, vec_capacity, vec_len, IsSome};
 ghost use Rattle.afs_num.specs.declared.types.Node.TheVariants.{Loc};
-ghost use Rattle.afs_rows.specs.LocRow.{LocState};
-ghost use Rattle.afs_rows.specs.Steps.{Begun};
+ghost use Rattle.spec_rows.specs.LocRow.{LocState};
+ghost use Rattle.spec_rows.specs.Steps.{Begun};
 ghost use Rattle.afs_locdb.specs.Seen.{Serves};
 ghost use Rattle.afs_host.specs.LocStanding.{loc_keeping};
 ghost use Rattle.afs_host.specs.LocStarting.{loc_disk_started, IsLocStarted, LocBootsFrom, LocBootsOver, LocGoesOnBooted, LocGoesOnStarted, LocRises, LocStartsOver};
@@ -13,12 +13,12 @@ use crate::resting::Resting;
 use crate::running::{DatabaseRunning, Running};
 use crate::starting::{Start, fault_alone, stay, untold, with_line, with_room};
 use afs_disk::{Disk, Fuse};
-use afs_history::lines::{Line, Lines, Outs};
 use afs_locdb::LocDb;
 use afs_num::faults::StoreFault;
 use afs_num::records::Mark;
 use afs_num::sequences::Sequence;
 use afs_num::types::Node;
+use spec_history::lines::{Line, Lines, Outs};
 use std::alloc::Global;
 
 /// The database is up, over a store that has begun its boot. It takes no memory.

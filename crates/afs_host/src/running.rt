@@ -11,8 +11,8 @@ use crate::resting::{Resting, rest_of};
 use crate::setting::{Armed, Stop};
 use crate::stores::OnDisk;
 use afs_disk::{Disk, Fuse};
-use afs_history::lines::Line;
 use afs_locdb::LocDb;
+use spec_history::lines::Line;
 use std::marker::Model;
 
 /// How many device calls a record takes.

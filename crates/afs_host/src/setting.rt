@@ -1,7 +1,7 @@
 //! How a server's disk is set to stop or to fail.
 
 ghost use Rattle.std.specs.Prelude.{◌≡◌};
-ghost use Rattle.afs_rows.specs.Hosts.{lowered};
+ghost use Rattle.spec_rows.specs.Hosts.{lowered};
 ghost use Rattle.afs_host.specs.Setting.{armed_seen, pick_of, stops_now};
 
 /// The disk passes so many device calls more and then stops its node; the pick says what is left of the writes that

@@ -1,18 +1,18 @@
 //! A server node that is down begins again.
 
 ghost use Rattle.std.specs.Prelude.{◌≡◌, ◌<◌, ◌+◌, ◌++◌, ◌∷◌, [], false, vec_capacity, vec_len, IfOk};
-ghost use Rattle.afs_history.specs.declared.lines.Line.TheVariants as lines;
+ghost use Rattle.spec_history.specs.declared.lines.Line.TheVariants as lines;
 ghost use Rattle.afs_volstore.specs.Stores.{IsCounted};
 ghost use Rattle.afs_host.specs.Starting.{IsRefused, Stays};
 
 use crate::resting::{Resting, rest_of};
 use crate::stores::OnDisk;
 use afs_disk::Disk;
-use afs_history::lines::{Line, Lines, Outs};
 use afs_num::faults::StoreFault;
 use afs_num::records::Mark;
 use afs_num::sequences::Sequence;
 use afs_num::types::{Mem, Node};
+use spec_history::lines::{Line, Lines, Outs};
 use std::alloc::Global;
 
 /// How a node began again: it is up, and gives this out; or it stays down, with these lines. Or memory ran out: before anything was

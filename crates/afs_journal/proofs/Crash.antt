@@ -6,7 +6,7 @@ use Rattle.std.specs.Prelude.{zero, ◌≢◌, ◌==◌, Bool, false, nat_eq, re
 use Rattle.std.proofs.lemmas.Bool.{ne_eqb}
 use Rattle.afs_disk.specs.Disk.{overwritten, struck, written_by, Torn, CutShort}
 use Rattle.afs_journal.specs.Left.{records_left}
-use Rattle.afs_journal.specs.Records.{place_of, blocks, journal_bytes, record_at, whole_records, IsBeforeOrAfter, Fit, EndsAt}
+use Rattle.afs_journal.specs.Records.{place_of, blocks, journal_bytes, whole_record_at, whole_records, IsBeforeOrAfter, Fit, EndsAt}
 use Rattle.afs_journal.proofs.Records.{blocks-push, fit-push, length-blocks, length-place_of, closed, short, none_in_front, stands_for, stands_for_nothing}
 
 -- bytes that begin with these and go on with what is behind
@@ -49,8 +49,8 @@ module _ (bodies : List (List ℕ)) (gate : ℕ) (size : length (blocks 1 bodies
       let front : take gate c ≡ blocks 1 bodies = ap (take gate) (sym cut.front) ∙ take-take gate (length c) file (omega arith) ∙ ends.front in
       let after_gate : drop gate c ≡ take (length c - gate) (drop gate file) =
       ap (drop gate) (sym cut.front) ∙ ap (λ (m : ℕ). drop gate (take m file)) (omega arith) ∙ drop-take gate (length c - gate) file in
-      let none : record_at (suc (length bodies)) (drop gate c) ≡ None =
-      subst (λ (l : List ℕ). record_at (suc (length bodies)) l ≡ None) (sym after_gate) (none_in_front (suc (length bodies)) (length c - gate) (drop gate file) ends.nothing) in
+      let none : whole_record_at (suc (length bodies)) (drop gate c) ≡ None =
+      subst (λ (l : List ℕ). whole_record_at (suc (length bodies)) l ≡ None) (sym after_gate) (none_in_front (suc (length bodies)) (length c - gate) (drop gate file) ends.nothing) in
       ap whole_records (split_at gate c (blocks 1 bodies) front) ∙ stands_for bodies (drop gate c) fit (omega (arith, length-drop gate c)) none
 
   -- a file cut behind its gate

@@ -6,7 +6,7 @@ use Rattle.std.proofs.lemmas.List.{append-nil, take_at, drop_at, drop-drop, take
 use Rattle.std.proofs.lemmas.Bool.{cases_lt}
 use Rattle.std.proofs.lemmas.Bool.Decides.{nat_tests}
 use Rattle.afs_xdr.specs.Words.{word}
-use Rattle.afs_journal.specs.Records.{number_at, place_of, blocks, is_whole, record_at, and_then, whole_from, whole_records, Fit, EndsAt, StartsWith}
+use Rattle.afs_journal.specs.Records.{number_at, place_of, blocks, is_whole, whole_record_at, record_and_rest, whole_from, whole_records, Fit, EndsAt, StartsWith}
 
 pub length-word : (n : ℕ) → length (word n) ≡ 4
 unfolding word
@@ -59,7 +59,7 @@ module _ (number : ℕ) (body rest : List ℕ) where
   body_again : length body < 2 ^ 32 → take (number_at 1 one_more) (drop 9 one_more) ≡ body
   body_again small = ap (λ (n : ℕ). take n (drop 9 one_more)) (its_length small) ∙ ap (λ (l : List ℕ). take (length body) l) behind ∙ take_at body rest (length body) refl
 
-  pub record_again : length body < 2 ^ 32 → number < 2 ^ 32 → 0 < length rest → record_at number one_more ≡ Some body
+  pub record_again : length body < 2 ^ 32 → number < 2 ^ 32 → 0 < length rest → whole_record_at number one_more ≡ Some body
   record_again small counted more =
       rw (whole_one number one_more refl (omega (arith, its_length small, length-one_more)) (its_number counted)) (ap (λ (l : List ℕ). Some l) (body_again small))
 
@@ -76,20 +76,20 @@ pub is_next : (number : ℕ) (bytes : List ℕ) → is_whole number bytes ≡ tr
 unfolding is_whole
 is_next number bytes held = grind (arith, nat_tests)
 
-none_at : (number : ℕ) (bytes : List ℕ) → (is_whole number bytes ≡ true → ⊥) → record_at number bytes ≡ None
+none_at : (number : ℕ) (bytes : List ℕ) → (is_whole number bytes ≡ true → ⊥) → whole_record_at number bytes ≡ None
 none_at number bytes refuted = grind (arith, nat_tests)
 
-not_whole : (number : ℕ) (bytes : List ℕ) → record_at number bytes ≡ None → is_whole number bytes ≡ true → ⊥
+not_whole : (number : ℕ) (bytes : List ℕ) → whole_record_at number bytes ≡ None → is_whole number bytes ≡ true → ⊥
 not_whole number bytes none held = absurd (some_none _ (sym (ap (λ b. if b then Some (take (number_at 1 bytes) (drop 9 bytes)) else None) held) ∙ none))
   where
     some_none : (x : List ℕ) → Some x ≡ None → ⊥
     some_none x e = cc
 
 -- a closed gate ends the records, and so does an end with no room for a record
-pub closed : (number : ℕ) (bytes : List ℕ) → get_or bytes 0 0 ≢ 1 → record_at number bytes ≡ None
+pub closed : (number : ℕ) (bytes : List ℕ) → get_or bytes 0 0 ≢ 1 → whole_record_at number bytes ≡ None
 closed number bytes shut = none_at number bytes (λ held. shut (open_gate number bytes held))
 
-pub short : (number : ℕ) (bytes : List ℕ) → length bytes ≤ 9 → record_at number bytes ≡ None
+pub short : (number : ℕ) (bytes : List ℕ) → length bytes ≤ 9 → whole_record_at number bytes ≡ None
 short number bytes few = none_at number bytes (λ held. omega (arith, lies_inside number bytes held))
 
 -- a part of a front of some bytes
@@ -105,7 +105,7 @@ unfolding number_at
 same_number at m bytes le = ap (λ (l : List ℕ). from_be_bytes w32 l) (same_part at 4 m bytes le)
 
 -- where no whole record begins, none begins in a front
-pub none_in_front : (number m : ℕ) (bytes : List ℕ) → record_at number bytes ≡ None → record_at number (take m bytes) ≡ None
+pub none_in_front : (number m : ℕ) (bytes : List ℕ) → whole_record_at number bytes ≡ None → whole_record_at number (take m bytes) ≡ None
 none_in_front number m bytes none = none_at number (take m bytes) (λ held.
     let inside = lies_inside number (take m bytes) held in
     let fits : length (take m bytes) ≤ m = omega (arith, length-take m bytes) in
@@ -117,20 +117,20 @@ none_in_front number m bytes none = none_at number (take m bytes) (λ held.
 
 whole_step : (number fuel : ℕ) (body rest : List ℕ) → length body < 2 ^ 32 → number < 2 ^ 32 → 0 < length rest → whole_from (suc fuel) number (one_more number body rest) ≡ body ∷ whole_from fuel (suc number) rest
 whole_step number fuel body rest small counted more =
-    ap (λ (o : Option (List ℕ)). and_then o (λ first. whole_from fuel (suc number) (drop (length first + 9) (one_more number body rest)))) (record_again number body rest small counted more)
+    ap (λ (o : Option (List ℕ)). record_and_rest o (λ first. whole_from fuel (suc number) (drop (length first + 9) (one_more number body rest)))) (record_again number body rest small counted more)
     ∙ ap (λ (l : List ℕ). body ∷ whole_from fuel (suc number) l) (past number body rest)
 
-whole_none : (fuel number : ℕ) (end : List ℕ) → record_at number end ≡ None → whole_from fuel number end ≡ []
+whole_none : (fuel number : ℕ) (end : List ℕ) → whole_record_at number end ≡ None → whole_from fuel number end ≡ []
 whole_none zero number end none = refl
-whole_none (suc fuel) number end none = ap (λ (o : Option (List ℕ)). and_then o (λ body. whole_from fuel (suc number) (drop (length body + 9) end))) none
+whole_none (suc fuel) number end none = ap (λ (o : Option (List ℕ)). record_and_rest o (λ body. whole_from fuel (suc number) (drop (length body + 9) end))) none
 
-whole_blocks : (bodies : List (List ℕ)) (number fuel : ℕ) (end : List ℕ) → Fit number bodies → 0 < length end → length bodies ≤ fuel → record_at (number + length bodies) end ≡ None → whole_from fuel number (blocks number bodies ++ end) ≡ bodies
-whole_blocks [] number fuel end fit more enough none = whole_none fuel number end (subst (λ (n : ℕ). record_at n end ≡ None) (add-zero number) none)
+whole_blocks : (bodies : List (List ℕ)) (number fuel : ℕ) (end : List ℕ) → Fit number bodies → 0 < length end → length bodies ≤ fuel → whole_record_at (number + length bodies) end ≡ None → whole_from fuel number (blocks number bodies ++ end) ≡ bodies
+whole_blocks [] number fuel end fit more enough none = whole_none fuel number end (subst (λ (n : ℕ). whole_record_at n end ≡ None) (add-zero number) none)
 whole_blocks (body ∷ bodies) number zero end fit more enough none = absurd (omega arith)
 whole_blocks (body ∷ bodies) number (suc fuel) end fit more enough none =
     let rest = blocks (suc number) bodies ++ end in
     let regrouped : blocks number (body ∷ bodies) ++ end ≡ one_more number body rest = ap (λ (l : List ℕ). 1 ∷ l) (append_assoc (place_of number body) (blocks (suc number) bodies) end) in
-    let ends : record_at (suc number + length bodies) end ≡ None = subst (λ (n : ℕ). record_at n end ≡ None) (omega arith) none in
+    let ends : whole_record_at (suc number + length bodies) end ≡ None = subst (λ (n : ℕ). whole_record_at n end ≡ None) (omega arith) none in
     let later : 0 < length rest = omega (arith, length-append (blocks (suc number) bodies) end) in
     ap (whole_from (suc fuel) number) regrouped
     ∙ whole_step number fuel body rest fit.0 fit.1 later
@@ -159,10 +159,10 @@ length-blocks [] number = omega arith
 length-blocks (body ∷ bodies) number = omega (arith, length-append (place_of number body) (blocks (suc number) bodies), length-place_of number body, length-blocks bodies (suc number))
 
 -- records with open gates, and behind them an end in which none begins
-pub stands_for : (bodies : List (List ℕ)) (end : List ℕ) → Fit 1 bodies → 0 < length end → record_at (suc (length bodies)) end ≡ None → whole_records (blocks 1 bodies ++ end) ≡ bodies
+pub stands_for : (bodies : List (List ℕ)) (end : List ℕ) → Fit 1 bodies → 0 < length end → whole_record_at (suc (length bodies)) end ≡ None → whole_records (blocks 1 bodies ++ end) ≡ bodies
 unfolding whole_records
 stands_for bodies end fit more none =
-    whole_blocks bodies 1 (length (blocks 1 bodies ++ end)) end fit more (omega (arith, length-append (blocks 1 bodies) end, length-blocks bodies 1)) (subst (λ (n : ℕ). record_at n end ≡ None) (omega arith) none)
+    whole_blocks bodies 1 (length (blocks 1 bodies ++ end)) end fit more (omega (arith, length-append (blocks 1 bodies) end, length-blocks bodies 1)) (subst (λ (n : ℕ). whole_record_at n end ≡ None) (omega arith) none)
 
 pub stands_for_nothing : whole_records [] ≡ []
 unfolding whole_records
@@ -222,14 +222,14 @@ pub one_found : (bytes : List ℕ) (bodies : List (List ℕ)) (body old rest : L
 one_found bytes bodies body old rest is first = is ∙ ap (λ (l : List ℕ). blocks 1 bodies ++ l) first.is ∙ ap (λ (n : ℕ). blocks 1 bodies ++ 1 ∷ (place_of n body ++ rest)) (omega arith) ∙ sym (blocks-push bodies 1 body rest)
 
 -- at the end of the whole records
-pub all_found : (bytes : List ℕ) (bodies : List (List ℕ)) (rest : List ℕ) (gate : ℕ) → bytes ≡ blocks 1 bodies ++ rest → gate ≡ length bytes - length rest → 0 < length rest → Fit 1 bodies → record_at (suc (length bodies)) rest ≡ None → EndsAt gate bodies bytes
+pub all_found : (bytes : List ℕ) (bodies : List (List ℕ)) (rest : List ℕ) (gate : ℕ) → bytes ≡ blocks 1 bodies ++ rest → gate ≡ length bytes - length rest → 0 < length rest → Fit 1 bodies → whole_record_at (suc (length bodies)) rest ≡ None → EndsAt gate bodies bytes
 all_found bytes bodies rest gate is at more fit none =
     let size : length (blocks 1 bodies) ≡ gate = length-front bytes bodies rest is ∙ sym at in
     record {
       front = ap (take gate) is ∙ take_at (blocks 1 bodies) rest gate size;
       inside = omega (arith, size, ap length is, length-append (blocks 1 bodies) rest);
       fit = fit;
-      nothing = ap (λ (l : List ℕ). record_at (suc (length bodies)) l) (ap (drop gate) is ∙ drop_at (blocks 1 bodies) rest gate size) ∙ none;
+      nothing = ap (λ (l : List ℕ). whole_record_at (suc (length bodies)) l) (ap (drop gate) is ∙ drop_at (blocks 1 bodies) rest gate size) ∙ none;
     }
 
 -- where the record lies with which the rest of some bytes begins

@@ -113,7 +113,7 @@ pub record SameCounts {D : Type 0} (faults own_faults calls : D → ℕ) (settin
   pub same_limit : limit new ≡ limit old
 
 -- what taking up a disk does to its counts: at most six device calls, and none set anew
-pub record Taken {D : Type 0} (faults own_faults calls : D → ℕ) (setting : D → Setting) (old new : D) : Type 0 where
+pub record TakesUpDisk {D : Type 0} (faults own_faults calls : D → ℕ) (setting : D → Setting) (old new : D) : Type 0 where
   pub never_falls : faults old ≤ faults new
   pub own_never_falls : own_faults old ≤ own_faults new
   pub counted : calls old ≤ calls new

@@ -3,7 +3,7 @@ use Rattle.std.specs.Prelude.{ℕ, List, Result}
 use Rattle.afs_num.specs.declared.faults.JournalFault.{JournalFault}
 use Rattle.afs_disk.specs.declared.disk.Disk.{Ghosts}
 use Rattle.afs_journal.specs.Left.{LeavesByPick, ReachesCall}
-use Rattle.afs_journal.specs.Log.{IsCaused, SameCounts, Served, Taken}
+use Rattle.afs_journal.specs.Log.{IsCaused, SameCounts, Served, TakesUpDisk}
 
 -- no count changed, nor how it is set
 abbrev pub SameCountsBy : {D : Type 0} → Ghosts D → D → D → Type 0
@@ -11,7 +11,7 @@ SameCountsBy w old new = SameCounts w.faults w.own_faults w.calls w.setting w.li
 
 -- what taking a journal up does to the counts
 abbrev pub TakenBy : {D : Type 0} → Ghosts D → D → D → Type 0
-TakenBy w old new = Taken w.faults w.own_faults w.calls w.setting old new
+TakenBy w old new = TakesUpDisk w.faults w.own_faults w.calls w.setting old new
 
 -- what a call's fault comes from, and what its device calls were
 abbrev pub IsCausedBy : {D : Type 0} → Ghosts D → D → D → JournalFault → Type 0

@@ -1,7 +1,7 @@
 // The whole records of bytes that a crash may have left.
 ghost use Rattle.std.specs.Prelude.{◌≡◌, ◌≤◌, ◌<◌, ◌+◌, ◌-◌, ◌*◌, ◌^◌, IfOk, IfSome, IfNone, IsTrue, drop, length, map, take, None};
 ghost use Rattle.afs_journal.specs.Found.{piece_of};
-ghost use Rattle.afs_journal.specs.Records.{number_at, is_whole, record_at, whole_records, StartsWith, EndsAt};
+ghost use Rattle.afs_journal.specs.Records.{number_at, is_whole, whole_record_at, whole_records, StartsWith, EndsAt};
 
 use crate::found::Piece;
 use std::alloc::{AllocError, Global};
@@ -36,7 +36,7 @@ fn is_record(number: u64, bytes: &[u8]) -> bool
 // The record of this number with which the bytes begin, and what is behind it.
 fn first(number: u64, bytes: &[u8]) -> Option<(&[u8], &[u8])>
     ensures some { IfSome result (λ r. StartsWith number r.0.now r.1.now bytes.now) }
-    ensures none { IfNone result (record_at number bytes.now ≡ None) }
+    ensures none { IfNone result (whole_record_at number bytes.now ≡ None) }
 {
     if !is_record(number, bytes) {
         return None;

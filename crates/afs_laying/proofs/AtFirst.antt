@@ -7,17 +7,17 @@ use Rattle.std.proofs.lemmas.List.{map-append}
 use Rattle.afs_num.specs.declared.directories.Name.{Name}
 use Rattle.afs_num.specs.declared.vnodes.Vnode as image
 use Rattle.afs_num.specs.declared.volumes.VolumeHead.{VolumeHead}
-use Rattle.afs_ideal.specs.Images.{Image, acl_by, image_of, value_of}
-use Rattle.afs_ideal.specs.SetUp.{all_at_first, at_first, one_at_first}
-use Rattle.afs_ideal.specs.Tables.{Table, get, AscendsFrom}
-use Rattle.afs_ideal.specs.VnodeImage.{FitsImage}
-use Rattle.afs_ideal.specs.VnodeMaps.{most_vnodes}
-use Rattle.afs_ideal.specs.Volumes.{Kind, a_file, a_directory, a_link, Vnode, Volume, Edit, edited, counted, edited_all, edit_number}
-use Rattle.afs_ideal.proofs.Tables.{ascends_lower}
-use Rattle.afs_records.specs.Changes.{gone_between, image_left, images_left, numbers_gone, stored_between}
-use Rattle.afs_records.specs.Durable.{Stored, changed_stored}
-use Rattle.afs_records.proofs.Kept.{all_keep, changed_for, is_edited, same_rest}
-use Rattle.afs_records.proofs.Tested.{passes}
+use Rattle.spec_ideal.specs.Images.{Image, acl_by, image_of, value_of}
+use Rattle.spec_ideal.specs.SetUp.{all_at_first, at_first, one_at_first}
+use Rattle.spec_ideal.specs.Tables.{Table, get, AscendsFrom}
+use Rattle.spec_ideal.specs.VnodeImage.{FitsImage}
+use Rattle.spec_ideal.specs.VnodeMaps.{most_vnodes}
+use Rattle.spec_ideal.specs.Volumes.{VnodeKind, a_file, a_directory, a_link, Vnode, Volume, Edit, edited, counted, edited_all, edit_number}
+use Rattle.spec_ideal.proofs.Tables.{ascends_lower}
+use Rattle.spec_records.specs.Changes.{gone_between, image_left, images_left, numbers_gone, stored_between}
+use Rattle.spec_records.specs.Durable.{Stored, changed_stored}
+use Rattle.spec_records.proofs.Kept.{all_keep, changed_for, is_edited, same_rest}
+use Rattle.spec_records.proofs.Tested.{passes}
 use Rattle.afs_changes.specs.Drawing.{makes_vnode, IsLeft}
 use Rattle.afs_laying.specs.Filled.{at_once, image_at_first, CanBeLaid}
 use Rattle.afs_volume.specs.Giving.{volume_of}
@@ -38,7 +38,7 @@ use Rattle.afs_changes.proofs.Values.{IsSeenOf}
 
 -- ---- images as at first
 
-acl_first : (k : Kind) (x : Vnode) → acl_by k (at_first x) ≡ acl_by k x
+acl_first : (k : VnodeKind) (x : Vnode) → acl_by k (at_first x) ≡ acl_by k x
 acl_first a_file x = refl
 acl_first a_directory x = refl
 acl_first a_link x = refl

@@ -5,16 +5,16 @@ use Rattle.std.specs.Option.{option_map}
 use Rattle.std.proofs.lemmas.Bool.Decides.{nat_tests}
 use Rattle.afs_num.specs.declared.types.Fid.{Fid}
 use Rattle.afs_num.specs.declared.calls.FsCall.TheVariants as calls
-use Rattle.afs_ideal.specs.Tables.{Table, get, set, AscendsFrom}
-use Rattle.afs_ideal.specs.Volumes.{Kind, a_file, a_directory, a_link, Vnode, Volume, Amend, Edit, amends, makes, amended, amends_at, edited, makes_at, fresh, bytes_by, blocks_of, blocks_in, counted, edited_all, ascending, placed, edit_number, if_unique, vnode_of, with_status}
-use Rattle.afs_ideal.specs.Operations as ops
-use Rattle.afs_ideal.specs.Operations.{all_rights, changes, creating, name_of, names_in, most_bytes, first_failing, free_number, limits, new_file, no_amend, op, tests}
-use Rattle.afs_ideal.specs.SetUp.{all_at_first, at_first, called, laid_by, new_fid, nothing_set, one_at_first, stores_all}
-use Rattle.afs_ideal.specs.Soundness.{IsSound}
-use Rattle.afs_ideal.specs.Directories.{with_name}
-use Rattle.afs_ideal.proofs.Scopes.{accepted, all_pass}
-use Rattle.afs_ideal.proofs.Tables.{ascends_lower, ascends_set, free_is_free, get_set}
-use Rattle.afs_records.proofs.Kept.{is_edited, same_tables}
+use Rattle.spec_ideal.specs.Tables.{Table, get, set, AscendsFrom}
+use Rattle.spec_ideal.specs.Volumes.{VnodeKind, a_file, a_directory, a_link, Vnode, Volume, Amend, Edit, amends, makes, amended, amends_at, edited, makes_at, fresh, bytes_by, blocks_of, blocks_in, counted, edited_all, ascending, edit_put, edit_number, if_unique, vnode_of, with_status}
+use Rattle.spec_ideal.specs.Operations as ops
+use Rattle.spec_ideal.specs.Operations.{all_rights, changes, creating, directory_name, names_in, most_file_bytes, first_failing, free_number, limits, new_file, no_amend, op, tests}
+use Rattle.spec_ideal.specs.SetUp.{all_at_first, at_first, called, laid_by, new_fid, nothing_set, one_at_first, stores_all}
+use Rattle.spec_ideal.specs.Soundness.{IsSound}
+use Rattle.spec_ideal.specs.Directories.{with_name}
+use Rattle.spec_ideal.proofs.Scopes.{accepted, all_pass}
+use Rattle.spec_ideal.proofs.Tables.{ascends_lower, ascends_set, free_is_free, get_set}
+use Rattle.spec_records.proofs.Kept.{is_edited, same_tables}
 use Rattle.afs_volume.specs.Counting.{blocks_at}
 use Rattle.afs_laying.specs.Filled.{at_once, filled, filled_at_once}
 use Rattle.afs_volume.proofs.Sums.{blocks_set}
@@ -58,7 +58,7 @@ first_up (e ∷ es) t up = first_up es (one_at_first (edit_number e) (get (edit_
 
 -- and its blocks
 
-pub same_bytes : (k : Kind) (x : Vnode) → bytes_by k (at_first x) ≡ bytes_by k x
+pub same_bytes : (k : VnodeKind) (x : Vnode) → bytes_by k (at_first x) ≡ bytes_by k x
 same_bytes a_file x = refl
 same_bytes a_directory x = refl
 same_bytes a_link x = refl
@@ -188,10 +188,10 @@ last_test true = refl
 last_test false = refl
 
 stored_tests : (f : Fid) (bytes : List ℕ) (m : Volume) (y : Vnode) → vnode_of f m ≡ Some y → y.kind ≡ a_file → nat_eq m.kind 0 ≡ true
-    → first_failing (tests all_rights (stores_all f bytes) m) ≡ (if nat_lt most_bytes (length bytes) then Some 27 else None)
+    → first_failing (tests all_rights (stores_all f bytes) m) ≡ (if nat_lt most_file_bytes (length bytes) then Some 27 else None)
 stored_tests f bytes m y there kind writable =
     let same : nat_eq (length bytes) (length bytes) ≡ true = eq-eqb (length bytes) (length bytes) refl in
-    rw (there, kind, writable, same) (last_test (nat_lt most_bytes (length bytes)))
+    rw (there, kind, writable, same) (last_test (nat_lt most_file_bytes (length bytes)))
 
 quota_test : (b : Bool) → ◌≡◌ {A = Option ℕ} (if not b then None else Some 109) (if b then Some 109 else None)
 quota_test true = refl
@@ -230,14 +230,14 @@ stored_laid id n bytes m w there up =
 
 stored_called : (id n u : ℕ) (bytes : List ℕ) (m : Volume) (w : Vnode) → get n m.vnodes ≡ Some (at_first w) → w.unique ≡ u → w.kind ≡ a_file → nat_eq m.kind 0 ≡ true → m.counter ≡ 1 → AscendsFrom 0 m.vnodes
     → called id (stores_all (record { volume = id; vnode = n; unique = u }) bytes) m
-    ≡ (if nat_lt most_bytes (length bytes) then Err 27
+    ≡ (if nat_lt most_file_bytes (length bytes) then Err 27
     else (if nat_lt m.quota (blocks_in (set n (amended (m.counter + 1) (stored_amend bytes) (at_first w)) m.vnodes)) then Err 109
     else Ok (record m { counter = 1; vnodes = set n (at_first (amended (m.counter + 1) (stored_amend bytes) (at_first w))) m.vnodes })))
 unfolding stored_amend
 stored_called id n u bytes m w there unique kind writable counter up =
     let f : Fid = record { volume = id; vnode = n; unique = u } in
     let z : Vnode = amended (m.counter + 1) (stored_amend bytes) (at_first w) in
-    let long : Bool = nat_lt most_bytes (length bytes) in
+    let long : Bool = nat_lt most_file_bytes (length bytes) in
     let more : Bool = nat_lt m.quota (blocks_in (set n z m.vnodes)) in
     let found : vnode_of f m ≡ Some (at_first w) = rw (there, eq-eqb w.unique u unique) refl in
     let tested = stored_tests f bytes m (at_first w) found kind writable in
@@ -280,13 +280,13 @@ pub record Creates (d : Fid) (name : List ℕ) (v : Volume) (es : List Edit) : T
   pub y : Vnode
   pub there : get d.vnode v.vnodes ≡ Some y
   pub writable : nat_eq v.kind 0 ≡ true
-  pub is : es ≡ two (nat_lt (free_number a_file v) d.vnode) d.vnode (free_number a_file v) (record no_amend { names = Some (with_name (name_of name (free_number a_file v) v.next) (names_in (vnode_of d v))) }) (with_status (Some nothing_set) (new_file d))
+  pub is : es ≡ two (nat_lt (free_number a_file v) d.vnode) d.vnode (free_number a_file v) (record no_amend { names = Some (with_name (directory_name name (free_number a_file v) v.next) (names_in (vnode_of d v))) }) (with_status (Some nothing_set) (new_file d))
 
 there_by : (u : ℕ) (o : Option Vnode) → is_some (if_unique u o) ≡ true → (y : Vnode) × (o ≡ Some y)
 there_by u None e = absurd cc
 there_by u (Some y) e = (y, refl)
 
-pub in_order : (b : Bool) (d n : ℕ) (a : Amend) (x : Vnode) → (if b then makes n x ∷ placed (amends d a) [] else amends d a ∷ makes n x ∷ []) ≡ two b d n a x
+pub in_order : (b : Bool) (d n : ℕ) (a : Amend) (x : Vnode) → (if b then makes n x ∷ edit_put (amends d a) [] else amends d a ∷ makes n x ∷ []) ≡ two b d n a x
 in_order true d n a x = refl
 in_order false d n a x = refl
 
@@ -319,7 +319,7 @@ file_at_once id d name bytes v es m h e =
     let c = creates id d name v es m e in
     let n : ℕ = free_number a_file v in
     let b : Bool = nat_lt n d.vnode in
-    let a : Amend = record no_amend { names = Some (with_name (name_of name n v.next) (names_in (vnode_of d v))) } in
+    let a : Amend = record no_amend { names = Some (with_name (directory_name name n v.next) (names_in (vnode_of d v))) } in
     let x : Vnode = with_status (Some nothing_set) (new_file d) in
     let up : AscendsFrom 0 v.vnodes = ascends_lower 0 1 v.vnodes (omega arith) h.ascending in
     let free : get n v.vnodes ≡ None = free_is_free 0 2 v.vnodes up in

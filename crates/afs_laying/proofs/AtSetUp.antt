@@ -1,10 +1,10 @@
 -- What set-up lays has the time 0.
 use Rattle.std.proofs.Common.{◌≡◌, ℕ, List, [], ◌∷◌, ◌++◌, Option, Some, None, ap, subst, ◌∙◌}
-use Rattle.afs_ideal.specs.Images.{Image}
-use Rattle.afs_ideal.specs.Tables.{Table, get, set, unset}
-use Rattle.afs_ideal.specs.Volumes.{Vnode, Volume, Edit, edit_number}
-use Rattle.afs_records.specs.Changes.{image_left, images_left, numbers_gone, set_times, stored_between, unset_times}
-use Rattle.afs_records.specs.Durable.{Stored}
+use Rattle.spec_ideal.specs.Images.{Image}
+use Rattle.spec_ideal.specs.Tables.{Table, get, set, unset}
+use Rattle.spec_ideal.specs.Volumes.{Vnode, Volume, Edit, edit_number}
+use Rattle.spec_records.specs.Changes.{image_left, images_left, numbers_gone, set_times, stored_between, unset_times}
+use Rattle.spec_records.specs.Durable.{Stored}
 use Rattle.afs_laying.specs.Filled.{at_once}
 use Rattle.afs_volume.specs.Giving.{volume_of}
 use Rattle.afs_volume.specs.Taking.{stored_of, times_in, IsAtSetUp}

@@ -5,15 +5,15 @@ use Rattle.std.specs.Prelude.{IfErr}
 use Rattle.afs_num.specs.declared.calls.FsCall.{FsCall}
 use Rattle.afs_num.specs.declared.calls.FsCall.TheVariants as calls
 use Rattle.afs_num.specs.declared.types.Fid.{Fid}
-use Rattle.afs_shape.specs.Reading.{◌>>=◌}
-use Rattle.afs_ideal.specs.Operations as ops
-use Rattle.afs_ideal.specs.Operations.{all_rights, changes, op, Found, IsOn}
-use Rattle.afs_ideal.specs.SetUp.{acl_laid, called, laid_by, led, unless_over}
-use Rattle.afs_ideal.specs.Soundness.{IsSound}
-use Rattle.afs_ideal.specs.VnodeMaps.{most_vnodes}
-use Rattle.afs_ideal.specs.Volumes.{Edit, Volume}
-use Rattle.afs_ideal.proofs.Laid.{called_sound}
-use Rattle.afs_ideal.proofs.Proper.{operations_change}
+use Rattle.spec_shape.specs.Reading.{◌>>=◌}
+use Rattle.spec_ideal.specs.Operations as ops
+use Rattle.spec_ideal.specs.Operations.{all_rights, changes, op, Found, IsOn}
+use Rattle.spec_ideal.specs.SetUp.{acl_laid, called, laid_by, led, unless_over}
+use Rattle.spec_ideal.specs.Soundness.{IsSound}
+use Rattle.spec_ideal.specs.VnodeMaps.{most_vnodes}
+use Rattle.spec_ideal.specs.Volumes.{Edit, Volume}
+use Rattle.spec_ideal.proofs.Laid.{called_sound}
+use Rattle.spec_ideal.proofs.Proper.{operations_change}
 use Rattle.afs_laying.specs.Filled.{at_once, code_in, fid_in, CanBeLaid, IsCodeOf, Lays}
 use Rattle.afs_reads.specs.Replying.{refusal_of}
 use Rattle.afs_changes.specs.Planning.{Plans}

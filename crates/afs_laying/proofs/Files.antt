@@ -7,21 +7,21 @@ use Rattle.std.proofs.lemmas.Bool.Decides.{nat_tests}
 use Rattle.afs_num.specs.declared.directories.Name.{Name}
 use Rattle.afs_num.specs.declared.types.Fid.{Fid}
 use Rattle.afs_num.specs.declared.calls.FsCall.TheVariants as calls
-use Rattle.afs_shape.specs.Reading.{◌>>=◌}
-use Rattle.afs_ideal.specs.Directories.{with_name}
-use Rattle.afs_ideal.specs.Operations as ops
-use Rattle.afs_ideal.specs.Operations.{all_rights, changes, creating, edit_fits, free_number, name_of, names_in, new_file, no_amend, op, tests}
-use Rattle.afs_ideal.specs.SetUp.{a_file_of, called, laid_by, laid_in, new_fid, nothing_set, stores_all}
-use Rattle.afs_ideal.specs.Soundness.{IsSound}
-use Rattle.afs_ideal.specs.Tables.{get, AscendsFrom}
-use Rattle.afs_ideal.specs.VnodeMaps.{most_vnodes}
-use Rattle.afs_ideal.specs.Volumes.{Kind, a_directory, a_file, a_link, Vnode, Volume, Amend, Edit, amends, makes, amended, ascending, blocks_in, edited_all, if_unique, vnode_of, with_status}
-use Rattle.afs_ideal.proofs.Basics.{both}
-use Rattle.afs_ideal.proofs.Laid.{called_sound}
-use Rattle.afs_ideal.proofs.Looks.{Distinct, MakesAs}
-use Rattle.afs_ideal.proofs.Scopes.{accepted, all_pass}
-use Rattle.afs_ideal.proofs.Tables.{ascends_lower, free_is_free}
-use Rattle.afs_ideal.proofs.Tellings.{FindEach}
+use Rattle.spec_shape.specs.Reading.{◌>>=◌}
+use Rattle.spec_ideal.specs.Directories.{with_name}
+use Rattle.spec_ideal.specs.Operations as ops
+use Rattle.spec_ideal.specs.Operations.{all_rights, changes, creating, edit_fits, free_number, directory_name, names_in, new_file, no_amend, op, tests}
+use Rattle.spec_ideal.specs.SetUp.{a_file_of, called, laid_by, laid_in, new_fid, nothing_set, stores_all}
+use Rattle.spec_ideal.specs.Soundness.{IsSound}
+use Rattle.spec_ideal.specs.Tables.{get, AscendsFrom}
+use Rattle.spec_ideal.specs.VnodeMaps.{most_vnodes}
+use Rattle.spec_ideal.specs.Volumes.{VnodeKind, a_directory, a_file, a_link, Vnode, Volume, Amend, Edit, amends, makes, amended, ascending, blocks_in, edited_all, if_unique, vnode_of, with_status}
+use Rattle.spec_ideal.proofs.Basics.{both}
+use Rattle.spec_ideal.proofs.Laid.{called_sound}
+use Rattle.spec_ideal.proofs.Looks.{Distinct, MakesAs}
+use Rattle.spec_ideal.proofs.Scopes.{accepted, all_pass}
+use Rattle.spec_ideal.proofs.Tables.{ascends_lower, free_is_free}
+use Rattle.spec_ideal.proofs.Tellings.{FindEach}
 use Rattle.afs_changes.specs.Drawing.{CanBeDrawn, HasOwn}
 use Rattle.afs_laying.specs.Filled.{at_once, code_in, filled, filled_at_once, is_accepted, CanBeLaid, IsCodeOf, IsFilled, LaysEdits}
 use Rattle.afs_reads.specs.Replying.{checked}
@@ -45,7 +45,7 @@ pub same_filled : (id : ℕ) (d : Fid) (name bytes : List ℕ) (v : Volume) (es 
 same_filled id d name bytes v es m e =
     let n : ℕ = free_number a_file v in
     let b : Bool = nat_lt n d.vnode in
-    let a : Amend = record no_amend { names = Some (with_name (name_of name n v.next) (names_in (vnode_of d v))) } in
+    let a : Amend = record no_amend { names = Some (with_name (directory_name name n v.next) (names_in (vnode_of d v))) } in
     let x : Vnode = with_status (Some nothing_set) (new_file d) in
     in_order b d.vnode n a (record x { contents = bytes }) ∙ (sym (two_filled bytes b d.vnode n a x) ∙ ap (filled bytes) (sym (creates id d name v es m e).is))
 
@@ -76,12 +76,12 @@ two_drawn false d n a x y v low fits there free own =
     let two = both (edit_fits v (makes n x)) true one.1 in
     (record { counter = low; fits = one.0; stands = rw there own }, (record { counter = low; fits = two.0; stands = free }, tt))
 
-names_kept : (k : Kind) (c : ℕ) (o : Option (List Name)) (y : Vnode) → k ≡ a_directory → HasOwn k y → HasOwn k (amended c (record no_amend { names = o }) y)
+names_kept : (k : VnodeKind) (c : ℕ) (o : Option (List Name)) (y : Vnode) → k ≡ a_directory → HasOwn k y → HasOwn k (amended c (record no_amend { names = o }) y)
 names_kept a_directory c o y is own = own
 names_kept a_file c o y is own = absurd cc
 names_kept a_link c o y is own = absurd cc
 
-kind_so : (k : Kind) → ops.is_kind k a_directory ≡ true → k ≡ a_directory
+kind_so : (k : VnodeKind) → ops.is_kind k a_directory ≡ true → k ≡ a_directory
 kind_so a_directory e = refl
 kind_so a_file e = absurd cc
 kind_so a_link e = absurd cc
@@ -109,7 +109,7 @@ can_be_laid id d name bytes v es m h few e laid =
     let c = creates id d name v es m e in
     let n : ℕ = free_number a_file v in
     let b : Bool = nat_lt n d.vnode in
-    let a : Amend = record no_amend { names = Some (with_name (name_of name n v.next) (names_in (vnode_of d v))) } in
+    let a : Amend = record no_amend { names = Some (with_name (directory_name name n v.next) (names_in (vnode_of d v))) } in
     let x : Vnode = with_status (Some nothing_set) (new_file d) in
     let f : Vnode = record x { contents = bytes } in
     let up : AscendsFrom 0 v.vnodes = ascends_lower 0 1 v.vnodes (omega arith) h.ascending in
@@ -142,13 +142,13 @@ accepted_is ops.no_operation e = absurd cc
 
 -- the answers in between
 
-pub too_long : (id : ℕ) (bytes : List ℕ) (es : List Edit) (v : Volume) (r : Result Volume ℕ) → r ≡ filled_at_once id bytes es v → nat_lt ops.most_bytes (length bytes) ≡ true → r ≡ Err 27
+pub too_long : (id : ℕ) (bytes : List ℕ) (es : List Edit) (v : Volume) (r : Result Volume ℕ) → r ≡ filled_at_once id bytes es v → nat_lt ops.most_file_bytes (length bytes) ≡ true → r ≡ Err 27
 too_long id bytes es v r is long = is ∙ rw long refl
 
-pub too_many : (id : ℕ) (bytes : List ℕ) (es : List Edit) (v : Volume) (r : Result Volume ℕ) → r ≡ filled_at_once id bytes es v → nat_lt ops.most_bytes (length bytes) ≡ false → nat_lt v.quota (blocks_in (edited_all id (filled bytes es) v).vnodes) ≡ true → r ≡ Err 109
+pub too_many : (id : ℕ) (bytes : List ℕ) (es : List Edit) (v : Volume) (r : Result Volume ℕ) → r ≡ filled_at_once id bytes es v → nat_lt ops.most_file_bytes (length bytes) ≡ false → nat_lt v.quota (blocks_in (edited_all id (filled bytes es) v).vnodes) ≡ true → r ≡ Err 109
 too_many id bytes es v r is long more = is ∙ rw (long, more) refl
 
-pub laid_whole : (id : ℕ) (bytes : List ℕ) (es : List Edit) (v : Volume) (r : Result Volume ℕ) → r ≡ filled_at_once id bytes es v → nat_lt ops.most_bytes (length bytes) ≡ false → nat_lt v.quota (blocks_in (edited_all id (filled bytes es) v).vnodes) ≡ false → r ≡ Ok (at_once id (filled bytes es) v)
+pub laid_whole : (id : ℕ) (bytes : List ℕ) (es : List Edit) (v : Volume) (r : Result Volume ℕ) → r ≡ filled_at_once id bytes es v → nat_lt ops.most_file_bytes (length bytes) ≡ false → nat_lt v.quota (blocks_in (edited_all id (filled bytes es) v).vnodes) ≡ false → r ≡ Ok (at_once id (filled bytes es) v)
 laid_whole id bytes es v r is long more = is ∙ rw (long, more) refl
 
 -- ---- where CreateFile is accepted
@@ -170,17 +170,17 @@ is_filled id d name bytes v fs y h file is =
 
 -- ---- what laying it is answered
 
-pub long_refused : (id : ℕ) (d : Fid) (name bytes : List ℕ) (v : Volume) → IsSound v → is_accepted (op id all_rights (calls.CreateFile d name nothing_set) v) ≡ true → nat_lt ops.most_bytes (length bytes) ≡ true → laid_in id v d name (a_file_of bytes) ≡ Err 27
+pub long_refused : (id : ℕ) (d : Fid) (name bytes : List ℕ) (v : Volume) → IsSound v → is_accepted (op id all_rights (calls.CreateFile d name nothing_set) v) ≡ true → nat_lt ops.most_file_bytes (length bytes) ≡ true → laid_in id v d name (a_file_of bytes) ≡ Err 27
 long_refused id d name bytes v sound h long =
     let a = accepted_is (op id all_rights (calls.CreateFile d name nothing_set) v) h in
     too_long id bytes a.0 v _ (file_laid id d name bytes v a.0 a.1.0 sound a.1.1) long
 
-pub many_refused : (id : ℕ) (d : Fid) (name bytes : List ℕ) (v : Volume) (fs : List Edit) → IsSound v → IsFilled id d name bytes v fs → nat_lt ops.most_bytes (length bytes) ≡ false → nat_lt v.quota (blocks_in (edited_all id fs v).vnodes) ≡ true
+pub many_refused : (id : ℕ) (d : Fid) (name bytes : List ℕ) (v : Volume) (fs : List Edit) → IsSound v → IsFilled id d name bytes v fs → nat_lt ops.most_file_bytes (length bytes) ≡ false → nat_lt v.quota (blocks_in (edited_all id fs v).vnodes) ≡ true
     → laid_in id v d name (a_file_of bytes) ≡ Err 109
 many_refused id d name bytes v fs sound f short more =
     too_many id bytes f.0 v _ (file_laid id d name bytes v f.0 f.1.0 sound f.1.1.0) short (subst (λ (es : List Edit). nat_lt v.quota (blocks_in (edited_all id es v).vnodes) ≡ true) f.1.1.1 more)
 
-pub file_lays : (id : ℕ) (d : Fid) (name bytes : List ℕ) (v : Volume) (fs : List Edit) → IsSound v → length v.vnodes ≤ most_vnodes → IsFilled id d name bytes v fs → nat_lt ops.most_bytes (length bytes) ≡ false
+pub file_lays : (id : ℕ) (d : Fid) (name bytes : List ℕ) (v : Volume) (fs : List Edit) → IsSound v → length v.vnodes ≤ most_vnodes → IsFilled id d name bytes v fs → nat_lt ops.most_file_bytes (length bytes) ≡ false
     → nat_lt v.quota (blocks_in (edited_all id fs v).vnodes) ≡ false → CanBeLaid id v fs × (laid_in id v d name (a_file_of bytes) ≡ Ok (at_once id fs v))
 file_lays id d name bytes v fs sound few f short enough =
     let laid = laid_whole id bytes f.0 v (laid_in id v d name (a_file_of bytes)) (file_laid id d name bytes v f.0 f.1.0 sound f.1.1.0) short (subst (λ (es : List Edit). nat_lt v.quota (blocks_in (edited_all id es v).vnodes) ≡ false) f.1.1.1 enough) in
@@ -192,7 +192,7 @@ filled_apart id d name bytes v fs h f =
     let c = creates id d name v f.0 f.1.0 f.1.1.0 in
     let n : ℕ = free_number a_file v in
     let b : Bool = nat_lt n d.vnode in
-    let a : Amend = record no_amend { names = Some (with_name (name_of name n v.next) (names_in (vnode_of d v))) } in
+    let a : Amend = record no_amend { names = Some (with_name (directory_name name n v.next) (names_in (vnode_of d v))) } in
     let x : Vnode = with_status (Some nothing_set) (new_file d) in
     let up : AscendsFrom 0 v.vnodes = ascends_lower 0 1 v.vnodes (omega arith) h.ascending in
     let apart : nat_eq d.vnode n ≡ false = apart_by d.vnode n v.vnodes c.y (nat_eq d.vnode n) refl c.there (free_is_free 0 2 v.vnodes up) in
@@ -208,7 +208,7 @@ filled_few id d name bytes v fs f =
     let c = creates id d name v f.0 f.1.0 f.1.1.0 in
     let n : ℕ = free_number a_file v in
     let b : Bool = nat_lt n d.vnode in
-    let a : Amend = record no_amend { names = Some (with_name (name_of name n v.next) (names_in (vnode_of d v))) } in
+    let a : Amend = record no_amend { names = Some (with_name (directory_name name n v.next) (names_in (vnode_of d v))) } in
     let x : Vnode = with_status (Some nothing_set) (new_file d) in
     ap (λ (es : List Edit). length es) (f.1.1.1 ∙ (ap (filled bytes) c.is ∙ two_filled bytes b d.vnode n a x)) ∙ two_long b d.vnode n a (record x { contents = bytes })
 

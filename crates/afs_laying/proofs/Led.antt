@@ -3,15 +3,15 @@ use Rattle.std.proofs.Common.{◌≡◌, ℕ, suc, ◌-◌, ℤ, pos, true, List
 use Rattle.std.specs.Option.{option_map}
 use Rattle.std.proofs.lemmas.Option.{slice_get-get_or}
 use Rattle.afs_num.specs.declared.types.Fid.{Fid}
-use Rattle.afs_shape.specs.Reading.{◌>>=◌}
+use Rattle.spec_shape.specs.Reading.{◌>>=◌}
 use Rattle.afs_num.specs.declared.directories.Name.{Name}
 use Rattle.afs_num.specs.declared.vnodes.Vnode as image
-use Rattle.afs_ideal.specs.Directories.{named}
-use Rattle.afs_ideal.specs.Operations.{Found, is_kind, named_vnode, number_named}
-use Rattle.afs_ideal.specs.SetUp.{found_named, from_found, laid_at, laid_in, led, led_to, parted, Laid}
-use Rattle.afs_ideal.specs.Tables.{get}
-use Rattle.afs_ideal.specs.Volumes.{a_directory, fid_of, Volume}
-use Rattle.afs_ideal.specs.Volumes as ideal
+use Rattle.spec_ideal.specs.Directories.{named}
+use Rattle.spec_ideal.specs.Operations.{Found, is_kind, named_vnode, number_named}
+use Rattle.spec_ideal.specs.SetUp.{found_named, from_found, laid_at, laid_in, led, led_to, parted, Laid}
+use Rattle.spec_ideal.specs.Tables.{get}
+use Rattle.spec_ideal.specs.Volumes.{a_directory, fid_of, Volume}
+use Rattle.spec_ideal.specs.Volumes as ideal
 use Rattle.afs_laying.specs.Filled.{code_in, fid_in, found_seen, IsCodeOf}
 use Rattle.afs_reads.specs.declared.faults.OpFault.{OpFault}
 use Rattle.afs_reads.specs.declared.faults.OpFault.TheVariants as faults

@@ -4,15 +4,15 @@ use Rattle.std.specs.List.{list_all, AllByRecursion}
 use Rattle.std.specs.Option.{option_map}
 use Rattle.afs_num.specs.declared.types.Fid.{Fid}
 use Rattle.afs_num.specs.declared.vnodes.Vnode as image
-use Rattle.afs_ideal.specs.Operations.{edit_fits, most_bytes, Found}
-use Rattle.afs_ideal.specs.Operations as op
+use Rattle.spec_ideal.specs.Operations.{edit_fits, most_file_bytes, Found}
+use Rattle.spec_ideal.specs.Operations as op
 use Rattle.afs_num.specs.declared.calls.FsCall.TheVariants as calls
-use Rattle.afs_ideal.specs.SetUp.{all_at_first, nothing_set}
-use Rattle.afs_ideal.specs.Soundness.{IsSound}
-use Rattle.afs_ideal.specs.VnodeMaps.{most_vnodes}
-use Rattle.afs_ideal.specs.Volumes.{Edit, makes, Volume, blocks_in, counted, edited_all}
-use Rattle.afs_ideal.proofs.Looks.{Distinct, MakesAs}
-use Rattle.afs_ideal.proofs.Tellings.{FindEach}
+use Rattle.spec_ideal.specs.SetUp.{all_at_first, nothing_set}
+use Rattle.spec_ideal.specs.Soundness.{IsSound}
+use Rattle.spec_ideal.specs.VnodeMaps.{most_vnodes}
+use Rattle.spec_ideal.specs.Volumes.{Edit, makes, Volume, blocks_in, counted, edited_all}
+use Rattle.spec_ideal.proofs.Looks.{Distinct, MakesAs}
+use Rattle.spec_ideal.proofs.Tellings.{FindEach}
 use Rattle.afs_changes.specs.Drawing.{CanBeDrawn}
 use Rattle.afs_changes.specs.Planning.{edits_seen}
 use Rattle.afs_reads.specs.Replying.{refusal_of}
@@ -39,7 +39,7 @@ at_once id es v = record (counted (edited_all id es v)) { counter = 1; vnodes = 
 -- a file of these bytes, whose edits are accepted for an empty one: 27 and 109
 abbrev pub filled_at_once : ℕ → List ℕ → List Edit → Volume → Result Volume ℕ
 filled_at_once id bytes es v =
-    if nat_lt most_bytes (length bytes) then Err 27
+    if nat_lt most_file_bytes (length bytes) then Err 27
     else (if nat_lt v.quota (blocks_in (edited_all id (filled bytes es) v).vnodes) then Err 109 else Ok (at_once id (filled bytes es) v))
 
 -- edits that can be laid: each can be drawn, they are of different vnodes, and leave a sound volume
@@ -73,10 +73,10 @@ abbrev pub is_accepted : op.Result → Bool
 is_accepted (op.changes es n) = true
 is_accepted r = false
 
-abbrev pub Accepts : op.Result → Result (Unit {0}) OpFault → Type 0
-Accepts r (Ok done) = is_accepted r ≡ true
-Accepts r (Err (faults.Code code)) = option_map pos (refusal_of r) ≡ Some code.0
-Accepts r (Err faults.OutOfMemory) = Unit {0}
+abbrev pub SetUpAccepts : op.Result → Result (Unit {0}) OpFault → Type 0
+SetUpAccepts r (Ok done) = is_accepted r ≡ true
+SetUpAccepts r (Err (faults.Code code)) = option_map pos (refusal_of r) ≡ Some code.0
+SetUpAccepts r (Err faults.OutOfMemory) = Unit {0}
 
 -- the edits that make a file with these bytes, where CreateFile makes one without
 abbrev pub IsFilled : ℕ → Fid → List ℕ → List ℕ → Volume → List Edit → Type 0

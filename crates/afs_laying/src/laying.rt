@@ -2,14 +2,14 @@
 
 ghost use Rattle.std.specs.Prelude.{◌≡◌, ◌≤◌, true, length, map, Some, None, IfOk, OnOk, OnErr};
 ghost use Rattle.afs_num.specs.declared.calls.FsCall.TheVariants as calls;
-ghost use Rattle.afs_ideal.specs.Operations.{adds_name, all_rights, creating, first_failing, is_kind, most_bytes, names_in, new_file, op, IsOn};
-ghost use Rattle.afs_ideal.specs.SetUp.{a_file_of, laid, laid_at, laid_in, led, nothing_set};
-ghost use Rattle.afs_ideal.specs.Tables.{get};
-ghost use Rattle.afs_ideal.specs.VnodeImage.{most_contents, FitsImage};
-ghost use Rattle.afs_ideal.specs.VnodeMaps.{most_vnodes};
-ghost use Rattle.afs_ideal.specs.Volumes.{a_directory, ascending, vnode_of};
-ghost use Rattle.afs_history.specs.Written.{bytes_in};
-ghost use Rattle.afs_laying.specs.Filled.{at_once, image_at_first, is_accepted, Accepts, CanBeLaid, IsFilled, Lays, LaysEdits, Leads};
+ghost use Rattle.spec_ideal.specs.Operations.{adds_name, all_rights, creating, first_failing, is_kind, most_file_bytes, names_in, new_file, op, IsOn};
+ghost use Rattle.spec_ideal.specs.SetUp.{a_file_of, laid, laid_at, laid_in, led, nothing_set};
+ghost use Rattle.spec_ideal.specs.Tables.{get};
+ghost use Rattle.spec_ideal.specs.VnodeImage.{most_contents, FitsImage};
+ghost use Rattle.spec_ideal.specs.VnodeMaps.{most_vnodes};
+ghost use Rattle.spec_ideal.specs.Volumes.{a_directory, ascending, vnode_of};
+ghost use Rattle.spec_history.specs.Written.{bytes_in};
+ghost use Rattle.afs_laying.specs.Filled.{at_once, image_at_first, is_accepted, SetUpAccepts, CanBeLaid, IsFilled, Lays, LaysEdits, Leads};
 ghost use Rattle.afs_changes.specs.Planning.{edits_seen, is_changing, Plans};
 ghost use Rattle.afs_volume.specs.Giving.{volume_of};
 ghost use Rattle.afs_reads.specs.Replying.{FitsCall};
@@ -26,9 +26,6 @@ use afs_changes::limits::is_within_quota;
 use afs_changes::making::new_file;
 use afs_changes::operations::MOST_BYTES;
 use afs_changes::planning::plan_within;
-use afs_history::acts::Written;
-use afs_history::scripts::SetupLine;
-use afs_history::written::bytes_in;
 use afs_num::calls::{AfsStoreStatus, FsCall};
 use afs_num::sequences::Octets;
 use afs_num::types::{Code, Fid, Mem};
@@ -38,6 +35,9 @@ use afs_reads::checks::check;
 use afs_reads::faults::OpFault;
 use afs_reads::finding::vnode;
 use afs_volume::{Volume, is_directory};
+use spec_history::acts::Written;
+use spec_history::scripts::SetupLine;
+use spec_history::written::bytes_in;
 use std::alloc::Global;
 
 /// A status of which nothing is set.
@@ -130,7 +130,7 @@ pub fn plan_laid(volume: &Volume, call: FsCall) -> Result<Plan, OpFault>
 /// Whether a file of this name may be made in a directory; the refusals are those of CreateFile.
 fn accepts_file(volume: &Volume, d: &Fid, name: &Octets) -> Result<(), OpFault>
     requires { d.now.volume ≡ volume.now.head.id }
-    ensures accepts { Accepts (op volume.now.head.id all_rights (calls.CreateFile d.now name.now nothing_set) (volume_of volume.now)) result }
+    ensures accepts { SetUpAccepts (op volume.now.head.id all_rights (calls.CreateFile d.now name.now nothing_set) (volume_of volume.now)) result }
     ensures few { OnOk result (length (volume_of volume.now).vnodes ≤ most_vnodes) }
 {
     let call = FsCall::CreateFile {
@@ -160,7 +160,7 @@ fn filled_edits(volume: &Volume, d: &Fid, x: &Vnode, name: &Octets, file: Vnode)
 /// The edits that make a file with these bytes, where CreateFile makes one without.
 fn file_edits(volume: &Volume, d: &Fid, name: &Octets, contents: &Octets) -> Mem<Edits>
     requires accepted { is_accepted (op volume.now.head.id all_rights (calls.CreateFile d.now name.now nothing_set) (volume_of volume.now)) ≡ true }
-    requires short { length contents.now ≤ most_bytes }
+    requires short { length contents.now ≤ most_file_bytes }
     ensures { IfOk result (λ es. IsFilled volume.now.head.id d.now name.now contents.now (volume_of volume.now) (edits_seen es)) }
 {
     let file = file_of(volume.alloc, d, contents)?;

@@ -1,10 +1,10 @@
 //! Lines of set-up that are one operation each: directories, links and access lists. What is changed is as at first.
 
 ghost use Rattle.std.specs.Prelude.{◌≡◌, ◌≤◌, true, length, IfErr, IfOk};
-ghost use Rattle.afs_ideal.specs.Operations.{IsOn};
-ghost use Rattle.afs_ideal.specs.SetUp.{a_dir, a_link_to, acl_laid, called, laid_at, laid_in, unless_over, Laid};
-ghost use Rattle.afs_ideal.specs.VnodeImage.{most_acl, most_contents};
-ghost use Rattle.afs_history.specs.Written.{bytes_in};
+ghost use Rattle.spec_ideal.specs.Operations.{IsOn};
+ghost use Rattle.spec_ideal.specs.SetUp.{a_dir, a_link_to, acl_laid, called, laid_at, laid_in, unless_over, Laid};
+ghost use Rattle.spec_ideal.specs.VnodeImage.{most_acl, most_contents};
+ghost use Rattle.spec_history.specs.Written.{bytes_in};
 ghost use Rattle.afs_laying.specs.Filled.{IsCodeOf, Lays};
 ghost use Rattle.afs_changes.specs.Planning.{is_changing};
 ghost use Rattle.afs_volume.specs.Giving.{volume_of};
@@ -12,14 +12,14 @@ ghost use Rattle.afs_reads.specs.Replying.{FitsCall};
 ghost use Rattle.afs_volume.specs.Taking.{IsAtSetUp};
 
 use crate::laying::{lay_edits, led, nothing_set, plan_laid};
-use afs_history::acts::Written;
-use afs_history::written::bytes_in;
 use afs_num::calls::FsCall;
 use afs_num::sequences::Octets;
 use afs_num::types::{Code, Fid};
 use afs_reads::checks::check;
 use afs_reads::faults::OpFault;
 use afs_volume::Volume;
+use spec_history::acts::Written;
+use spec_history::written::bytes_in;
 
 /// The most bytes that an image holds of contents, and of an access list.
 const MOST_CONTENTS: usize = 2_097_152;

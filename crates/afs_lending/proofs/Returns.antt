@@ -4,7 +4,7 @@ use Rattle.std.specs.Prelude.{Result, Ok, Err, IsErr, OnErr, OnOk}
 use Rattle.afs_num.specs.declared.devices.Failed.{Failed}
 use Rattle.afs_disk.specs.Banks.{counted}
 use Rattle.afs_disk.specs.Disk.{Rose}
-use Rattle.afs_disk.specs.Fuses.{last_count}
+use Rattle.afs_disk.specs.Fuses.{last_of_counter}
 use Rattle.afs_disk.specs.declared.disks.Lent.{Lent}
 use Rattle.afs_lending.specs.Lending.{with_faults, GivesBackBut, GoBack, HasFailed, OneGoesBack}
 
@@ -15,7 +15,7 @@ none_failed b0 b1 b2 times quiet failed = subst (λ (b : ℕ). HasFailed times b
 
 once_more : (b0 b1 b2 times : ℕ) → b1 ≤ b2 → Rose b1 b2 → HasFailed times b0 b1 → HasFailed (times + 1) b0 b2
 once_more b0 b1 b2 times falls rose failed = (either failed.0 rose, λ none. absurd (omega (arith, none))) where
-  either : (b0 + times ≤ b1) ⊎ (last_count ≤ b1) → Rose b1 b2 → (b0 + (times + 1) ≤ b2) ⊎ (last_count ≤ b2)
+  either : (b0 + times ≤ b1) ⊎ (last_of_counter ≤ b1) → Rose b1 b2 → (b0 + (times + 1) ≤ b2) ⊎ (last_of_counter ≤ b2)
   either (inl before) (inl more) = inl (omega (arith, before, more))
   either (inl before) (inr full) = inr (omega (arith, full, falls))
   either (inr full) more = inr (omega (arith, full, falls))

@@ -13,12 +13,12 @@ use Rattle.afs_command.specs.declared.statuses.Status.{Status}
 use Rattle.afs_command.specs.declared.statuses.Status.TheVariants as statuses
 use Rattle.std.proofs.lemmas.Bool.Decides.{leb_tells}
 use Rattle.std.proofs.Math.Dec.{leb}
-use Rattle.afs_disk.specs.Fuses.{last_count}
+use Rattle.afs_disk.specs.Fuses.{last_of_counter}
 use Rattle.afs_outside.specs.Outside as outside
 
 pub rose_outside : (before after : ℕ) → outside.Rose before after → RoseBy 1 (span before after)
-rose_outside before after rose = either (leb_tells (before + 1) last_count) where
-  either : ((leb (before + 1) last_count ≡ true) × (before + 1 ≤ last_count)) ⊎ ((leb (before + 1) last_count ≡ false) × (last_count < before + 1)) → RoseBy 1 (span before after)
+rose_outside before after rose = either (leb_tells (before + 1) last_of_counter) where
+  either : ((leb (before + 1) last_of_counter ≡ true) × (before + 1 ≤ last_of_counter)) ⊎ ((leb (before + 1) last_of_counter ≡ false) × (last_of_counter < before + 1)) → RoseBy 1 (span before after)
   either (inl few) = inl (omega (arith, rose, few.1))
   either (inr many) = inr (omega (arith, rose, many.1))
 

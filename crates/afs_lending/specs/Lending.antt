@@ -2,9 +2,9 @@
 use Rattle.std.specs.Prelude.{◌≡◌, ◌≤◌, ◌⊎◌, ℕ, zero, suc, ◌+◌, List, [], ◌∷◌, ◌++◌, Option, Some, Result, take, option_map, IsErr, IsSome}
 use Rattle.afs_num.specs.Places.{at_place}
 use Rattle.afs_num.specs.declared.devices.Failed.{Failed}
-use Rattle.afs_disk.specs.Banks.{GivesBack, counted}
+use Rattle.afs_disk.specs.Banks.{IsTakenBack, counted}
 use Rattle.afs_disk.specs.Disk.{Rose}
-use Rattle.afs_disk.specs.Fuses.{last_count}
+use Rattle.afs_disk.specs.Fuses.{last_of_counter}
 use Rattle.afs_disk.specs.declared.bank.Lend.{Lend}
 use Rattle.afs_disk.specs.declared.bank.Place.{Place}
 use Rattle.afs_disk.specs.declared.disks.Lent.{Lent}
@@ -53,12 +53,12 @@ all_kept {D} database left = record { node = 0; disk = database } ∷ kept_disks
 -- A bank failed so often: its count of faults rose by so many, or by more, and where it didn't fail, it stands. One that stands at the last
 -- value of a counter counts as risen.
 abbrev pub HasFailed : ℕ → ℕ → ℕ → Type 0
-HasFailed times before after = ((before + times ≤ after) ⊎ (last_count ≤ after)) × (times ≡ 0 → after ≡ before)
+HasFailed times before after = ((before + times ≤ after) ⊎ (last_of_counter ≤ after)) × (times ≡ 0 → after ≡ before)
 
 -- so many of these are missing, and the others are given back, in their order, and nothing else
 abbrev pub GivesBackBut : {D : Type 0} → (D → Option (List ℕ)) → ℕ → List (Lent D) → Option (List (ℕ × List ℕ)) → Option (List (ℕ × List ℕ)) → Type 0
 GivesBackBut {D} seen missing [] old new = (missing ≡ 0) × (new ≡ old)
-GivesBackBut {D} seen missing (l ∷ ls) old new = ((next : Option (List (ℕ × List ℕ))) × (GivesBack l.node (seen l.disk) old next × GivesBackBut seen missing ls next new))
+GivesBackBut {D} seen missing (l ∷ ls) old new = ((next : Option (List (ℕ × List ℕ))) × (IsTakenBack l.node (seen l.disk) old next × GivesBackBut seen missing ls next new))
     ⊎ ((others : ℕ) × ((missing ≡ others + 1) × GivesBackBut seen others ls old new))
 
 -- These go back, but for those at which the bank failed.
@@ -70,7 +70,7 @@ pub record GoBack {D : Type 0} (seen : D → Option (List ℕ)) (ls : List (Lent
 -- One goes back: the bank took it and counts no failure, or it didn't and counts one.
 abbrev pub OneGoesBack : ℕ → Option (List ℕ) → Option (List (ℕ × List ℕ)) → Option (List (ℕ × List ℕ)) → ℕ → ℕ → Result (Unit {0}) Failed → Result (Unit {0}) Failed → Type 0
 OneGoesBack node seen old new before after taken_before taken =
-    (GivesBack node seen old new × ((after ≡ before) × (taken ≡ taken_before))) ⊎ ((new ≡ old) × (Rose before after × IsErr taken))
+    (IsTakenBack node seen old new × ((after ≡ before) × (taken ≡ taken_before))) ⊎ ((new ≡ old) × (Rose before after × IsErr taken))
 
 -- how often the disks of node n had failed that were given back, with these, one after the other
 abbrev pub with_faults : {D : Type 0} → (D → ℕ) → List (Lent D) → ℕ → ℕ → ℕ

@@ -1,13 +1,13 @@
 -- A disk at set-up: what its first record makes of it.
 use Rattle.std.proofs.Common.{◌≡◌, ◌≤◌, ◌<◌, ◌+◌, ℕ, Bool, true, false, not, List, [], ◌∷◌, length, Option, Some, None, nat_lt, if◌then◌else◌, refl, sym, ap, subst, ◌∙◌, arith, inl, inr, le-ltb, lt-ltb}
-use Rattle.afs_history.specs.declared.scripts.VolumeLine.{VolumeLine}
+use Rattle.spec_history.specs.declared.scripts.VolumeLine.{VolumeLine}
 use Rattle.afs_journal.specs.Records.{IsBeforeOrAfter}
-use Rattle.afs_shape.specs.Taking.{◌>>=◌}
-use Rattle.afs_records.specs.LocDurable.{entries_set, first_id, first_stamp, lines_listed, loc_first_folded, loc_first_record, loc_fold_all, loc_fold_from, loc_folded, loc_has_room, loc_place_length, loc_placing, loc_set_up, loc_with_journal, nothing_listed, numbered_as, LocDurable}
-use Rattle.afs_records.specs.LocLaws.{LocRecordsAreReadAgain}
-use Rattle.afs_records.specs.LocRecords.{loc_record_bytes, FitsLocRecord, LocRecord}
-use Rattle.afs_law.specs.DatabaseRuns.{IsAfter}
-use Rattle.afs_model.specs.Calls.{call_seat}
+use Rattle.spec_shape.specs.Taking.{◌>>=◌}
+use Rattle.spec_records.specs.LocDurable.{entries_set, first_id, first_stamp, lines_listed, loc_first_folded, loc_first_record, loc_fold_all, loc_fold_from, loc_folded, loc_has_room, loc_place_length, loc_placing, loc_set_up, loc_with_journal, nothing_listed, numbered_as, LocDurable}
+use Rattle.spec_records.specs.LocLaws.{LocRecordsAreReadAgain}
+use Rattle.spec_records.specs.LocRecords.{loc_record_bytes, FitsLocRecord, LocRecord}
+use Rattle.law_legal.specs.DatabaseRuns.{IsAfter}
+use Rattle.spec_model.specs.Calls.{call_seat}
 use Rattle.afs_num.specs.declared.types.Node.TheVariants.{Loc}
 use Rattle.afs_locdb.specs.Creating.{IsSetUpSoFar}
 use Rattle.afs_locdb.specs.Seen.{lasting_of, Database, Serves}

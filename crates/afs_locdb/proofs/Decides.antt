@@ -1,9 +1,9 @@
 -- What is decided on a call is what its row decides.
 use Rattle.std.proofs.Common.{◌≡◌, ℕ, Option, Some, None, sym, ap, ◌∙◌}
 use Rattle.afs_num.specs.declared.location_calls.LocCall.{LocCall}
-use Rattle.afs_records.specs.LocDurable.{LocDurable}
-use Rattle.afs_rows.specs.LocRow.{changes, loc_op, LocChange, LocState}
-use Rattle.afs_locstore.specs.States.{loc_placed, parts_of}
+use Rattle.spec_records.specs.LocDurable.{LocDurable}
+use Rattle.spec_rows.specs.LocRow.{changes, loc_op, LocChange, LocState}
+use Rattle.afs_locstore.specs.States.{loc_on_disk, parts_of}
 use Rattle.afs_locstore.specs.declared.memory.State.{State}
 use Rattle.afs_locdb.specs.Deciding.{change_decided, change_in, lasting_seen, outcome_of, IsMadeIn}
 use Rattle.afs_locdb.specs.Seen.{lasting_of}
@@ -16,7 +16,7 @@ use Rattle.std.specs.Prelude.{map}
 use Rattle.afs_saving.specs.Kept.{seat_kept}
 
 -- a call does the same over what is in memory and over what is on the disk
-pub op_here : (stamp : ℕ) (call : LocCall) (st : State) (journal capacity : ℕ) (d : LocDurable) → d ≡ loc_placed journal capacity (parts_of st) → loc_op stamp call (lasting_seen st) ≡ loc_op stamp call (lasting_of d)
+pub op_here : (stamp : ℕ) (call : LocCall) (st : State) (journal capacity : ℕ) (d : LocDurable) → d ≡ loc_on_disk journal capacity (parts_of st) → loc_op stamp call (lasting_seen st) ≡ loc_op stamp call (lasting_of d)
 op_here stamp call st journal capacity d is =
     sym (op_same stamp call (lasting_seen st) (parts_of st).boot (map seat_kept (parts_of st).kept) journal capacity) ∙ ap (λ (e : LocDurable). loc_op stamp call (lasting_of e)) (sym is)
 

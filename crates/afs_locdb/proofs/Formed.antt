@@ -5,12 +5,12 @@ use Rattle.std.specs.List.{AllByRecursion}
 use Rattle.std.proofs.lemmas.Bool.{leb-true}
 use Rattle.afs_num.specs.declared.location_calls.LocEntry.{LocEntry}
 use Rattle.afs_num.specs.declared.location_calls.LocSite.{LocSite}
-use Rattle.afs_model.proofs.Basics.{both}
-use Rattle.afs_records.specs.LocRecords.{deed_form, entry_form, leaves, listed_form, lock_form, most_sites, removes, sets, site_form, Listed, Lock}
-use Rattle.afs_records.specs.Records.{flag_form, server_form}
-use Rattle.afs_shape.specs.Rows.{no_entry}
-use Rattle.afs_shape.specs.Spelling.{entry_words, site_words}
-use Rattle.afs_shape.specs.Tables.{IsEntry, IsSite}
+use Rattle.spec_model.proofs.Basics.{both}
+use Rattle.spec_records.specs.LocRecords.{deed_form, entry_form, leaves, listed_form, lock_form, most_sites, removes, sets, site_form, Listed, Lock}
+use Rattle.spec_records.specs.Records.{flag_form, server_form}
+use Rattle.spec_shape.specs.Rows.{empty_entry}
+use Rattle.spec_shape.specs.Spelling.{entry_words, site_words}
+use Rattle.spec_shape.specs.Tables.{IsEntry, IsSite}
 use Rattle.afs_xdr.specs.Words.{AreWords}
 
 -- ---- locks, entries with them, deeds
@@ -38,12 +38,12 @@ sets_fits l fits = ((lit< tt, fits), refl)
 pub removes_fits : (e : LocEntry) → entry_form.Fits e → deed_form.Fits (removes e)
 removes_fits e fits = ((lit< tt, listed_fits e None fits none_fits), refl)
 
-no_entry_fits : entry_form.Fits no_entry
+no_entry_fits : entry_form.Fits empty_entry
 unfolding entry_form
 no_entry_fits = (((omega arith, lit< tt), (lit< tt, (lit< tt, (lit< tt, (lit< tt, ((lit< tt, tt), refl)))))), refl)
 
 pub leaves_fits : deed_form.Fits leaves
-leaves_fits = ((lit< tt, listed_fits no_entry None no_entry_fits none_fits), refl)
+leaves_fits = ((lit< tt, listed_fits empty_entry None no_entry_fits none_fits), refl)
 
 -- ---- entries in messages
 

@@ -1,7 +1,7 @@
 -- Replies that the database keeps are to nodes of the cell.
 use Rattle.std.proofs.Common.{[], ◌∷◌}
-use Rattle.afs_ideal.specs.Tables.{Table}
-use Rattle.afs_records.specs.Durable.{Kept}
+use Rattle.spec_ideal.specs.Tables.{Table}
+use Rattle.spec_records.specs.Durable.{Kept}
 use Rattle.afs_locstore.specs.Kept.{AreOfNodes}
 use Rattle.afs_saving.specs.Kept.{AreToNodes}
 use Rattle.afs_saving.proofs.Kept.{known_to_node}

@@ -1,10 +1,10 @@
 -- Entries of which each is found under its own number stand under these.
 use Rattle.std.proofs.Common.{◌≡◌, ◌+◌, ℕ, [], ◌∷◌, Some}
-use Rattle.afs_ideal.specs.Tables.{AscendsFrom, Table}
-use Rattle.afs_law.specs.Database.{AreKeyed}
+use Rattle.spec_ideal.specs.Tables.{AscendsFrom, Table}
+use Rattle.law_legal.specs.Database.{AreKeyed}
 use Rattle.afs_locstore.specs.Listings.{StandByNumber}
 use Rattle.afs_locstore.proofs.Listed.{here, later}
-use Rattle.afs_records.specs.LocRecords.{Listed}
+use Rattle.spec_records.specs.LocRecords.{Listed}
 
 pub keyed : (m : ℕ) (t : Table Listed) → AscendsFrom m t → StandByNumber t → AreKeyed t
 keyed m [] up found = tt

@@ -2,12 +2,12 @@
 use Rattle.std.proofs.Common.{◌≡◌, ◌+◌, ℕ, Bool, true, false, List, Option, Some, None, refl, sym, ap, subst, ◌∙◌}
 use Rattle.std.specs.Prelude.{pos, Result, Ok, Err, IsErrOf}
 use Rattle.afs_disk.specs.declared.disk.Disk.{Ghosts}
-use Rattle.afs_history.specs.declared.lines.Outs.{Outs}
+use Rattle.spec_history.specs.declared.lines.Outs.{Outs}
 use Rattle.afs_num.specs.declared.types.Head.{Head}
-use Rattle.afs_records.specs.LocDurable.{loc_has_room, LocDurable}
-use Rattle.afs_records.specs.LocRecords.{LocRecord}
-use Rattle.afs_rows.specs.LocRow.{roomed, LocChange, LocDecision}
-use Rattle.afs_rows.specs.ServerRow.{refusal}
+use Rattle.spec_records.specs.LocDurable.{loc_has_room, LocDurable}
+use Rattle.spec_records.specs.LocRecords.{LocRecord}
+use Rattle.spec_rows.specs.LocRow.{roomed, LocChange, LocDecision}
+use Rattle.spec_rows.specs.ServerRow.{refusal}
 use Rattle.afs_locdb.specs.Handling.{loc_record_decided, Answers}
 use Rattle.afs_locdb.specs.Saving.{IsChangeOf, IsStill, LocStoreOf, OnDisk, Prepares}
 use Rattle.afs_locdb.specs.Seen.{loc_seen, Database}

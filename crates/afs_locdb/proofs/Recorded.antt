@@ -2,19 +2,19 @@
 use Rattle.std.proofs.Common.{◌≡◌, ◌≤◌, ◌<◌, ◌^◌, ℕ, Bool, true, false, List, [], ◌∷◌, length, Option, Some, refl, sym, ap, ◌∙◌, arith, lit<, eqb-true}
 use Rattle.std.specs.Prelude.{nat_eq}
 use Rattle.std.specs.List.{AllByRecursion}
-use Rattle.afs_history.specs.declared.scripts.VolumeLine.{VolumeLine}
-use Rattle.afs_model.proofs.Basics.{same_node-refl}
+use Rattle.spec_history.specs.declared.scripts.VolumeLine.{VolumeLine}
+use Rattle.spec_model.proofs.Basics.{same_node-refl}
 use Rattle.afs_num.specs.Nodes.{node_number, node_of, same_node, IsNode}
 use Rattle.afs_num.specs.declared.types.Head.{Head}
 use Rattle.afs_num.specs.declared.types.Node.{Node}
 use Rattle.afs_num.specs.declared.types.Node.TheVariants.{Loc}
-use Rattle.afs_records.specs.Changes.{keeping, no_head}
-use Rattle.afs_records.specs.LocDurable.{lines_listed, listed_line, loc_first_record}
-use Rattle.afs_records.specs.LocRecords.{deed_form, listed_form, loc_record, Database, Deed, FitsLocRecord}
-use Rattle.afs_records.specs.Records.{head_form}
-use Rattle.afs_rows.specs.ServerRow.{key_of}
+use Rattle.spec_records.specs.Changes.{keeping, no_head}
+use Rattle.spec_records.specs.LocDurable.{lines_listed, listed_line, loc_first_record}
+use Rattle.spec_records.specs.LocRecords.{deed_form, listed_form, loc_record, Database, EntryDeed, FitsLocRecord}
+use Rattle.spec_records.specs.Records.{head_form}
+use Rattle.spec_model.specs.Calls.{key_of}
 use Rattle.afs_locdb.specs.Creating.{CanBeListed}
-use Rattle.afs_records.proofs.Callers.{caller_fits}
+use Rattle.spec_records.proofs.Callers.{caller_fits}
 
 abbrev some : {A : Type 0} → A → Option A
 some x = Some x
@@ -31,7 +31,7 @@ other_number true n e node other =
     let yes : same_node n Loc ≡ true = ap (λ (m : Node). same_node m Loc) (sym same) ∙ same_node-refl Loc in
     absurd cc
 
-pub change_fits : (head : Head) (reply : List ℕ) (deed : Deed) (next_id next_stamp : ℕ) → IsNode head.from → same_node head.from Loc ≡ false → head.epoch < 2 ^ 32 → head.number < 2 ^ 32 → length reply ≤ 4294967295 → deed_form.Fits deed →
+pub change_fits : (head : Head) (reply : List ℕ) (deed : EntryDeed) (next_id next_stamp : ℕ) → IsNode head.from → same_node head.from Loc ≡ false → head.epoch < 2 ^ 32 → head.number < 2 ^ 32 → length reply ≤ 4294967295 → deed_form.Fits deed →
     next_id < 2 ^ 32 → next_stamp < 2 ^ 32 → FitsLocRecord (loc_record (keeping (key_of head) reply) (Database deed next_id next_stamp))
 unfolding head_form
 change_fits head reply deed next_id next_stamp node other epoch number short fits id stamp = record {

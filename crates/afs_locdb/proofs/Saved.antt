@@ -6,16 +6,16 @@ use Rattle.afs_num.specs.declared.location_calls.LocCall.TheVariants as calls
 use Rattle.afs_num.specs.declared.messages.Message.{Message}
 use Rattle.afs_num.specs.declared.messages.Received.TheVariants.{Whole}
 use Rattle.afs_num.specs.declared.types.Head.{Head}
-use Rattle.afs_ideal.specs.Tables.{set}
-use Rattle.afs_model.specs.Messages.{received, spelled}
-use Rattle.afs_law.proofs.Database.{loc_folds}
-use Rattle.afs_law.specs.Database.{AreKeyed}
-use Rattle.afs_records.specs.Durable as disk
-use Rattle.afs_records.specs.LocDurable.{can_do, entries_after, loc_folded, loc_place_length, LocDurable}
-use Rattle.afs_rows.specs.LocRow.{changes, loc_lasting_after, loc_op, loc_record_of, reply_to, LocChange, LocLasting}
-use Rattle.afs_rows.specs.ServerRow.{seat_for}
-use Rattle.afs_rows.specs.States.{Seat}
-use Rattle.afs_shape.specs.Taking.{◌>>=◌}
+use Rattle.spec_ideal.specs.Tables.{set}
+use Rattle.spec_model.specs.Messages.{received, spelled}
+use Rattle.law_legal.proofs.DatabaseCalls.{loc_folds}
+use Rattle.law_legal.specs.Database.{AreKeyed}
+use Rattle.spec_records.specs.Durable as disk
+use Rattle.spec_records.specs.LocDurable.{can_do, entries_after, loc_folded, loc_place_length, LocDurable}
+use Rattle.spec_rows.specs.LocRow.{changes, loc_lasting_after, loc_op, loc_record_of, reply_to, LocChange, LocLasting}
+use Rattle.spec_rows.specs.ServerRow.{seat_for}
+use Rattle.spec_rows.specs.States.{Seat}
+use Rattle.spec_shape.specs.Taking.{◌>>=◌}
 use Rattle.afs_message.specs.Spelled.{message_in}
 use Rattle.afs_locdb.specs.Seen.{lasting_of}
 use Rattle.afs_saving.specs.Kept.{or_loc, seat_kept, AreToNodes}

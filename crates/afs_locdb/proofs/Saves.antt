@@ -2,17 +2,17 @@
 use Rattle.std.proofs.Common.{◌≡◌, ◌+◌, ℕ, Bool, true, false, List, [], ◌∷◌, Option, Some, None, inr, refl, sym, ap, subst, ◌∙◌, if◌then◌else◌}
 use Rattle.std.specs.Prelude.{pos, Result, Ok, Err, IsErrOf}
 use Rattle.afs_disk.specs.Disk.{Setting}
-use Rattle.afs_history.specs.declared.lines.Outs.{Outs}
+use Rattle.spec_history.specs.declared.lines.Outs.{Outs}
 use Rattle.afs_num.specs.Nodes.{IsNode}
 use Rattle.afs_num.specs.declared.messages.Message.{Message}
 use Rattle.afs_num.specs.declared.types.Head.{Head}
-use Rattle.afs_model.specs.Calls.{call_seated}
-use Rattle.afs_model.specs.Messages.{parcels_read}
-use Rattle.afs_records.specs.LocDurable.{can_do, loc_folded, loc_has_room, LocDurable}
-use Rattle.afs_records.specs.LocRecords.{LocRecord}
-use Rattle.afs_rows.specs.LocRow.{loc_lasting_after, loc_record_of, loc_saved, refuses, reply_to, roomed, saves, LocChange, LocDecision, LocLasting}
-use Rattle.afs_rows.specs.ServerRow.{no_room, refusal, seat_for}
-use Rattle.afs_rows.specs.LocSteps.{loc_begun_after}
+use Rattle.spec_model.specs.Calls.{call_seated}
+use Rattle.spec_model.specs.Messages.{parcels_read}
+use Rattle.spec_records.specs.LocDurable.{can_do, loc_folded, loc_has_room, LocDurable}
+use Rattle.spec_records.specs.LocRecords.{LocRecord}
+use Rattle.spec_rows.specs.LocRow.{loc_lasting_after, loc_record_of, loc_saved, refuses, reply_to, roomed, saves, LocChange, LocDecision, LocLasting}
+use Rattle.spec_rows.specs.ServerRow.{no_room, refusal, seat_for}
+use Rattle.spec_rows.specs.LocSteps.{loc_begun_after}
 use Rattle.afs_locdb.specs.Handling.{loc_record_decided, Answers, IsClosed, IsUntouched}
 use Rattle.afs_locdb.specs.Saving.{Commits, DoesAll, IsChangeOf, IsInterrupted, IsMadeOf, LocStoreOf, Prepares, Puts}
 use Rattle.afs_locdb.specs.Seen.{lasting_of, loc_seen, Database, IsInBoot}

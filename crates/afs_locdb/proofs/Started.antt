@@ -2,13 +2,13 @@
 use Rattle.std.proofs.Common.{◌≡◌, ◌<◌, ◌+◌, ℕ, Bool, true, false, List, map, Option, Some, None, refl, sym, ap, subst, ◌∙◌, arith, ltb-true}
 use Rattle.std.specs.Prelude.{◌&&◌, min, nat_lt}
 use Rattle.std.proofs.Math.Nat.{le-min, min-le_left}
-use Rattle.afs_law.specs.DatabaseRuns.{IsAfter}
-use Rattle.afs_model.specs.Calls.{call_seat}
+use Rattle.law_legal.specs.DatabaseRuns.{IsAfter}
+use Rattle.spec_model.specs.Calls.{call_seat}
 use Rattle.afs_num.specs.declared.types.Node.TheVariants.{Loc}
-use Rattle.afs_records.specs.LocDurable.{loc_boot_record, loc_folded, LocDurable}
-use Rattle.afs_records.specs.LocLaws.{loc_started}
-use Rattle.afs_rows.specs.LocRow.{loc_lasting_started, loc_revived, LocState}
-use Rattle.afs_rows.specs.States.{Seat}
+use Rattle.spec_records.specs.LocDurable.{loc_boot_record, loc_folded, LocDurable}
+use Rattle.spec_records.specs.LocLaws.{loc_started}
+use Rattle.spec_rows.specs.LocRow.{loc_lasting_started, loc_revived, LocState}
+use Rattle.spec_rows.specs.States.{Seat}
 use Rattle.afs_locdb.specs.Saving.{LocStoreOf}
 use Rattle.afs_locdb.specs.Seen.{lasting_of, Database, Serves}
 use Rattle.afs_saving.specs.Kept.{seat_kept}

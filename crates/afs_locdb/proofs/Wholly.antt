@@ -2,9 +2,9 @@
 use Rattle.std.proofs.Common.{◌≡◌, ◌+◌, ◌++◌, ℕ, true, false, List, [], ◌∷◌, Option, Some, None, refl, sym, ap, subst, ◌∙◌}
 use Rattle.std.specs.Prelude.{Result, Ok, Err, OnOk, IsErrOf}
 use Rattle.afs_disk.specs.declared.disk.Disk.{Ghosts}
-use Rattle.afs_history.specs.declared.lines.Line.{Line}
-use Rattle.afs_history.specs.declared.lines.Line.TheVariants as lines
-use Rattle.afs_history.specs.declared.lines.Outs.{Outs}
+use Rattle.spec_history.specs.declared.lines.Line.{Line}
+use Rattle.spec_history.specs.declared.lines.Line.TheVariants as lines
+use Rattle.spec_history.specs.declared.lines.Outs.{Outs}
 use Rattle.afs_num.specs.declared.messages.Call.{Call}
 use Rattle.afs_num.specs.declared.messages.Carried.{Carried}
 use Rattle.afs_num.specs.declared.messages.Carried.TheVariants as carried
@@ -12,16 +12,16 @@ use Rattle.afs_num.specs.declared.messages.Message.{Message}
 use Rattle.afs_num.specs.declared.messages.Received.{Received}
 use Rattle.afs_num.specs.declared.messages.Received.TheVariants.{Whole}
 use Rattle.afs_num.specs.declared.types.Head.{Head}
-use Rattle.afs_records.specs.LocDurable.{loc_folded, LocDurable}
-use Rattle.afs_ideal.specs.Tables.{Table}
-use Rattle.afs_records.specs.LocEffects.{deed_told, loc_effect_of}
-use Rattle.afs_records.specs.LocRecords.{Listed, LocRecord}
-use Rattle.afs_rows.specs.LocRow.{called, drops, hears, loc_decides, loc_device_calls, loc_left, loc_record_of, refuses, repeats, saves, shows, tells_boot, LocDecision, LocState}
-use Rattle.afs_law.proofs.DatabaseRuns.{stays_settled}
-use Rattle.afs_law.specs.DatabaseRuns.{is_given, IsSettled}
-use Rattle.afs_rows.specs.LocSteps.{loc_begun_after, loc_does, loc_row}
+use Rattle.spec_records.specs.LocDurable.{loc_folded, LocDurable}
+use Rattle.spec_ideal.specs.Tables.{Table}
+use Rattle.spec_records.specs.LocEffects.{deed_told, loc_effect_of}
+use Rattle.spec_records.specs.LocRecords.{Listed, LocRecord}
+use Rattle.spec_rows.specs.LocRow.{called, drops, hears, loc_decides, loc_device_calls, loc_left, loc_record_of, refuses, repeats, saves, shows, tells_boot, LocDecision, LocState}
+use Rattle.law_legal.proofs.DatabaseRunsOnce.{stays_settled}
+use Rattle.law_legal.specs.DatabaseRuns.{is_given, CallersAreSettled}
+use Rattle.spec_rows.specs.LocSteps.{loc_begun_after, loc_does, loc_row}
 use Rattle.afs_locdb.specs.Deciding.{decision_of, leaves_disk}
-use Rattle.afs_locdb.specs.Handling.{loc_record_decided, Does, Handles, IsDone, IsUntouched, IsWritten}
+use Rattle.afs_locdb.specs.Handling.{loc_record_decided, Does, Handles, IsKeptBehind, IsUntouched, IsWritten}
 use Rattle.afs_locdb.specs.Saving.{calls_for, DoesAll, IsMadeOf, IsStill, KeepsStore, LocStoreOf, OnDisk, LeavesPrepared}
 use Rattle.afs_locdb.specs.Seen.{lasting_of, loc_seen, Database, Serves}
 use Rattle.afs_locdb.specs.declared.decided.Decided.{Decided}
@@ -65,7 +65,7 @@ module _ {D : Type 0} (d : LocDecision) (old new : Database D) where
         makes = does.0;
         serves = does.1.0;
         store = is ∙ (λ i. record old.store { durable = sym durable i; disk = sym disk i; prepared = sym prepared i; count = sym count i });
-        done = subst (λ (r : Option LocRecord). IsDone r old new) (sym none) (durable, count);
+        done = subst (λ (r : Option LocRecord). IsKeptBehind r old new) (sym none) (durable, count);
         prepared = prepared_still {T = Outs} (loc_record_decided old.store.durable.boot d) old.store.prepared new.store.prepared (Ok outs) none prepared;
       }
 
@@ -89,10 +89,10 @@ module _ {D : Type 0} (d : LocDecision) (old new : Database D) where
   unfolding loc_row
   step_at place m result is does = subst (λ (x : LocDecision). Handles (loc_does (loc_seen old) place x) (lines.Given place ∷ []) old new result) is (handles_at place result does)
 
-  pub serves_after : (m : Received) (result : Result Outs NodeFault) → loc_decides (loc_seen old) m ≡ d → IsSettled (loc_seen old) → DoesAll d old new result → OnOk result (Serves new)
+  pub serves_after : (m : Received) (result : Result Outs NodeFault) → loc_decides (loc_seen old) m ≡ d → CallersAreSettled (loc_seen old) → DoesAll d old new result → OnOk result (Serves new)
   serves_after m (Ok outs) is settled does = record {
     here = does.serves;
-    settled = subst IsSettled (ap (loc_left (loc_seen old)) is ∙ sym does.makes.state) (stays_settled (loc_seen old) (is_given m) settled);
+    settled = subst CallersAreSettled (ap (loc_left (loc_seen old)) is ∙ sym does.makes.state) (stays_settled (loc_seen old) (is_given m) settled);
   }
   serves_after m (Err fault) is settled does = tt
 
@@ -100,7 +100,7 @@ module _ {D : Type 0} (d : LocDecision) (old new : Database D) where
   store_after (Ok outs) does = does.store
   store_after (Err fault) does = tt
 
-  pub done_after : (result : Result Outs NodeFault) → DoesAll d old new result → OnOk result (IsDone (loc_record_decided old.store.durable.boot d) old new)
+  pub done_after : (result : Result Outs NodeFault) → DoesAll d old new result → OnOk result (IsKeptBehind (loc_record_decided old.store.durable.boot d) old new)
   done_after (Ok outs) does = does.done
   done_after (Err fault) does = tt
 

@@ -1,12 +1,11 @@
 -- A database that is set up on a disk, for the volumes of a script.
 use Rattle.std.specs.Prelude.{◌≡◌, ◌<◌, ◌+◌, ◌^◌, ◌⊎◌, ℕ, List, [], Some, length}
 use Rattle.std.specs.List.{AllByRecursion}
-use Rattle.afs_history.specs.declared.scripts.VolumeLine.{VolumeLine}
+use Rattle.spec_history.specs.declared.scripts.VolumeLine.{VolumeLine}
 use Rattle.afs_journal.specs.Records.{whole_records}
-use Rattle.afs_num.specs.declared.faults.StoreFault.{StoreFault}
 use Rattle.afs_num.specs.declared.faults.StoreFault.TheVariants as faults
-use Rattle.afs_records.specs.LocDurable.{first_id, listed_line, loc_set_up, LocDurable}
-use Rattle.afs_records.specs.LocRecords.{listed_form}
+use Rattle.spec_records.specs.LocDurable.{first_id, listed_line, loc_set_up, LocDurable}
+use Rattle.spec_records.specs.LocRecords.{listed_form}
 use Rattle.afs_store.specs.Stores.{Stands}
 use Rattle.afs_locstore.specs.LocFold.{loc_fold}
 
@@ -18,10 +17,3 @@ pub record CanBeListed (ls : List VolumeLine) : Type 0 where
 -- what a disk that was empty stands for while the lines are set up: for nothing, or for all
 abbrev pub IsSetUpSoFar : ℕ → List VolumeLine → List ℕ → Type 0
 IsSetUpSoFar capacity ls bytes = (whole_records bytes ≡ []) ⊎ ((d : LocDurable) × ((loc_set_up capacity ls ≡ Some d) × Stands loc_fold bytes d))
-
--- set-up is refused where the record doesn't fit, the disk failed or memory was wanting
-abbrev pub IsSetUpFault : StoreFault → Type 0
-IsSetUpFault (faults.Full used capacity) = Unit {0}
-IsSetUpFault faults.Failed = Unit {0}
-IsSetUpFault faults.OutOfMemory = Unit {0}
-IsSetUpFault refusal = ⊥

@@ -8,12 +8,12 @@ use Rattle.afs_num.specs.declared.messages.Message.{Message}
 use Rattle.afs_num.specs.declared.messages.Reply.TheVariants as tell
 use Rattle.afs_num.specs.declared.types.Head.{Head}
 use Rattle.afs_num.specs.declared.types.Node.TheVariants.{Loc}
-use Rattle.afs_shape.specs.Rows.{IsWithin}
-use Rattle.afs_model.specs.Calls.{runs, Admitted}
-use Rattle.afs_model.specs.CellRows.{cell_replies, reply_number}
-use Rattle.afs_model.specs.Heads.{is_zero}
-use Rattle.afs_records.specs.LocRecords.{deed_form, Listed}
-use Rattle.afs_rows.specs.LocRow.{changes, drops, holds, is_locked, loc_op, reads, refused, refuses, repeats, roomed, shows, tells_boot, unlisted, LocChange, LocDecision, LocLasting, LocResult, LocState}
+use Rattle.spec_shape.specs.Rows.{IsWithin}
+use Rattle.spec_model.specs.Calls.{runs, Admitted}
+use Rattle.spec_model.specs.CellRows.{cell_replies, reply_number}
+use Rattle.spec_model.specs.Heads.{is_zero}
+use Rattle.spec_records.specs.LocRecords.{deed_form, Listed}
+use Rattle.spec_rows.specs.LocRow.{changes, drops, holds, is_locked, loc_op, reads, refused, refuses, repeats, roomed, shows, tells_boot, unlisted, LocChange, LocDecision, LocLasting, LocResult, LocState}
 use Rattle.afs_locstore.specs.States.{parts_of}
 use Rattle.afs_locstore.specs.declared.memory.State.{State}
 use Rattle.afs_locdb.specs.Seen.{lasting_of}

@@ -1,15 +1,15 @@
 -- What a call of the location database's node gives.
 use Rattle.std.specs.Prelude.{◌≡◌, ◌+◌, ◌++◌, ℕ, List, [], ◌∷◌, true, Option, Some, None, Result, Ok, Err}
-use Rattle.afs_history.specs.declared.lines.Line.{Line}
-use Rattle.afs_history.specs.declared.lines.Outs.{Outs}
+use Rattle.spec_history.specs.declared.lines.Line.{Line}
+use Rattle.spec_history.specs.declared.lines.Outs.{Outs}
 use Rattle.afs_num.specs.declared.messages.Message.{Message}
 use Rattle.afs_num.specs.declared.types.Head.{Head}
-use Rattle.afs_model.specs.Messages.{messages_spelled, parcels_read, received_by}
-use Rattle.afs_records.specs.LocDurable.{loc_folded}
-use Rattle.afs_records.specs.LocRecords.{LocRecord}
-use Rattle.afs_rows.specs.LocRow.{loc_decides, loc_keeps, loc_left, loc_record_of, loc_sent, saves, LocDecision, LocState}
-use Rattle.afs_rows.specs.LocSteps.{loc_told}
-use Rattle.afs_rows.specs.Steps.{Step}
+use Rattle.spec_model.specs.Messages.{messages_spelled, parcels_read, received_by}
+use Rattle.spec_records.specs.LocDurable.{loc_folded}
+use Rattle.spec_records.specs.LocRecords.{LocRecord}
+use Rattle.spec_rows.specs.LocRow.{loc_decides, loc_keeps, loc_left, loc_record_of, loc_sent, saves, LocDecision, LocState}
+use Rattle.spec_rows.specs.LocSteps.{loc_told}
+use Rattle.spec_rows.specs.Steps.{Step}
 use Rattle.afs_locdb.specs.Seen.{loc_seen, Database, IsInBoot}
 use Rattle.afs_server_parts.specs.declared.faults.NodeFault.{NodeFault}
 use Rattle.afs_server_parts.specs.declared.faults.NodeFault.TheVariants as faults
@@ -71,6 +71,6 @@ abbrev pub loc_record_then : {D : Type 0} → Database D → List ℕ → Option
 loc_record_then {D} b bytes = loc_record_decided b.store.durable.boot (loc_decided_then b bytes)
 
 -- what is kept on the disk after a step that makes this record, or none
-abbrev pub IsDone : {D : Type 0} → Option LocRecord → Database D → Database D → Type 0
-IsDone {D} None old new = (new.store.durable ≡ old.store.durable) × (new.store.count ≡ old.store.count)
-IsDone {D} (Some r) old new = (loc_folded r old.store.durable ≡ Some new.store.durable) × (new.store.count ≡ old.store.count + 1)
+abbrev pub IsKeptBehind : {D : Type 0} → Option LocRecord → Database D → Database D → Type 0
+IsKeptBehind {D} None old new = (new.store.durable ≡ old.store.durable) × (new.store.count ≡ old.store.count)
+IsKeptBehind {D} (Some r) old new = (loc_folded r old.store.durable ≡ Some new.store.durable) × (new.store.count ≡ old.store.count + 1)

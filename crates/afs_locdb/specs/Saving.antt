@@ -1,20 +1,20 @@
 -- What becomes of a change: what its step does to the store, and to the disk.
 use Rattle.std.specs.Prelude.{◌≡◌, ◌+◌, [], ◌∷◌, Bool, true, false, Option, Some, None, Result, Ok, Err}
 use Rattle.afs_disk.specs.declared.disk.Disk.{Ghosts}
-use Rattle.afs_history.specs.declared.lines.Outs.{Outs}
+use Rattle.spec_history.specs.declared.lines.Outs.{Outs}
 use Rattle.afs_num.specs.declared.messages.Received.TheVariants.{Whole}
 use Rattle.afs_num.specs.declared.types.Head.{Head}
-use Rattle.afs_model.specs.Calls.{call_seated}
-use Rattle.afs_model.specs.Messages.{messages_spelled, parcels_read, received, spelled}
-use Rattle.afs_records.specs.LocDurable.{loc_folded, LocDurable}
-use Rattle.afs_records.specs.LocEffects.{deed_told}
-use Rattle.afs_records.specs.LocRecords.{FitsLocRecord, LocRecord}
-use Rattle.afs_rows.specs.LocRow.{loc_record_of, reply_to, LocChange, LocDecision}
-use Rattle.afs_rows.specs.LocSteps.{loc_begun_after}
-use Rattle.afs_rows.specs.ServerRow.{seat_for}
+use Rattle.spec_model.specs.Calls.{call_seated}
+use Rattle.spec_model.specs.Messages.{messages_spelled, parcels_read, received, spelled}
+use Rattle.spec_records.specs.LocDurable.{loc_folded, LocDurable}
+use Rattle.spec_records.specs.LocEffects.{deed_told}
+use Rattle.spec_records.specs.LocRecords.{FitsLocRecord, LocRecord}
+use Rattle.spec_rows.specs.LocRow.{loc_record_of, reply_to, LocChange, LocDecision}
+use Rattle.spec_rows.specs.LocSteps.{loc_begun_after}
+use Rattle.spec_rows.specs.ServerRow.{seat_for}
 use Rattle.afs_store.specs.Stores.{StoreOf}
 use Rattle.afs_locstore.specs.LocFold.{loc_fold}
-use Rattle.afs_locdb.specs.Handling.{loc_done, loc_record_decided, IsClosed, IsDone, IsUntouched, Makes}
+use Rattle.afs_locdb.specs.Handling.{loc_done, loc_record_decided, IsClosed, IsKeptBehind, IsUntouched, Makes}
 use Rattle.afs_locdb.specs.Seen.{lasting_of, loc_seen, Database, IsInBoot}
 use Rattle.afs_server_parts.specs.declared.faults.NodeFault.{NodeFault}
 use Rattle.afs_server_parts.specs.declared.faults.NodeFault.TheVariants as nodes
@@ -73,7 +73,7 @@ pub record IsMadeOf {D : Type 0} (d : LocDecision) (old new : Database D) (outs 
   pub makes : Makes (loc_done (loc_seen old) d) [] new outs
   pub serves : IsInBoot new
   pub store : KeepsStore old new
-  pub done : IsDone (loc_record_decided old.store.durable.boot d) old new
+  pub done : IsKeptBehind (loc_record_decided old.store.durable.boot d) old new
   pub prepared : LeavesPrepared (loc_record_decided old.store.durable.boot d) old new (Ok outs)
 
 -- the disk failed: one that keeps the record of the step keeps what the row leaves of it

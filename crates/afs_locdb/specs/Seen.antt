@@ -1,12 +1,12 @@
 -- The location database, and the state of its row that it stands for.
 use Rattle.std.specs.Prelude.{◌≡◌, ℕ, List, map}
 use Rattle.afs_num.specs.declared.types.Node.TheVariants.{Loc}
-use Rattle.afs_records.specs.LocDurable.{LocDurable}
-use Rattle.afs_records.specs.LocRecords.{LocRecord}
-use Rattle.afs_rows.specs.LocRow.{LocLasting, LocState}
-use Rattle.afs_rows.specs.States.{Seat}
+use Rattle.spec_records.specs.LocDurable.{LocDurable}
+use Rattle.spec_records.specs.LocRecords.{LocRecord}
+use Rattle.spec_rows.specs.LocRow.{LocLasting, LocState}
+use Rattle.spec_rows.specs.States.{Seat}
 use Rattle.afs_store.specs.Stores.{StoreOf}
-use Rattle.afs_law.specs.DatabaseRuns.{IsSettled}
+use Rattle.law_legal.specs.DatabaseRuns.{CallersAreSettled}
 use Rattle.afs_saving.specs.Kept.{seat_kept}
 
 -- what it keeps, with its disk, and its callers in this boot
@@ -34,7 +34,7 @@ pub record IsInBoot {D : Type 0} (b : Database D) : Type 0 where
 -- It can be given messages: no call is admitted again that changed something, in whichever boot.
 pub record Serves {D : Type 0} (b : Database D) : Type 0 where
   pub here : IsInBoot b
-  pub settled : IsSettled (loc_seen b)
+  pub settled : CallersAreSettled (loc_seen b)
 
 -- with this in the place of its disk
 abbrev pub over : {D : Type 0} → D → Database D → Database D

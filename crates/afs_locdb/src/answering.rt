@@ -1,11 +1,11 @@
 //! What the database answers where its disk is left alone.
 
 ghost use Rattle.std.specs.Prelude.{◌≡◌, ◌∷◌, [], false, IfOk};
-ghost use Rattle.afs_model.specs.Calls.{call_seat, paired, runs};
-ghost use Rattle.afs_model.specs.Heads.{is_zero, IsSoundHead};
-ghost use Rattle.afs_model.specs.Messages.{messages_spelled, parcels_read, HasSpelling};
-ghost use Rattle.afs_rows.specs.LocRow.{drops, repeats, reply_to, tells_boot};
-ghost use Rattle.afs_rows.specs.ServerRow.{refusal};
+ghost use Rattle.spec_model.specs.Calls.{call_seat, paired, runs};
+ghost use Rattle.spec_model.specs.Heads.{is_zero, IsSoundHead};
+ghost use Rattle.spec_model.specs.Messages.{messages_spelled, parcels_read, HasSpelling};
+ghost use Rattle.spec_rows.specs.LocRow.{drops, repeats, reply_to, tells_boot};
+ghost use Rattle.spec_rows.specs.ServerRow.{refusal};
 ghost use Rattle.afs_locdb.specs.Deciding.{IsReplyTo};
 ghost use Rattle.afs_locdb.specs.Handling.{Answers, Does};
 ghost use Rattle.afs_locdb.specs.Seen.{IsInBoot};
@@ -13,11 +13,11 @@ ghost use Rattle.afs_locdb.specs.Seen.{IsInBoot};
 use crate::database::LocDb;
 use afs_callees::replies::{key, notice, refusal};
 use afs_disk::Disk;
-use afs_history::lines::{Lines, Outs};
 use afs_message::spelled::{Sent, SpelledMessage};
 use afs_num::location_calls::LocReply;
 use afs_num::messages::{Carried, Message, Reply};
 use afs_num::types::{Head, Mem, Parcels};
+use spec_history::lines::{Lines, Outs};
 use std::alloc::Global;
 
 /// A reply of the database's interface.

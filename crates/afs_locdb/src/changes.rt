@@ -14,7 +14,7 @@ pub struct LocChange {
 }
 
 impl Model for LocChange {
-    ghost use Rattle.afs_rows.specs.LocRow.{LocChange};
+    ghost use Rattle.spec_rows.specs.LocRow.{LocChange};
 
     ghost Value = { LocChange };
 

@@ -7,25 +7,25 @@ ghost use Rattle.afs_num.specs.declared.faults.StoreFault.TheVariants as faults;
 ghost use Rattle.afs_num.specs.declared.types.Node.TheVariants.{Loc};
 ghost use Rattle.afs_disk.specs.Disk.{LeavesJust};
 ghost use Rattle.afs_journal.specs.Log.{IsJournal};
-ghost use Rattle.afs_records.specs.Entries.{entry_of_line};
-ghost use Rattle.afs_records.specs.LocDurable.{lines_listed, loc_first_record, loc_set_up};
-ghost use Rattle.afs_records.specs.LocRecords.{loc_record_bytes, FitsLocRecord};
-ghost use Rattle.afs_store.specs.Stores.{IsKept};
+ghost use Rattle.spec_records.specs.Entries.{entry_of_line};
+ghost use Rattle.spec_records.specs.LocDurable.{lines_listed, loc_first_record, loc_set_up};
+ghost use Rattle.spec_records.specs.LocRecords.{loc_record_bytes, FitsLocRecord};
+ghost use Rattle.afs_store.specs.Stores.{IsKept, IsSetUpFault};
 ghost use Rattle.afs_locstore.specs.LocFold.{loc_fold};
-ghost use Rattle.afs_locdb.specs.Creating.{CanBeListed, IsSetUpFault, IsSetUpSoFar};
+ghost use Rattle.afs_locdb.specs.Creating.{CanBeListed, IsSetUpSoFar};
 ghost use Rattle.afs_locdb.specs.Seen.{Serves};
 
 use crate::database::LocDb;
 use afs_disk::Disk;
-use afs_history::scripts::{VolumeLine, VolumeLines};
 use afs_locrecord::records::encode_loc_record;
 use afs_locrecord::types::{AllListed, Body, Listed, LocRecord};
 use afs_locstore::held::{Held, Part, no_head};
 use afs_num::faults::StoreFault;
 use afs_num::location_calls::{LocEntry, LocSite, LocSites};
 use afs_num::types::{Mem, Node};
-use afs_records::laws::loc_records_are_read_again;
 use afs_store::beginning::{begin, filled};
+use spec_history::scripts::{VolumeLine, VolumeLines};
+use spec_records::laws::loc_records_are_read_again;
 use std::alloc::Global;
 
 /// How many bytes a journal without records has.

@@ -1,7 +1,7 @@
 //! The location database of a cell.
 
 ghost use Rattle.std.specs.Prelude.{◌≡◌, false};
-ghost use Rattle.afs_law.specs.Database.{AreKeyed};
+ghost use Rattle.law_legal.specs.Database.{AreKeyed};
 ghost use Rattle.afs_locstore.specs.Kept.{AreOfNodes};
 ghost use Rattle.afs_locstore.specs.LocFold.{loc_fold};
 ghost use Rattle.afs_locstore.specs.States.{parts_of};

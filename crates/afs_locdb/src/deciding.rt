@@ -1,16 +1,16 @@
 //! What is decided on a call, before anything is done.
 
 ghost use Rattle.std.specs.Prelude.{◌≡◌, ℕ, IfOk, if◌then◌else◌};
-ghost use Rattle.afs_model.specs.Calls.{admitted, call_seat, paired};
-ghost use Rattle.afs_model.specs.CellRows.{cell_calls, call_number};
-ghost use Rattle.afs_model.specs.Messages.{IsSoundCarried};
+ghost use Rattle.spec_model.specs.Calls.{admitted, call_seat, paired};
+ghost use Rattle.spec_model.specs.CellRows.{cell_calls, call_number};
+ghost use Rattle.spec_model.specs.Messages.{IsSoundCarried};
 ghost use Rattle.afs_call.specs.Admitting.{means};
 ghost use Rattle.afs_num.specs.declared.messages.Call.TheVariants as ask;
 ghost use Rattle.afs_num.specs.declared.types.Head as types;
-ghost use Rattle.afs_rows.specs.LocRow as rows;
-ghost use Rattle.afs_rows.specs.LocRow.{admits, called, loc_op, loc_serves, runs_carried, runs_received};
-ghost use Rattle.afs_rows.specs.ServerRow.{bad_fields, not_served};
-ghost use Rattle.afs_shape.specs.Rows.{IsWithin};
+ghost use Rattle.spec_rows.specs.LocRow as rows;
+ghost use Rattle.spec_rows.specs.LocRow.{admits, called, loc_op, loc_serves, runs_carried, runs_received};
+ghost use Rattle.spec_rows.specs.ServerRow.{bad_fields, not_served};
+ghost use Rattle.spec_shape.specs.Rows.{IsWithin};
 ghost use Rattle.afs_locdb.specs.Deciding.{change_decided, change_in, decision_of, outcome_of, CanAnswer, CanBeTold, IsByAnother, IsMadeIn, Runs};
 ghost use Rattle.afs_server_parts.specs.Heard.{IsUnder};
 ghost use Rattle.afs_locdb.specs.Seen.{loc_seen, IsInBoot};

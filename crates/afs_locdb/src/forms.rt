@@ -1,9 +1,9 @@
 //! What a message brings has a form in a record. These functions do nothing; each is its contract.
 
 ghost use Rattle.std.specs.List.{AllByRecursion};
-ghost use Rattle.afs_records.specs.LocRecords.{entry_form};
-ghost use Rattle.afs_shape.specs.Spelling.{entry_words, site_words};
-ghost use Rattle.afs_shape.specs.Tables.{IsEntry};
+ghost use Rattle.spec_records.specs.LocRecords.{entry_form};
+ghost use Rattle.spec_shape.specs.Spelling.{entry_words, site_words};
+ghost use Rattle.spec_shape.specs.Tables.{IsEntry};
 ghost use Rattle.afs_xdr.specs.Words.{AreWords};
 
 use afs_num::location_calls::{LocEntry, LocSite};

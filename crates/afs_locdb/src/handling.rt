@@ -3,24 +3,24 @@
 ghost use Rattle.std.specs.Prelude.{◌≡◌, ◌≤◌, ◌↔◌, ◌+◌, ◌++◌, ◌∷◌, [], ℕ, List, Some, None, false, true, IsErrOf, IsSome, OnOk};
 ghost use Rattle.afs_disk.specs.Words.{CallsAtMost, LeavesOnlyBy, SameDiskBy, TellsOn};
 ghost use Rattle.afs_journal.specs.Words.{LeavesByPickOf, ReachesBy, SameCountsBy};
-ghost use Rattle.afs_history.specs.declared.lines.Line.{Line};
-ghost use Rattle.afs_history.specs.declared.lines.Line.TheVariants as lines;
+ghost use Rattle.spec_history.specs.declared.lines.Line.{Line};
+ghost use Rattle.spec_history.specs.declared.lines.Line.TheVariants as lines;
 ghost use Rattle.afs_journal.specs.Records.{whole_records};
-ghost use Rattle.afs_model.specs.Calls.{call_seat, paired};
-ghost use Rattle.afs_model.specs.Heads.{IsSoundHead};
-ghost use Rattle.afs_model.specs.Messages.{received_by, HasSpelling, IsSoundReceived};
+ghost use Rattle.spec_model.specs.Calls.{call_seat, paired};
+ghost use Rattle.spec_model.specs.Heads.{IsSoundHead};
+ghost use Rattle.spec_model.specs.Messages.{received_by, HasSpelling, IsSoundReceived};
 ghost use Rattle.afs_num.specs.declared.messages.Received.TheVariants as receives;
-ghost use Rattle.afs_records.specs.LocDurable.{loc_folded, LocDurable};
-ghost use Rattle.afs_records.specs.LocEffects.{loc_effect_of};
-ghost use Rattle.afs_records.specs.LocRecords as records;
-ghost use Rattle.afs_records.specs.LocRecords.{loc_record_bytes, FitsLocRecord};
-ghost use Rattle.afs_rows.specs.LocRow.{called, drops, loc_device_calls, loc_decides};
-ghost use Rattle.afs_rows.specs.LocSteps.{loc_begun_after, loc_row};
+ghost use Rattle.spec_records.specs.LocDurable.{loc_folded, LocDurable};
+ghost use Rattle.spec_records.specs.LocEffects.{loc_effect_of};
+ghost use Rattle.spec_records.specs.LocRecords as records;
+ghost use Rattle.spec_records.specs.LocRecords.{loc_record_bytes, FitsLocRecord};
+ghost use Rattle.spec_rows.specs.LocRow.{called, drops, loc_device_calls, loc_decides};
+ghost use Rattle.spec_rows.specs.LocSteps.{loc_begun_after, loc_row};
 ghost use Rattle.afs_store.specs.Stores.{LeftAround};
 ghost use Rattle.afs_locstore.specs.LocFold.{loc_fold};
 ghost use Rattle.afs_locdb.specs.Deciding.{decision_of, leaves_disk, CanBeTold, IsByAnother, IsMadeIn, Runs};
 ghost use Rattle.afs_server_parts.specs.Heard.{IsUnder};
-ghost use Rattle.afs_locdb.specs.Handling.{loc_calls_served, loc_decided_then, loc_record_decided, loc_record_then, Does, Handles, IsDone, IsQuiet, IsWritten};
+ghost use Rattle.afs_locdb.specs.Handling.{loc_calls_served, loc_decided_then, loc_record_decided, loc_record_then, Does, Handles, IsKeptBehind, IsQuiet, IsWritten};
 ghost use Rattle.afs_locdb.specs.Saving.{DoesAll, OnDisk, Ran, LeavesPrepared};
 ghost use Rattle.afs_locdb.specs.Seen.{lasting_of, loc_seen, IsInBoot, Serves};
 ghost use Rattle.afs_server_parts.specs.declared.faults.NodeFault.TheVariants as faults;
@@ -29,11 +29,11 @@ use crate::database::LocDb;
 use crate::decided::Decided;
 use crate::deciding::CALLS;
 use afs_disk::Disk;
-use afs_history::lines::Outs;
 use afs_message::messages::read_message;
 use afs_num::messages::{Carried, Message, Received};
 use afs_num::types::{Head, Mem};
 use afs_server_parts::faults::NodeFault;
+use spec_history::lines::Outs;
 
 /// Whether what is decided leaves the disk as it is.
 fn leaves_disk(decided: &Decided) -> bool
@@ -195,7 +195,7 @@ impl<D: Disk> LocDb<D> {
         ensures told { TellsOn D.Disk self.old.store.disk self.new.store.disk }
 
         ensures store { OnOk result (self.new.store ≡ record self.old.store { durable = self.new.store.durable; disk = self.new.store.disk; prepared = self.new.store.prepared; count = self.new.store.count }) }
-        ensures kept { OnOk result (IsDone (loc_record_then self.old bytes.now) self.old self.new) }
+        ensures kept { OnOk result (IsKeptBehind (loc_record_then self.old bytes.now) self.old self.new) }
 
         // It leaves no record prepared but what was there before: one that it writes is no more, and only want of memory may leave it.
         ensures prepared { LeavesPrepared (loc_record_then self.old bytes.now) self.old self.new result }

@@ -4,12 +4,12 @@ ghost use Rattle.std.specs.Prelude.{◌≡◌, ◌<◌, ◌^◌, ℕ, Some, fals
 ghost use Rattle.std.specs.Option.{option_copied};
 ghost use Rattle.afs_num.specs.declared.location_calls.LocCall.TheVariants as calls;
 ghost use Rattle.afs_num.specs.declared.messages.Call.TheVariants as ask;
-ghost use Rattle.afs_model.specs.CellRows.{cell_calls, call_number};
-ghost use Rattle.afs_model.specs.Heads.{is_zero};
-ghost use Rattle.afs_records.specs.LocRecords.{entry_form, listed_form, lock_form};
-ghost use Rattle.afs_rows.specs.LocRow as rows;
-ghost use Rattle.afs_rows.specs.LocRow.{changes, draws, entry_fits, found_id, holds, is_barred, is_operation, loc_op, locks, sets_to};
-ghost use Rattle.afs_shape.specs.Rows.{IsWithin};
+ghost use Rattle.spec_model.specs.CellRows.{cell_calls, call_number};
+ghost use Rattle.spec_model.specs.Heads.{is_zero};
+ghost use Rattle.spec_records.specs.LocRecords.{entry_form, listed_form, lock_form};
+ghost use Rattle.spec_rows.specs.LocRow as rows;
+ghost use Rattle.spec_rows.specs.LocRow.{changes, draws, entry_fits, found_id, holds, is_barred, is_operation, loc_op, locks, sets_to};
+ghost use Rattle.spec_shape.specs.Rows.{IsWithin};
 ghost use Rattle.afs_locstore.specs.Listings.{entry_of};
 ghost use Rattle.afs_locdb.specs.Deciding.{fits_or, lasting_seen, outcome_of, CanAnswer, HasForm, HoldsAs, IsReplyTo};
 

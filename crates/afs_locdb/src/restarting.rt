@@ -7,10 +7,10 @@ ghost use Rattle.afs_num.specs.declared.faults.StoreFault.TheVariants as faults;
 ghost use Rattle.afs_num.specs.declared.types.Node.TheVariants.{Loc};
 ghost use Rattle.afs_journal.specs.Log.{IsJournal};
 ghost use Rattle.afs_journal.specs.Records.{whole_records};
-ghost use Rattle.afs_records.specs.LocDurable.{loc_boot_record, loc_can_boot};
-ghost use Rattle.afs_records.specs.LocLaws.{loc_started};
-ghost use Rattle.afs_records.specs.LocRecords.{loc_record_bytes};
-ghost use Rattle.afs_rows.specs.LocRow.{loc_revived};
+ghost use Rattle.spec_records.specs.LocDurable.{loc_boot_record, loc_can_boot};
+ghost use Rattle.spec_records.specs.LocLaws.{loc_started};
+ghost use Rattle.spec_records.specs.LocRecords.{loc_record_bytes};
+ghost use Rattle.spec_rows.specs.LocRow.{loc_revived};
 ghost use Rattle.afs_store.specs.Opening.{lines_begun};
 ghost use Rattle.afs_store.specs.Rereading.{IsAttached, IsRefused};
 ghost use Rattle.afs_store.specs.Stores.{IsEarly, IsKept, LeftAround, Stands};
@@ -21,7 +21,6 @@ ghost use Rattle.afs_saving.specs.Kept.{seat_kept};
 
 use crate::database::LocDb;
 use afs_disk::Disk;
-use afs_history::lines::Lines;
 use afs_locrecord::types::LocRecord;
 use afs_locstore::held::{Held, LocStore, Part};
 use afs_locstore::kept::KeptReplies;
@@ -31,6 +30,7 @@ use afs_num::types::{Mem, Node};
 use afs_saving::restoring::keep_found;
 use afs_server_parts::callers::Callers;
 use afs_store::Store;
+use spec_history::lines::Lines;
 use std::alloc::Global;
 
 /// Nodes have the numbers below this one.

@@ -1,5 +1,5 @@
 -- What the body of a record of the code says, as the definitions have it.
-use Rattle.afs_records.specs.LocRecords.{Boot, Database, First, LocBody}
+use Rattle.spec_records.specs.LocRecords.{Boot, Database, First, LocBody}
 use Rattle.afs_locrecord.specs.declared.deeds.Body.{Body}
 use Rattle.afs_locrecord.specs.declared.deeds.Body.TheVariants as bodies
 

@@ -12,7 +12,7 @@ pub struct LocRecord {
 }
 
 impl Model for LocRecord {
-    ghost use Rattle.afs_records.specs.LocRecords.{LocRecord};
+    ghost use Rattle.spec_records.specs.LocRecords.{LocRecord};
     ghost use Rattle.afs_locrecord.specs.Bodies.{body_of};
 
     ghost Value = { LocRecord };

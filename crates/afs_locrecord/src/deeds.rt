@@ -10,10 +10,10 @@ pub struct Deed {
 }
 
 impl Model for Deed {
-    ghost use Rattle.afs_records.specs.LocRecords.{Deed};
+    ghost use Rattle.spec_records.specs.LocRecords.{EntryDeed};
     ghost use Rattle.afs_locrecord.specs.Deeds.{deed_of};
 
-    ghost Value = { Deed };
+    ghost Value = { EntryDeed };
 
     ghost view = { λ d. deed_of d.doing };
 }

@@ -1,8 +1,8 @@
 //! Entries and locks in a record.
 
 ghost use Rattle.std.specs.Prelude.{◌≡◌, ◌++◌, OnOk};
-ghost use Rattle.afs_records.specs.LocRecords.{deed_form, deed_made, entry_form, is_no_entry, listed_form, lock_form, site_form, sites_form};
-ghost use Rattle.afs_shape.specs.Rows.{no_entry};
+ghost use Rattle.spec_records.specs.LocRecords.{deed_form, deed_made, entry_form, is_no_entry, listed_form, lock_form, site_form, sites_form};
+ghost use Rattle.spec_shape.specs.Rows.{empty_entry};
 ghost use Rattle.afs_record.specs.Reading.{GivesForm, ReadsForm};
 
 use crate::types::{Deed, Doing, Listed, Lock};
@@ -59,7 +59,7 @@ fn read_sites(alloc: Global, r: &mut Reader) -> Result<LocSites, RecordFault>
 }
 
 /// Reads an entry.
-#[tactic(auto, unfolding(afs_records::specs::LocRecords::entry_form))]
+#[tactic(auto, unfolding(spec_records::specs::LocRecords::entry_form))]
 fn read_entry(alloc: Global, r: &mut Reader) -> Result<LocEntry, RecordFault>
     ensures { ReadsForm entry_form.at (λ e. e) r.old r.new result }
 {
@@ -80,7 +80,7 @@ fn read_entry(alloc: Global, r: &mut Reader) -> Result<LocEntry, RecordFault>
 }
 
 /// Appends an entry.
-#[tactic(auto, unfolding(afs_records::specs::LocRecords::entry_form))]
+#[tactic(auto, unfolding(spec_records::specs::LocRecords::entry_form))]
 fn write_entry(entry: &LocEntry, w: &mut Writer) -> Mem<()>
     requires { entry_form.Fits entry.now }
     ensures { OnOk result (w.new ≡ w.old ++ entry_form.spelled entry.now) }
@@ -91,9 +91,9 @@ fn write_entry(entry: &LocEntry, w: &mut Writer) -> Mem<()>
 }
 
 /// Appends an entry all of whose fields are 0 or empty.
-#[tactic(auto, unfolding(afs_records::specs::LocRecords::entry_form))]
+#[tactic(auto, unfolding(spec_records::specs::LocRecords::entry_form))]
 fn write_no_entry(w: &mut Writer) -> Mem<()>
-    ensures { OnOk result (w.new ≡ w.old ++ entry_form.spelled no_entry) }
+    ensures { OnOk result (w.new ≡ w.old ++ entry_form.spelled empty_entry) }
 {
     w.opaque(&[])?;
     w.words(&[0, 0, 0, 0, 0])

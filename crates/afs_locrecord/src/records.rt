@@ -1,7 +1,7 @@
 //! Records: a kind, a head, the fields of the kind.
 
 ghost use Rattle.std.specs.Prelude.{◌≡◌, IfOk};
-ghost use Rattle.afs_records.specs.LocRecords.{loc_record_at, loc_record_bytes, FitsLocRecord};
+ghost use Rattle.spec_records.specs.LocRecords.{loc_record_at, loc_record_bytes, FitsLocRecord};
 ghost use Rattle.afs_record.specs.Reading.{GivesForm};
 
 use crate::tables::{number_of, read_body, write_body};
@@ -10,9 +10,9 @@ use afs_num::sequences::Octets;
 use afs_num::types::Mem;
 use afs_record::faults::RecordFault;
 use afs_record::heads::{may_call, read_head, write_head};
-use afs_records::laws::read_loc_records_are_spelled;
 use afs_xdr::reading::Reader;
 use afs_xdr::writing::Writer;
+use spec_records::laws::read_loc_records_are_spelled;
 use std::alloc::Global;
 
 /// How many bytes the record of a change takes without its reply, with the longest name, 16 sites and the longest pads. A record
@@ -20,7 +20,7 @@ use std::alloc::Global;
 const FRAME: usize = 256;
 
 /// The one spelling of a record.
-#[tactic(auto, unfolding(afs_records::specs::LocRecords::loc_record_bytes))]
+#[tactic(auto, unfolding(spec_records::specs::LocRecords::loc_record_bytes))]
 pub fn encode_loc_record(alloc: Global, rec: &LocRecord) -> Mem<Octets>
     requires { FitsLocRecord rec.now }
     ensures { IfOk result (λ bytes. bytes ≡ loc_record_bytes rec.now) }
@@ -33,7 +33,7 @@ pub fn encode_loc_record(alloc: Global, rec: &LocRecord) -> Mem<Octets>
 }
 
 /// The record that these bytes are, as it is read.
-#[tactic(auto, unfolding(afs_records::specs::LocRecords::loc_record_at))]
+#[tactic(auto, unfolding(spec_records::specs::LocRecords::loc_record_at))]
 fn read_record(alloc: Global, bytes: &[u8]) -> Result<LocRecord, RecordFault>
     ensures { GivesForm (loc_record_at bytes.now) result }
 {

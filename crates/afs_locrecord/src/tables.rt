@@ -1,8 +1,8 @@
 //! The kinds of records: for each its number, and its fields in order, each of its form.
 
 ghost use Rattle.std.specs.Prelude.{◌≡◌, ◌++◌, OnOk};
-ghost use Rattle.afs_records.specs.LocRecords.{loc_table, row};
-ghost use Rattle.afs_records.specs.Records.{body_in};
+ghost use Rattle.spec_records.specs.LocRecords.{loc_table, row};
+ghost use Rattle.spec_records.specs.Records.{body_in};
 ghost use Rattle.afs_locrecord.specs.Bodies.{body_of};
 ghost use Rattle.afs_record.specs.Reading.{GivesForm, MakesAtEnd};
 ghost use Rattle.afs_locrecord.specs.Reading.{body_result};

@@ -15,7 +15,7 @@ pub struct Lock {
 }
 
 impl Model for Lock {
-    ghost use Rattle.afs_records.specs.LocRecords.{Lock};
+    ghost use Rattle.spec_records.specs.LocRecords.{Lock};
 
     ghost Value = { Lock };
 
@@ -30,7 +30,7 @@ pub struct Listed {
 }
 
 impl Model for Listed {
-    ghost use Rattle.afs_records.specs.LocRecords.{Listed};
+    ghost use Rattle.spec_records.specs.LocRecords.{Listed};
 
     ghost Value = { Listed };
 

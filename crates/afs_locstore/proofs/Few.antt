@@ -5,13 +5,13 @@ use Rattle.std.proofs.lemmas.List.{length-append}
 use Rattle.std.proofs.lemmas.List.Concat.{flat_map-cons}
 use Rattle.afs_num.specs.declared.records.RecordHead.{RecordHead}
 use Rattle.afs_num.specs.declared.types.Node.{Node}
-use Rattle.afs_ideal.specs.Tables.{set, unset, Table}
-use Rattle.afs_shape.specs.Taking.{◌>>=◌}
+use Rattle.spec_ideal.specs.Tables.{set, unset, Table}
+use Rattle.spec_shape.specs.Taking.{◌>>=◌}
 use Rattle.afs_xdr.specs.Words.{opaque, word}
-use Rattle.afs_records.specs.LocDurable.{can_do, entries_after, entries_set, loc_body_taken, loc_first_folded, loc_fold_all, loc_fold_from, loc_folded, loc_is_first, loc_place_length, loc_placing, loc_with_journal, loc_with_reply, nothing_listed, numbered_as, LocDurable}
-use Rattle.afs_records.specs.LocRecords.{entry_form, leaves, listed_form, loc_record_at, loc_record_bytes, removes, sets, Boot, Database, Deed, First, Listed, LocBody, LocRecord}
-use Rattle.afs_records.specs.Records.{head_form}
-use Rattle.afs_records.proofs.Forms.{bound, some_is}
+use Rattle.spec_records.specs.LocDurable.{can_do, entries_after, entries_set, loc_body_taken, loc_first_folded, loc_fold_all, loc_fold_from, loc_folded, loc_is_first, loc_place_length, loc_placing, loc_with_journal, loc_with_reply, nothing_listed, numbered_as, LocDurable}
+use Rattle.spec_records.specs.LocRecords.{entry_form, leaves, listed_form, loc_record_at, loc_record_bytes, removes, sets, Boot, Database, EntryDeed, First, Listed, LocBody, LocRecord}
+use Rattle.spec_records.specs.Records.{head_form}
+use Rattle.spec_records.proofs.Forms.{bound, some_is}
 use Rattle.afs_locstore.specs.Few.{EntriesAreFew}
 
 -- ---- the entries that a record adds
@@ -41,12 +41,12 @@ abbrev added : LocBody → ℕ
 added (First ls next_id next_stamp) = length ls
 added body = 1
 
-after_few : (x : Deed) (t : Table Listed) → length (entries_after x t) ≤ 1 + length t
+after_few : (x : EntryDeed) (t : Table Listed) → length (entries_after x t) ≤ 1 + length t
 after_few (sets l) t = omega (arith, set_few l.entry.read_write l t)
 after_few (removes e) t = omega (arith, unset_few e.read_write t)
 after_few leaves t = omega arith
 
-deed_few : (x : Deed) (a b : ℕ) (d e : LocDurable) (can : Bool) → (if can then Some (numbered_as a b (record d { entries = entries_after x d.entries })) else None) ≡ Some e → length e.entries ≤ 1 + length d.entries
+deed_few : (x : EntryDeed) (a b : ℕ) (d e : LocDurable) (can : Bool) → (if can then Some (numbered_as a b (record d { entries = entries_after x d.entries })) else None) ≡ Some e → length e.entries ≤ 1 + length d.entries
 deed_few x a b d e true h = rw (ap (λ (y : LocDurable). y.entries) (sym (some_is (numbered_as a b (record d { entries = entries_after x d.entries })) e h))) (after_few x d.entries)
 deed_few x a b d e false h = absurd cc
 

@@ -9,12 +9,12 @@ use mathlib.Core.Bool.{true≢false}
 use Rattle.std.proofs.lemmas.Bool.{eqb-true, eq-eqb}
 use Rattle.std.proofs.lemmas.Bool.Decides.{nat_tests}
 use Rattle.afs_num.specs.declared.location_calls.LocEntry.{LocEntry}
-use Rattle.afs_ideal.specs.Directories.{bytes_below}
-use Rattle.afs_ideal.specs.Tables.{get, set, unset, AscendsFrom, Table}
-use Rattle.afs_ideal.proofs.Tables.{ascends_set, ascends_unset, get_below, get_set, get_unset}
-use Rattle.afs_records.specs.LocDurable.{entry_set}
-use Rattle.afs_records.specs.LocRecords.{listed_form, Listed}
-use Rattle.afs_rows.specs.LocRow.{all_listed, any_other, has_id, is_named, nth, shares_id}
+use Rattle.spec_ideal.specs.Directories.{bytes_below}
+use Rattle.spec_ideal.specs.Tables.{get, set, unset, AscendsFrom, Table}
+use Rattle.spec_ideal.proofs.Tables.{ascends_set, ascends_unset, get_below, get_set, get_unset}
+use Rattle.spec_records.specs.LocDurable.{entry_set}
+use Rattle.spec_records.specs.LocRecords.{listed_form, Listed}
+use Rattle.spec_rows.specs.LocRow.{all_listed, any_other, has_id, is_named, nth, shares_id}
 use Rattle.afs_locstore.specs.Indexed.{another_under, first_under, holds_pair, is_number, without_pair, Ascend, IsOrder}
 use Rattle.afs_locstore.specs.Listings.{get_under, names_with, names_without, numbers_with, numbers_without, passes, with_number, AreIndexed, AreNames, AreNumbers, EachEntry, StandByNumber}
 use Rattle.afs_locstore.specs.Orders.{names_ordered, numbers_ordered}

@@ -4,9 +4,9 @@ use Rattle.std.specs.Option.{option_map}
 use Rattle.afs_num.specs.Nodes.{node_number, node_of}
 use Rattle.afs_num.specs.declared.records.RecordHead.{RecordHead}
 use Rattle.afs_num.specs.declared.types.Node.{Node}
-use Rattle.afs_ideal.specs.Tables.{set, Table}
-use Rattle.afs_shape.specs.Taking.{◌>>=◌}
-use Rattle.afs_records.specs.Records.{caller_number, caller_of, head_form}
+use Rattle.spec_ideal.specs.Tables.{set, Table}
+use Rattle.spec_shape.specs.Taking.{◌>>=◌}
+use Rattle.spec_records.specs.Records.{caller_number, caller_numbered, head_form}
 use Rattle.afs_seats.specs.Seated.{seen_as}
 use Rattle.afs_locstore.specs.Kept.{kept_seen, AreCalled, AreOfNodes, IsCalled, IsCaller}
 use Rattle.afs_locstore.specs.declared.kept.KeptReply.{KeptReply}
@@ -52,7 +52,7 @@ known_by n true o e = absurd cc
 known_by n false None e = absurd cc
 known_by n false (Some m) e = refl
 
-is_caller : (c : Option Node) → caller_of (caller_number c) ≡ Some c → IsCaller c
+is_caller : (c : Option Node) → caller_numbered (caller_number c) ≡ Some c → IsCaller c
 is_caller None e = tt
 is_caller (Some n) e = known_by n (nat_eq (node_number n) 0) (node_of (node_number n)) e
 

@@ -6,8 +6,8 @@ use Rattle.std.specs.Option.{option_map}
 use Rattle.std.proofs.lemmas.Bool.Decides.{nat_tests}
 use Rattle.afs_num.specs.Nodes.{is_between}
 use Rattle.afs_num.specs.declared.location_calls.LocSite.{LocSite}
-use Rattle.afs_records.specs.Entries.{is_read_write, site_of}
-use Rattle.afs_records.specs.LocRecords.{listed_form, entry_form, site_form, Listed}
+use Rattle.spec_records.specs.Entries.{is_read_write, site_of}
+use Rattle.spec_records.specs.LocRecords.{listed_form, entry_form, site_form, Listed}
 
 between_by : (n : ℕ) (b : Bool) → is_between 1 8 n ≡ b → (if b then Some n else None) ≡ Some n → n < 256
 between_by n true e h = grind (arith, nat_tests, e)

@@ -1,8 +1,8 @@
 -- A record that was read does what its parts do, or can't be taken.
 use Rattle.std.proofs.Common.{◌≡◌, Bool, true, Option, Some, None, is_some, not, refl, sym, ap, ◌∙◌}
 use Rattle.std.specs.Option.{option_map}
-use Rattle.afs_records.specs.LocDurable.{loc_body_taken, loc_with_reply, LocDurable}
-use Rattle.afs_records.specs.LocRecords.{LocBody, LocRecord}
+use Rattle.spec_records.specs.LocDurable.{loc_body_taken, loc_with_reply, LocDurable}
+use Rattle.spec_records.specs.LocRecords.{LocBody, LocRecord}
 use Rattle.afs_locstore.specs.States.{loc_done}
 
 none_is : {A : Type 0} (o : Option A) (can : Bool) → can ≡ is_some o → not can ≡ true → o ≡ None

@@ -4,10 +4,10 @@ use Rattle.std.specs.List.{AllByRecursion}
 use Rattle.std.specs.Option.{option_map}
 use Rattle.std.specs.Str.{bytes_eq}
 use Rattle.afs_num.specs.declared.location_calls.LocEntry.{LocEntry}
-use Rattle.afs_ideal.specs.Directories.{bytes_below}
-use Rattle.afs_ideal.specs.Tables.{get, Table, AscendsFrom}
-use Rattle.afs_records.specs.LocRecords.{listed_form, Listed}
-use Rattle.afs_rows.specs.LocRow.{has_id, is_named}
+use Rattle.spec_ideal.specs.Directories.{bytes_below}
+use Rattle.spec_ideal.specs.Tables.{get, Table, AscendsFrom}
+use Rattle.spec_records.specs.LocRecords.{listed_form, Listed}
+use Rattle.spec_rows.specs.LocRow.{has_id, is_named}
 use Rattle.afs_locstore.specs.Indexed.{holds_pair, with_pair, without_pair}
 use Rattle.afs_locstore.specs.declared.placed.Placed.{Placed}
 

@@ -1,12 +1,12 @@
 -- The records of the location database, what they make, and how its memory holds that.
 use Rattle.std.specs.Prelude.{ℕ, List, [], ◌∷◌, Option, Some, None}
-use Rattle.afs_history.specs.declared.lines.Line.{Line}
-use Rattle.afs_shape.specs.Taking.{◌>>=◌}
-use Rattle.afs_records.specs.LocDurable.{loc_boot_record, loc_first_bad, loc_first_folded, loc_fold_all, loc_folded, loc_is_first, nothing_listed, LocDurable}
-use Rattle.afs_records.specs.LocEffects.{loc_effect_of}
-use Rattle.afs_records.specs.LocRecords.{loc_record_at, loc_record_bytes, FitsLocRecord, LocRecord}
+use Rattle.spec_history.specs.declared.lines.Line.{Line}
+use Rattle.spec_shape.specs.Taking.{◌>>=◌}
+use Rattle.spec_records.specs.LocDurable.{loc_boot_record, loc_first_bad, loc_first_folded, loc_fold_all, loc_folded, loc_is_first, nothing_listed, LocDurable}
+use Rattle.spec_records.specs.LocEffects.{loc_effect_of}
+use Rattle.spec_records.specs.LocRecords.{loc_record_at, loc_record_bytes, FitsLocRecord, LocRecord}
 use Rattle.afs_store.specs.Folding.{Folding}
-use Rattle.afs_locstore.specs.States.{loc_done, loc_placed, parts_of, record_of, HasRoomFor, IsSpelledOut}
+use Rattle.afs_locstore.specs.States.{loc_done, loc_on_disk, parts_of, record_of, HasRoomFor, IsSpelledOut}
 use Rattle.afs_locstore.specs.declared.held.Held.{Held}
 use Rattle.afs_locstore.specs.declared.ready.Ready.{Ready}
 
@@ -29,7 +29,7 @@ loc_fold = record {
   read = loc_record_at;
   Fits = FitsLocRecord;
   nothing = record (nothing_listed 0) { journal = 0 };
-  placed = loc_placed;
+  placed = loc_on_disk;
   journal = λ d. d.journal;
   capacity = λ d. d.capacity;
   folded = loc_folded;

@@ -1,46 +1,46 @@
 -- The database's records, what they make and its memory fit together.
 use Rattle.std.proofs.Common.{◌≡◌, ℕ, ◌+◌, Bool, true, false, List, [], ◌∷◌, Option, Some, None, if◌then◌else◌, refl, ap, ◌∙◌}
 use Rattle.std.specs.Option.{option_map}
-use Rattle.afs_history.specs.declared.lines.Line.{Line}
+use Rattle.spec_history.specs.declared.lines.Line.{Line}
 use Rattle.afs_num.specs.declared.records.RecordHead.{RecordHead}
 use Rattle.afs_num.specs.declared.types.Node.{Node}
-use Rattle.afs_shape.specs.Taking.{◌>>=◌}
-use Rattle.afs_records.proofs.LocSpelled.{loc_record_read}
-use Rattle.afs_records.specs.LocDurable.{can_do, entries_after, loc_bad_by, loc_bad_from, loc_body_taken, loc_first_bad, loc_first_folded, loc_fold_all, loc_fold_from, loc_folded, loc_place_length, loc_with_journal, loc_with_reply, nothing_listed, numbered_as, LocDurable}
-use Rattle.afs_records.specs.LocEffects.{loc_effect_by, loc_effect_of}
-use Rattle.afs_records.specs.LocRecords.{loc_record_at, Boot, Database, Deed, First, LocBody, LocRecord}
+use Rattle.spec_shape.specs.Taking.{◌>>=◌}
+use Rattle.spec_records.proofs.LocSpelled.{loc_record_read}
+use Rattle.spec_records.specs.LocDurable.{can_do, entries_after, loc_bad_by, loc_bad_from, loc_body_taken, loc_first_bad, loc_first_folded, loc_fold_all, loc_fold_from, loc_folded, loc_place_length, loc_with_journal, loc_with_reply, nothing_listed, numbered_as, LocDurable}
+use Rattle.spec_records.specs.LocEffects.{loc_effect_by, loc_effect_of}
+use Rattle.spec_records.specs.LocRecords.{loc_record_at, Boot, Database, EntryDeed, First, LocBody, LocRecord}
 use Rattle.afs_store.specs.Folds.{all_folded, first_unfit, folded_from, last_told, told_from, unfit_by, unfit_from}
 use Rattle.afs_store.specs.Sound.{IsSound}
 use Rattle.afs_locstore.specs.LocFold.{loc_fold, loc_last_effect, loc_last_from}
-use Rattle.afs_locstore.specs.States.{loc_done, loc_placed}
+use Rattle.afs_locstore.specs.States.{loc_done, loc_on_disk}
 
 -- ---- the fold does the same whatever the journal's length and the capacity
 
-deed_placed : (deed : Deed) (next_id next_stamp j c : ℕ) (d : LocDurable) (can : Bool) →
-    (if can then Some (numbered_as next_id next_stamp (record (loc_placed j c d) { entries = entries_after deed d.entries })) else None)
-    ≡ option_map (loc_placed j c) (if can then Some (numbered_as next_id next_stamp (record d { entries = entries_after deed d.entries })) else None)
+deed_placed : (deed : EntryDeed) (next_id next_stamp j c : ℕ) (d : LocDurable) (can : Bool) →
+    (if can then Some (numbered_as next_id next_stamp (record (loc_on_disk j c d) { entries = entries_after deed d.entries })) else None)
+    ≡ option_map (loc_on_disk j c) (if can then Some (numbered_as next_id next_stamp (record d { entries = entries_after deed d.entries })) else None)
 deed_placed deed next_id next_stamp j c d true = refl
 deed_placed deed next_id next_stamp j c d false = refl
 
-taken_placed : (b : LocBody) (j c : ℕ) (d : LocDurable) → loc_body_taken b (loc_placed j c d) ≡ option_map (loc_placed j c) (loc_body_taken b d)
+taken_placed : (b : LocBody) (j c : ℕ) (d : LocDurable) → loc_body_taken b (loc_on_disk j c d) ≡ option_map (loc_on_disk j c) (loc_body_taken b d)
 taken_placed (First ls next_id next_stamp) j c d = refl
 taken_placed (Boot boot) j c d = refl
 taken_placed (Database deed next_id next_stamp) j c d = deed_placed deed next_id next_stamp j c d (can_do deed d.entries)
 
-reply_placed : (o : Option Node) (h : RecordHead) (j c : ℕ) (d : LocDurable) → loc_with_reply o h (loc_placed j c d) ≡ loc_placed j c (loc_with_reply o h d)
+reply_placed : (o : Option Node) (h : RecordHead) (j c : ℕ) (d : LocDurable) → loc_with_reply o h (loc_on_disk j c d) ≡ loc_on_disk j c (loc_with_reply o h d)
 reply_placed None h j c d = refl
 reply_placed (Some n) h j c d = refl
 
-folded_by : (r : LocRecord) (j c : ℕ) (o : Option LocDurable) → (option_map (loc_placed j c) o >>= λ d. Some (loc_with_journal (j + loc_place_length r) (loc_with_reply r.head.caller r.head d))) ≡ option_map (loc_placed (j + loc_place_length r) c) (option_map (loc_with_reply r.head.caller r.head) o)
+folded_by : (r : LocRecord) (j c : ℕ) (o : Option LocDurable) → (option_map (loc_on_disk j c) o >>= λ d. Some (loc_with_journal (j + loc_place_length r) (loc_with_reply r.head.caller r.head d))) ≡ option_map (loc_on_disk (j + loc_place_length r) c) (option_map (loc_with_reply r.head.caller r.head) o)
 folded_by r j c None = refl
 folded_by r j c (Some d) = ap (λ (x : LocDurable). Some (loc_with_journal (j + loc_place_length r) x)) (reply_placed r.head.caller r.head j c d)
 
-folds : (r : LocRecord) (j c : ℕ) (d : LocDurable) → loc_folded r (loc_placed j c d) ≡ option_map (loc_placed (j + loc_place_length r) c) (loc_done r d)
+folds : (r : LocRecord) (j c : ℕ) (d : LocDurable) → loc_folded r (loc_on_disk j c d) ≡ option_map (loc_on_disk (j + loc_place_length r) c) (loc_done r d)
 unfolding loc_folded
 folds r j c d =
     ap (λ (o : Option LocDurable). o >>= λ x. Some (loc_with_journal (j + loc_place_length r) (loc_with_reply r.head.caller r.head x))) (taken_placed r.body j c d) ∙ folded_by r j c (loc_body_taken r.body d)
 
-effect_placed : (b : LocBody) (j c : ℕ) (d : LocDurable) → loc_effect_by b (loc_placed j c d) ≡ loc_effect_by b d
+effect_placed : (b : LocBody) (j c : ℕ) (d : LocDurable) → loc_effect_by b (loc_on_disk j c d) ≡ loc_effect_by b d
 effect_placed (First ls next_id next_stamp) j c d = refl
 effect_placed (Boot boot) j c d = refl
 effect_placed (Database deed next_id next_stamp) j c d = refl

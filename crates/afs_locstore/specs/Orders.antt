@@ -6,8 +6,8 @@ use Rattle.std.specs.Cmp.Lexicographic.{bytes_decides}
 use mathlib.Core.Bool.{true≢false}
 use Rattle.std.proofs.lemmas.Bool.{eqb-true}
 use Rattle.std.proofs.lemmas.Bool.Decides.{nat_tests}
-use Rattle.afs_ideal.specs.Directories.{bytes_below}
-use Rattle.afs_ideal.proofs.Directories.{below_itself, below_total, below_trans, same_is}
+use Rattle.spec_ideal.specs.Directories.{bytes_below}
+use Rattle.spec_ideal.proofs.Directories.{below_itself, below_total, below_trans, same_is}
 use Rattle.afs_locstore.specs.Indexed.{IsOrder}
 
 pub numbers_ordered : IsOrder nat_lt nat_eq

@@ -2,8 +2,8 @@
 use Rattle.std.specs.Prelude.{◌≡◌, ◌<◌, ℕ, length, Option}
 use Rattle.std.specs.Option.{option_map}
 use Rattle.afs_num.specs.declared.records.RecordHead.{RecordHead}
-use Rattle.afs_records.specs.LocDurable.{loc_body_taken, loc_with_reply, LocDurable}
-use Rattle.afs_records.specs.LocRecords.{leaves, loc_record_bytes, removes, sets, Boot, Database, First, FitsLocRecord, LocBody, LocRecord}
+use Rattle.spec_records.specs.LocDurable.{loc_body_taken, loc_with_reply, LocDurable}
+use Rattle.spec_records.specs.LocRecords.{leaves, loc_record_bytes, removes, sets, Boot, Database, First, FitsLocRecord, LocBody, LocRecord}
 use Rattle.afs_locstore.specs.Listings.{are_placed, CanBeAllPut, CanBePut, HasRoomOf}
 use Rattle.afs_locstore.specs.declared.memory.State.{State}
 use Rattle.afs_locstore.specs.declared.ready.Ready.{Ready}
@@ -15,8 +15,8 @@ abbrev pub parts_of : State → LocDurable
 parts_of s = record { boot = s.boot; entries = s.entries.table; next_id = s.next_id; next_stamp = s.next_stamp; kept = s.kept.table; journal = 0; capacity = 0 }
 
 -- on a disk of this capacity, with a journal of this length
-abbrev pub loc_placed : ℕ → ℕ → LocDurable → LocDurable
-loc_placed journal capacity d = record d { journal = journal; capacity = capacity }
+abbrev pub loc_on_disk : ℕ → ℕ → LocDurable → LocDurable
+loc_on_disk journal capacity d = record d { journal = journal; capacity = capacity }
 
 -- ---- a record
 

@@ -1,8 +1,8 @@
 //! The records of a disk, taken one after the other.
 
 ghost use Rattle.std.specs.Prelude.{◌≡◌, Err, Some, true, IfOk, OnOk};
-ghost use Rattle.afs_records.specs.LocDurable.{loc_is_first};
-ghost use Rattle.afs_records.specs.LocRecords.{loc_record_at, loc_record_bytes, FitsLocRecord};
+ghost use Rattle.spec_records.specs.LocDurable.{loc_is_first};
+ghost use Rattle.spec_records.specs.LocRecords.{loc_record_at, loc_record_bytes, FitsLocRecord};
 ghost use Rattle.afs_store.specs.Folds.{IsBadAt, TakesNone, TakesOne, TellsOne};
 ghost use Rattle.afs_locrecord.specs.Bodies.{body_of};
 ghost use Rattle.afs_locstore.specs.LocFold.{loc_fold};
@@ -11,11 +11,11 @@ ghost use Rattle.afs_record.specs.declared.faults.Unfit.TheVariants.{Bad};
 
 use crate::memory::State;
 use crate::readying::redo_of;
-use afs_history::lines::Lines;
 use afs_locrecord::records::decode_loc_record;
 use afs_locrecord::types::{Body, LocRecord};
 use afs_num::types::Node;
 use afs_record::faults::{RecordFault, Unfit};
+use spec_history::lines::Lines;
 use std::alloc::Global;
 
 /// Whether a record tells the entries of set-up.

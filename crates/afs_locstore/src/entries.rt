@@ -2,10 +2,10 @@
 
 ghost use Rattle.std.specs.Prelude.{◌≡◌, ◌≤◌, ◌<◌, ◌+◌, ◌||◌, [], None, nat_eq, IfSome, OnOk, length};
 ghost use Rattle.std.specs.Option.{option_copied, option_map};
-ghost use Rattle.afs_ideal.specs.Tables.{get, unset, AscendsFrom};
-ghost use Rattle.afs_records.specs.LocDurable.{entries_set, entry_set};
-ghost use Rattle.afs_records.specs.LocRecords.{listed_form};
-ghost use Rattle.afs_rows.specs.LocRow.{all_listed, any_other, found_id, found_name, is_named, nth, shares_id};
+ghost use Rattle.spec_ideal.specs.Tables.{get, unset, AscendsFrom};
+ghost use Rattle.spec_records.specs.LocDurable.{entries_set, entry_set};
+ghost use Rattle.spec_records.specs.LocRecords.{listed_form};
+ghost use Rattle.spec_rows.specs.LocRow.{all_listed, any_other, found_id, found_name, is_named, nth, shares_id};
 ghost use Rattle.afs_locstore.specs.Indexed.{another_under, first_under, with_pair, Ascend};
 ghost use Rattle.afs_locstore.specs.Listings.{are_placed, entry_of, get_under, names_without, numbers_with, numbers_without, with_number, CanBeAllPut, CanBePut, HasRoomOf, KeepsRooms, StandByNumber, TakesRoomOfOne};
 

@@ -1,22 +1,22 @@
 //! The database's memory, as its store changes it.
 
 ghost use Rattle.std.specs.Prelude.{◌≡◌};
-ghost use Rattle.afs_records.specs.Changes.{no_head};
-ghost use Rattle.afs_records.specs.LocDurable.{loc_boot_record};
-ghost use Rattle.afs_records.specs.LocRecords.{FitsLocRecord};
-ghost use Rattle.afs_records.specs.Records.{head_form};
+ghost use Rattle.spec_records.specs.Changes.{no_head};
+ghost use Rattle.spec_records.specs.LocDurable.{loc_boot_record};
+ghost use Rattle.spec_records.specs.LocRecords.{FitsLocRecord};
+ghost use Rattle.spec_records.specs.Records.{head_form};
 
 use crate::attaching::take_one;
 use crate::memory::State;
 use crate::ready::Ready;
 use crate::readying::ready;
-use afs_history::lines::Lines;
 use afs_locrecord::types::{Body, LocRecord};
 use afs_num::records::RecordHead;
 use afs_num::sequences::Octets;
 use afs_num::types::{Mem, Node};
 use afs_record::faults;
 use afs_store::{Fold, Store, Unfit};
+use spec_history::lines::Lines;
 use std::alloc::Global;
 use std::marker::Model;
 
@@ -25,7 +25,7 @@ use std::marker::Model;
 pub struct Part;
 
 impl Model for Part {
-    ghost use Rattle.afs_records.specs.LocDurable.{nothing_listed, LocDurable};
+    ghost use Rattle.spec_records.specs.LocDurable.{nothing_listed, LocDurable};
 
     ghost Value = { LocDurable };
 
@@ -42,7 +42,7 @@ pub struct Held {
 pub type LocStore<D> = Store<D, LocRecord, Part, Held>;
 
 /// The head of a record that keeps no reply.
-#[tactic(auto, unfolding(afs_records::specs::Records::head_form))]
+#[tactic(auto, unfolding(spec_records::specs::Records::head_form))]
 pub fn no_head(alloc: Global) -> RecordHead
     ensures value { result ≡ no_head }
     ensures fits { head_form.Fits result }

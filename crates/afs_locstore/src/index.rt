@@ -49,7 +49,7 @@ impl Ordered for u32 {
 
 impl Ordered for Octets {
     ghost use Rattle.std.specs.Str.{bytes_eq};
-    ghost use Rattle.afs_ideal.specs.Directories.{bytes_below};
+    ghost use Rattle.spec_ideal.specs.Directories.{bytes_below};
     ghost use Rattle.afs_locstore.specs.Orders.{names_ordered};
 
     ghost below = { bytes_below };
@@ -58,7 +58,7 @@ impl Ordered for Octets {
 
     ghost ordered = { names_ordered };
 
-    #[tactic(auto, unfolding(afs_ideal::specs::Directories::bytes_below))]
+    #[tactic(auto, unfolding(spec_ideal::specs::Directories::bytes_below))]
     fn is_below(&self, other: &Octets) -> bool {
         self.as_slice().cmp(&other.as_slice()).is_lt()
     }

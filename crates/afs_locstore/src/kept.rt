@@ -2,8 +2,8 @@
 
 ghost use Rattle.std.specs.Prelude.{◌≡◌, ◌≤◌, ◌<◌, [], IfNone, IfSome, None, OnOk, Some, slice_get};
 ghost use Rattle.afs_num.specs.Nodes.{node_number};
-ghost use Rattle.afs_ideal.specs.DirectoryLaws.{IsBytes};
-ghost use Rattle.afs_ideal.specs.Tables.{set, AscendsFrom};
+ghost use Rattle.afs_xdr.specs.Words.{IsBytes};
+ghost use Rattle.spec_ideal.specs.Tables.{set, AscendsFrom};
 ghost use Rattle.afs_locstore.specs.Kept.{AreOfNodes, IsCaller};
 
 use afs_num::sequences::Octets;
@@ -28,7 +28,7 @@ pub struct KeptReplies {
 }
 
 impl Model for KeptReplies {
-    ghost use Rattle.afs_records.specs.Durable.{Kept};
+    ghost use Rattle.spec_records.specs.Durable.{Kept};
     ghost use Rattle.afs_seats.specs.Seated.{seen_as, Seated};
     ghost use Rattle.afs_locstore.specs.Kept.{kept_seen, AreCalled};
 

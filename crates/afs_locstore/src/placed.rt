@@ -1,7 +1,7 @@
 //! Entries that are to be put.
 
 ghost use Rattle.std.specs.Prelude.{◌≡◌, IfOk};
-ghost use Rattle.afs_records.specs.LocRecords.{listed_form};
+ghost use Rattle.spec_records.specs.LocRecords.{listed_form};
 ghost use Rattle.afs_locstore.specs.Listings.{CanBePut};
 
 use afs_locrecord::types::Listed;

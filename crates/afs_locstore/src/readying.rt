@@ -2,7 +2,7 @@
 
 ghost use Rattle.std.specs.Prelude.{◌≡◌, IfOk};
 ghost use Rattle.std.specs.List.{AllByRecursion};
-ghost use Rattle.afs_records.specs.LocRecords.{deed_form, listed_form, loc_record_bytes, row, Database, FitsLocRecord};
+ghost use Rattle.spec_records.specs.LocRecords.{deed_form, listed_form, loc_record_bytes, row, Database, FitsLocRecord};
 ghost use Rattle.afs_locrecord.specs.Bodies.{body_of};
 ghost use Rattle.afs_locstore.specs.Listings.{are_placed, CanBeAllPut};
 ghost use Rattle.afs_locstore.specs.States as states;
@@ -15,7 +15,7 @@ use afs_locrecord::types::{AllListed, Body, Deed, Doing, LocRecord};
 use afs_num::sequences::{Octets, Sequence};
 use afs_num::types::Mem;
 use afs_record::faults::RecordFault;
-use afs_records::laws::loc_records_are_read_again;
+use spec_records::laws::loc_records_are_read_again;
 use std::alloc::{AllocError, Global};
 
 /// These entries, to be put.

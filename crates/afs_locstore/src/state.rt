@@ -2,11 +2,11 @@
 
 ghost use Rattle.std.specs.Prelude.{◌≡◌, ◌<◌, ◌++◌, [], Some, true, is_some, IfOk, IfSome, OnOk};
 ghost use Rattle.std.specs.Option.{option_copied};
-ghost use Rattle.afs_records.specs.LocDurable.{loc_body_taken, loc_with_reply};
-ghost use Rattle.afs_records.specs.LocEffects.{located_by, lock_before, deed_told, lock_told, loc_effect_by, locked_new, set_told, site_before, unlocked_of};
-ghost use Rattle.afs_records.specs.LocRecords.{deed_form, listed_form, row};
+ghost use Rattle.spec_records.specs.LocDurable.{loc_body_taken, loc_with_reply};
+ghost use Rattle.spec_records.specs.LocEffects.{located_lines, lock_before, deed_told, lock_told, loc_effect_by, locked_new, set_told, site_before, unlocked_of};
+ghost use Rattle.spec_records.specs.LocRecords.{deed_form, listed_form, row};
 ghost use Rattle.afs_locrecord.specs.Bodies as records;
-ghost use Rattle.afs_records.specs.Entries.{is_read_write, site_of};
+ghost use Rattle.spec_records.specs.Entries.{is_read_write, site_of};
 ghost use Rattle.afs_locstore.specs.Kept.{IsCaller};
 ghost use Rattle.afs_locstore.specs.declared.ready.Redo as redos;
 ghost use Rattle.afs_locstore.specs.States.{body_of, loc_done, parts_of, record_of, CanPut, HasRoomFor};
@@ -15,11 +15,11 @@ use crate::entries::Entries;
 use crate::kept::KeptReplies;
 use crate::memory::State;
 use crate::ready::Redo;
-use afs_history::lines::{Line, Lines};
 use afs_locrecord::types::{Body, Deed, Doing, Listed, Lock};
 use afs_num::location_calls::{LocEntry, LocSite};
 use afs_num::records::RecordHead;
 use afs_num::types::{Mem, Node};
+use spec_history::lines::{Line, Lines};
 use std::alloc::Global;
 
 /// The boot number of a database whose first record is just being taken.
@@ -96,7 +96,7 @@ fn site_of(entry: &LocEntry) -> Option<u32>
 /// Tells the server of a read-write volume where that is another than before.
 fn tell_located(lines: &mut Lines, volume: u32, before: Option<u32>, after: Option<u32>) -> Mem<()>
     requires { IfSome after (λ server. server < 256) }
-    ensures { OnOk result (lines.new ≡ lines.old ++ located_by volume before after) }
+    ensures { OnOk result (lines.new ≡ lines.old ++ located_lines volume before after) }
 {
     match after {
         Some(server) if before != Some(server) => lines.push(Line::Located {

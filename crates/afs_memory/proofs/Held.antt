@@ -1,16 +1,16 @@
 -- What stands in memory, as what a disk keeps of it.
 use Rattle.std.proofs.Common.{◌≡◌, ℕ, [], ◌∷◌, Bool, true, false, not, zero, suc, Option, Some, None, is_some, refl, sym, ap, ◌∙◌, nat_eq, nat_lt, subst, slice_get, filter, if◌then◌else◌, Bor, IfSome, IfNone, arith}
 use Rattle.std.proofs.lemmas.Bool.Decides.{nat_tests}
-use Rattle.afs_ideal.specs.Tables.{set, Table}
+use Rattle.spec_ideal.specs.Tables.{set, Table}
 use Rattle.afs_seats.specs.Seated.{seen_as}
 use Rattle.afs_seats.proofs.Places.{filter_seen, set_seen}
 use Rattle.afs_num.specs.Nodes.{node_number, node_of}
 use Rattle.afs_num.specs.declared.types.Node.{Node}
 use Rattle.afs_num.specs.declared.records.RecordHead.{RecordHead}
 use Rattle.afs_num.specs.declared.records.StoreRecord.{StoreRecord}
-use Rattle.afs_shape.specs.Taking.{◌>>=◌}
-use Rattle.afs_records.specs.Records.{caller_number, caller_of, head_form, FitsRecord}
-use Rattle.afs_records.specs.Durable.{Durable, Kept, booted, is_flagged, kept_by, noted, with_reply}
+use Rattle.spec_shape.specs.Taking.{◌>>=◌}
+use Rattle.spec_records.specs.Records.{caller_number, caller_numbered, head_form, FitsRecord}
+use Rattle.spec_records.specs.Durable.{Durable, Kept, booted, is_flagged, kept_by, noted, with_reply}
 use Rattle.afs_memory.specs.declared.memory.KeptReply.{KeptReply}
 use Rattle.afs_memory.specs.Called.{AreBytes, AreCalled, AreKnown, IsCalled, IsCaller}
 use Rattle.afs_shelves.specs.Shelving.{shelved}
@@ -61,7 +61,7 @@ known_by n true o e = absurd cc
 known_by n false None e = absurd cc
 known_by n false (Some m) e = refl
 
-is_caller : (c : Option Node) → caller_of (caller_number c) ≡ Some c → IsCaller c
+is_caller : (c : Option Node) → caller_numbered (caller_number c) ≡ Some c → IsCaller c
 is_caller None e = tt
 is_caller (Some n) e = known_by n (nat_eq (node_number n) 0) (node_of (node_number n)) e
 

@@ -7,12 +7,12 @@ use Rattle.std.proofs.lemmas.Bool.Decides.{nat_tests}
 use Rattle.std.proofs.lemmas.List.{length-map}
 use Rattle.afs_num.specs.declared.vnodes.Vnode as image
 use Rattle.afs_num.specs.declared.volumes.Change.{Change}
-use Rattle.afs_shape.specs.Taking.{◌>>=◌}
-use Rattle.afs_ideal.specs.Images.{value_of}
-use Rattle.afs_ideal.specs.Volumes.{Vnode}
-use Rattle.afs_ideal.specs.Tables.{Table, get, set, unset, AscendsFrom}
-use Rattle.afs_ideal.proofs.Tables.{get_below, get_set, get_unset}
-use Rattle.afs_records.specs.Durable.{Durable, Stored, changed_stored, is_there, most_volumes, replaced, with_image, with_images, with_volumes}
+use Rattle.spec_shape.specs.Taking.{◌>>=◌}
+use Rattle.spec_ideal.specs.Images.{value_of}
+use Rattle.spec_ideal.specs.Volumes.{Vnode}
+use Rattle.spec_ideal.specs.Tables.{Table, get, set, unset, AscendsFrom}
+use Rattle.spec_ideal.proofs.Tables.{get_below, get_set, get_unset}
+use Rattle.spec_records.specs.Durable.{Durable, Stored, changed_stored, is_there, most_volumes, replaced, with_image, with_images, with_volumes}
 use Rattle.afs_num.specs.declared.records.RecordBody.{RecordBody}
 use Rattle.afs_num.specs.declared.records.RecordBody.TheVariants as bodies
 use Rattle.afs_seats.specs.Seated.{seen_as, Seated}
@@ -25,13 +25,13 @@ use Rattle.afs_shelves.specs.Shelving.{shelved, stored_as}
 use Rattle.afs_shelves.specs.declared.shelf.Shelf.{Shelf}
 use Rattle.afs_shelves.proofs.Found.{mapped_is}
 use Rattle.afs_shelves.proofs.Renewed.{as_new, changed_new}
-use Rattle.afs_fold.specs.Deeds.{can_take, done_by}
-use Rattle.afs_fold.specs.Fold.{body_taken}
+use Rattle.spec_fold.specs.Deeds.{can_take, done_by}
+use Rattle.spec_fold.specs.Fold.{body_taken}
 use Rattle.afs_shelves.specs.Deeds.{deed_body, SuitsDeed}
 use Rattle.afs_shelves.specs.declared.deed.Deed.{Deed}
 use Rattle.afs_shelves.specs.declared.deed.Deed.TheVariants as deeds
 use Rattle.afs_volume.specs.declared.volume.Volume.{Volume}
-use Rattle.afs_ideal.specs.VnodeImage.{FitsImage}
+use Rattle.spec_ideal.specs.VnodeImage.{FitsImage}
 use Rattle.afs_memory.specs.Redoing.{holding, laid, AreKept, AreTooMany, CanChange, IsChanged, IsRefused, KeepsChanges, KeepsVolumes}
 use Rattle.afs_memory.specs.Redos.{told, IsMadeAgain}
 use Rattle.afs_memory.specs.States.{HasRoomIn}

@@ -3,17 +3,17 @@ use Rattle.std.proofs.Common.{◌≡◌, ℕ, zero, suc, ◌+◌, ◌≤◌, tru
 use Rattle.std.specs.List.{AllByRecursion}
 use Rattle.std.specs.Option.{option_map}
 use Rattle.std.proofs.lemmas.List.{length-map}
-use Rattle.afs_history.specs.declared.lines.Line.{Line}
-use Rattle.afs_history.specs.declared.lines.Line.TheVariants as lines
+use Rattle.spec_history.specs.declared.lines.Line.{Line}
+use Rattle.spec_history.specs.declared.lines.Line.TheVariants as lines
 use Rattle.afs_num.specs.declared.histories.Version.{Version}
 use Rattle.afs_num.specs.declared.types.Key.{Key}
 use Rattle.afs_num.specs.declared.types.Node.{Node}
 use Rattle.afs_num.specs.declared.vnodes.Vnode as image
-use Rattle.afs_ideal.specs.Images.{value_of}
-use Rattle.afs_ideal.specs.Operations.{last_count}
-use Rattle.afs_ideal.specs.Tables.{Table, get, set}
-use Rattle.afs_ideal.specs.Volumes.{Vnode, Volume, gone_at}
-use Rattle.afs_records.specs.Durable.{change_lines, gone_versions, outcome_versions, with_outcomes, with_removed}
+use Rattle.spec_ideal.specs.Images.{value_of}
+use Rattle.spec_ideal.specs.Operations.{last_count}
+use Rattle.spec_ideal.specs.Tables.{Table, get, set}
+use Rattle.spec_ideal.specs.Volumes.{Vnode, Volume, gone_at}
+use Rattle.spec_records.specs.Durable.{change_lines, gone_versions, outcome_versions, with_outcomes, with_removed}
 use Rattle.afs_seats.proofs.Places.{get_seen, set_seen}
 use Rattle.afs_volume.specs.Seen.{all_seen, kind_seen, seen, IsReadable}
 use Rattle.afs_volume.proofs.Folded.{value_seen}

@@ -1,17 +1,13 @@
 -- Kept replies in memory, by the numbers of their callers.
-use Rattle.std.specs.Prelude.{◌≡◌, ◌<◌, ℕ, List, [], ◌∷◌, ⊤, Bool, true, Option, Some, None, is_some, slice_index}
+use Rattle.std.specs.Prelude.{◌≡◌, ℕ, List, [], ◌∷◌, ⊤, true, Option, Some, None, slice_index}
 use Rattle.std.specs.Coded.{×_prop, Π_prop, Unit-prop, le_prop, Coded-set, coded_ℕ, coded_bool}
 use Rattle.std.specs.List.{AllByRecursion}
-use Rattle.afs_num.specs.Nodes.{node_number, node_of}
+use Rattle.afs_num.specs.Nodes.{node_number, is_known}
 use Rattle.afs_num.specs.declared.types.Node.{Node}
-use Rattle.afs_ideal.specs.DirectoryLaws.{IsBytes}
-use Rattle.afs_ideal.specs.Tables.{Table}
-use Rattle.afs_records.specs.Durable.{Kept}
+use Rattle.afs_xdr.specs.Words.{IsBytes}
+use Rattle.spec_ideal.specs.Tables.{Table}
+use Rattle.spec_records.specs.Durable.{Kept}
 use Rattle.afs_memory.specs.declared.memory.KeptReply.{KeptReply}
-
--- the number is a node's
-abbrev pub is_known : ℕ → Bool
-is_known n = is_some (node_of n)
 
 -- a reply stands by the number of its caller, which is a node's; and it is bytes
 abbrev pub IsCalled : ℕ × KeptReply → Type 0

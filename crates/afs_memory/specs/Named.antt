@@ -7,8 +7,8 @@ use Rattle.afs_num.specs.declared.records.RecordBody.TheVariants as bodies
 use Rattle.afs_volume.specs.Listed.{listed_as}
 use Rattle.afs_volume.specs.Seen.{IsReadable}
 use Rattle.afs_volume.specs.declared.volume.Volume.{Volume}
-use Rattle.afs_records.specs.Durable.{Durable}
-use Rattle.afs_fold.specs.Deeds.{can_take}
+use Rattle.spec_records.specs.Durable.{Durable}
+use Rattle.spec_fold.specs.Deeds.{can_take}
 use Rattle.afs_shelves.specs.Deeds.{IsRestoredIn}
 
 -- a change is told, whose vnodes can be read, and these are their names

@@ -1,6 +1,6 @@
 -- Volumes in memory, by their own numbers.
 use Rattle.std.specs.Prelude.{ℕ}
-use Rattle.afs_ideal.specs.Tables.{Table}
+use Rattle.spec_ideal.specs.Tables.{Table}
 use Rattle.afs_shelves.specs.Numbered.{AreNumberedBy}
 use Rattle.afs_volume.specs.declared.volume.Volume.{Volume}
 

@@ -2,11 +2,11 @@
 use Rattle.std.specs.Prelude.{◌≡◌, ◌≤◌, ℕ, List, Bool, false, length, map, nat_lt, Some, None}
 use Rattle.std.specs.List.{AllByRecursion}
 use Rattle.afs_num.specs.declared.volumes.Change.{Change}
-use Rattle.afs_ideal.specs.Tables.{Table, get, set}
-use Rattle.afs_ideal.specs.VnodeImage.{FitsImage}
+use Rattle.spec_ideal.specs.Tables.{Table, get, set}
+use Rattle.spec_ideal.specs.VnodeImage.{FitsImage}
 use Rattle.afs_volume.specs.Taking.{stored_of, CanTakeIn, HasRoom}
 use Rattle.afs_volume.specs.declared.volume.Volume.{Volume}
-use Rattle.afs_records.specs.Durable.{Durable, changed_stored, most_volumes, with_volumes}
+use Rattle.spec_records.specs.Durable.{Durable, changed_stored, most_volumes, with_volumes}
 use Rattle.afs_seats.specs.Seated.{seen_as, Seated}
 use Rattle.afs_shelves.specs.Shelving.{shelved}
 use Rattle.afs_shelves.specs.declared.shelf.Shelf.{Shelf}

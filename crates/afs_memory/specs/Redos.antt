@@ -10,8 +10,8 @@ use Rattle.afs_num.specs.declared.records.StoreRecord.{StoreRecord}
 use Rattle.afs_volume.specs.Seen.{IsReadable}
 use Rattle.afs_volume.specs.Taking.{stored_of}
 use Rattle.afs_volume.specs.declared.volume.Volume.{Volume}
-use Rattle.afs_records.specs.Durable as durable
-use Rattle.afs_records.specs.Durable.{Durable}
+use Rattle.spec_records.specs.Durable as durable
+use Rattle.spec_records.specs.Durable.{Durable}
 use Rattle.afs_shelves.specs.Deeds.{deed_body, SuitsDeed}
 use Rattle.afs_memory.specs.declared.redo.Redo.{Redo}
 use Rattle.afs_memory.specs.declared.redo.Redo.TheVariants as redos

@@ -3,9 +3,9 @@ use Rattle.std.specs.Prelude.{◌≡◌, ◌<◌, ◌≤◌, ℕ, List, length, 
 use Rattle.afs_num.specs.Nodes.{node_number}
 use Rattle.afs_num.specs.declared.types.Node.{Node}
 use Rattle.afs_num.specs.declared.volumes.Change.{Change}
-use Rattle.afs_ideal.specs.Tables.{Table, get, set}
+use Rattle.spec_ideal.specs.Tables.{Table, get, set}
 use Rattle.afs_volume.specs.Taking as taking
-use Rattle.afs_records.specs.Durable.{Durable, Kept}
+use Rattle.spec_records.specs.Durable.{Durable, Kept}
 use Rattle.afs_seats.specs.Seated.{seen_as}
 use Rattle.afs_shelves.specs.Shelving.{shelved, HasSeats}
 use Rattle.afs_shelves.specs.declared.shelf.Shelf.{Shelf}
@@ -38,8 +38,8 @@ abbrev pub parts_of : State → Durable
 parts_of s = parts_seen s.boot s.shelves.volumes.table s.shelves.forwardings.table s.stamps.table s.kept.table
 
 -- on a disk of this capacity, with a journal of this length
-abbrev pub placed : ℕ → ℕ → Durable → Durable
-placed journal capacity d = record d { journal = journal; capacity = capacity }
+abbrev pub on_disk : ℕ → ℕ → Durable → Durable
+on_disk journal capacity d = record d { journal = journal; capacity = capacity }
 
 -- there is room for a change in the volume of this number, if there is one
 abbrev pub HasRoomIn : Table Shelf → ℕ → Change → Type 0

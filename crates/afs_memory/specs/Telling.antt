@@ -1,10 +1,10 @@
 -- The lines of a change in words.
 use Rattle.std.specs.Prelude.{ℕ, List, [], ◌∷◌, Option, Some, None, map, slice_get}
 use Rattle.afs_num.specs.declared.histories.Version.{Version}
-use Rattle.afs_ideal.specs.Images.{Image, value_of}
-use Rattle.afs_ideal.specs.Tables.{Table, get}
-use Rattle.afs_ideal.specs.Volumes.{Vnode, Volume, version_at}
-use Rattle.afs_records.specs.Durable.{gone_versions}
+use Rattle.spec_ideal.specs.Images.{Image, value_of}
+use Rattle.spec_ideal.specs.Tables.{Table, get}
+use Rattle.spec_ideal.specs.Volumes.{Vnode, Volume, version_at}
+use Rattle.spec_records.specs.Durable.{gone_versions}
 pub use Rattle.afs_shelves.specs.Words.{version_within, in_words}
 
 -- ---- what becomes of each vnode, by the place of its image

@@ -4,11 +4,11 @@ ghost use Rattle.std.specs.Prelude.{◌≡◌, ◌++◌, ◌∷◌, ◌+◌, Lis
 ghost use Rattle.std.specs.Option.{option_copied};
 ghost use Rattle.std.specs.List.{AllByRecursion};
 ghost use Rattle.afs_num.specs.declared.vnodes.Vnode as image;
-ghost use Rattle.afs_ideal.specs.Operations.{last_count};
-ghost use Rattle.afs_ideal.specs.Tables.{get};
-ghost use Rattle.afs_ideal.specs.Volumes.{gone_at};
-ghost use Rattle.afs_records.specs.Durable.{key_in, outcome_versions, versions_told, with_outcomes, with_removed};
-ghost use Rattle.afs_fold.specs.Effects.{effect_by, vanished_lines};
+ghost use Rattle.spec_ideal.specs.Operations.{last_count};
+ghost use Rattle.spec_ideal.specs.Tables.{get};
+ghost use Rattle.spec_ideal.specs.Volumes.{gone_at};
+ghost use Rattle.spec_records.specs.Durable.{key_in, outcome_versions, versions_told, with_outcomes, with_removed};
+ghost use Rattle.spec_fold.specs.Effects.{effect_by, vanished_lines};
 ghost use Rattle.afs_volume.specs.Seen.{seen, volume_seen, IsReadable};
 ghost use Rattle.afs_volume.specs.Taking.{stored_of};
 ghost use Rattle.afs_memory.specs.Redos.{body_of, IsNoChange, IsReady, Suits};
@@ -18,7 +18,6 @@ ghost use Rattle.afs_memory.specs.Telling.{in_words, outcome_at, outcomes_seen, 
 
 use crate::memory::State;
 use crate::redo::Redo;
-use afs_history::lines::{Line, Lines};
 use afs_num::histories::{Body, Version, Versions};
 use afs_num::records::RecordHead;
 use afs_num::types::{Fid, Key, Mem, Node};
@@ -27,6 +26,7 @@ use afs_num::volumes::Change;
 use afs_seats::Seats;
 use afs_shelves::telling::version;
 use afs_volume::Volume;
+use spec_history::lines::{Line, Lines};
 use std::alloc::Global;
 
 /// The image in a place.

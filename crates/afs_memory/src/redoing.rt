@@ -3,9 +3,9 @@
 ghost use Rattle.std.specs.Prelude.{◌≡◌, ◌≤◌, ◌<◌, ◌+◌, None, Some, true, false, is_some, length, map, nat_lt, IsSome, OnErr, OnOk};
 ghost use Rattle.std.specs.List.{AllByRecursion};
 ghost use Rattle.std.specs.Option.{option_map};
-ghost use Rattle.afs_ideal.specs.Tables.{get, set};
-ghost use Rattle.afs_records.specs.Durable.{changed_stored, most_volumes, noted};
-ghost use Rattle.afs_fold.specs.Fold.{body_taken};
+ghost use Rattle.spec_ideal.specs.Tables.{get, set};
+ghost use Rattle.spec_records.specs.Durable.{changed_stored, most_volumes, noted};
+ghost use Rattle.spec_fold.specs.Fold.{body_taken};
 ghost use Rattle.afs_seats.specs.Seated.{seen_as};
 ghost use Rattle.afs_volume.specs.Taking.{stored_of, CanTakeIn, HasRoom};
 ghost use Rattle.afs_memory.specs.Called.{IsCaller};

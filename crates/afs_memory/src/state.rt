@@ -3,9 +3,9 @@
 ghost use Rattle.std.specs.Prelude.{◌≡◌, ◌≤◌, ◌<◌, None, Some, [], IfSome, IfNone, OnOk, nat_eq, slice_get, if◌then◌else◌};
 ghost use Rattle.std.specs.Option.{option_map};
 ghost use Rattle.afs_num.specs.Nodes.{node_number};
-ghost use Rattle.afs_ideal.specs.DirectoryLaws.{IsBytes};
-ghost use Rattle.afs_ideal.specs.Tables.{get, set, AscendsFrom};
-ghost use Rattle.afs_records.specs.Durable.{booted, noted, or_zero};
+ghost use Rattle.afs_xdr.specs.Words.{IsBytes};
+ghost use Rattle.spec_ideal.specs.Tables.{get, set, AscendsFrom};
+ghost use Rattle.spec_records.specs.Durable.{booted, noted, or_zero};
 ghost use Rattle.afs_shelves.specs.Shelving.{is_new_in, shelved, stored_as};
 ghost use Rattle.afs_memory.specs.Called.{AreBytes, AreKnown, IsCaller};
 ghost use Rattle.afs_memory.specs.States.{kept_in, kept_seen, parts_of};

@@ -5,16 +5,16 @@ use Rattle.std.specs.Option.{option_map}
 use Rattle.std.specs.Result.{IsErrAnd}
 use Rattle.std.proofs.lemmas.Result.{err_from_is_err_and}
 use Rattle.std.proofs.lemmas.Bool.{eqb-true, eqb-false, eq-eqb, ne_eqb}
-use Rattle.afs_shape.specs.declared.faults.ShapeFault.{ShapeFault}
-use Rattle.afs_shape.specs.declared.faults.ShapeFault.TheVariants as faults
-use Rattle.afs_shape.specs.declared.kinds.Kind.{Kind}
-use Rattle.afs_shape.specs.declared.kinds.Field.{Field}
-use Rattle.afs_shape.specs.Tables.{kinds_in}
-use Rattle.afs_shape.specs.Rows.{MessageTable, table_rows, made_in, message_of, in_interface}
-use Rattle.afs_shape.specs.Bodies.{found_row, row_at}
-use Rattle.afs_shape.specs.Reading.{◌>>=◌, fields_to_end_at}
-use Rattle.afs_shape.specs.Taken.{row_fields_at, TakesRead}
-use Rattle.afs_shape.proofs.BodyLaws.{row_ok, row_again}
+use Rattle.spec_shape.specs.declared.faults.ShapeFault.{ShapeFault}
+use Rattle.spec_shape.specs.declared.faults.ShapeFault.TheVariants as faults
+use Rattle.spec_shape.specs.declared.kinds.Kind.{Kind}
+use Rattle.spec_shape.specs.declared.kinds.Field.{Field}
+use Rattle.spec_shape.specs.Tables.{kinds_in}
+use Rattle.spec_shape.specs.Rows.{MessageTable, table_rows, made_in, message_of, in_interface}
+use Rattle.spec_shape.specs.Bodies.{found_row, row_at}
+use Rattle.spec_shape.specs.Reading.{◌>>=◌, fields_to_end_at}
+use Rattle.spec_shape.specs.Taken.{row_fields_at, TakesRead}
+use Rattle.spec_shape.proofs.BodyLaws.{row_ok, row_again}
 
 abbrev Rows : Type 0
 Rows = List (ℕ × List Kind)

@@ -2,9 +2,9 @@
 use Rattle.std.proofs.Common.{◌≡◌, ℕ, Bool, true, false, List, Option, None, refl, sym, ◌∙◌}
 use Rattle.afs_num.specs.declared.messages.Received.{Received}
 use Rattle.afs_num.specs.declared.messages.Received.TheVariants.{Whole}
-use Rattle.afs_model.specs.Messages.{received}
-use Rattle.afs_shape.proofs.Codecs.{IsBytes}
-use Rattle.afs_model.proofs.Spellings.{read_spelled}
+use Rattle.spec_model.specs.Messages.{received}
+use Rattle.spec_shape.proofs.Codecs.{IsBytes}
+use Rattle.spec_model.proofs.Spellings.{read_spelled}
 use Rattle.afs_message.specs.Spelled.{is_whole, message_in, IsSpelling}
 
 spelling_by : (bytes : List ℕ) (r : Received) → IsBytes bytes → received bytes ≡ r → is_whole r ≡ true → IsSpelling bytes

@@ -6,7 +6,7 @@ use Rattle.afs_num.specs.declared.types.Parcel.{Parcel}
 use Rattle.afs_num.specs.declared.messages.Message.{Message}
 use Rattle.afs_num.specs.declared.messages.Received.{Received}
 use Rattle.afs_num.specs.declared.messages.Received.TheVariants.{Whole}
-use Rattle.afs_model.specs.Messages.{messages_spelled, parcels_read, received, spelled}
+use Rattle.spec_model.specs.Messages.{messages_spelled, parcels_read, received, spelled}
 use Rattle.afs_message.specs.Spelled.{message_read, IsMessage}
 use Rattle.afs_message.specs.Sending.{parcel_message, AreMessages}
 

@@ -2,7 +2,7 @@
 use Rattle.std.specs.Prelude.{List, [], ◌∷◌}
 use Rattle.afs_num.specs.declared.messages.Message.{Message}
 use Rattle.afs_num.specs.declared.types.Parcel.{Parcel}
-use Rattle.afs_model.specs.Messages.{received}
+use Rattle.spec_model.specs.Messages.{received}
 use Rattle.afs_message.specs.Spelled.{message_read, IsMessage}
 
 -- the message that its bytes spell

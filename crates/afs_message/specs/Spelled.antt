@@ -5,8 +5,8 @@ use Rattle.afs_num.specs.declared.messages.Carried.TheVariants.{Notice}
 use Rattle.afs_num.specs.declared.messages.Received.{Received}
 use Rattle.afs_num.specs.declared.messages.Received.TheVariants.{Whole}
 use Rattle.afs_num.specs.declared.types.Head.{Head}
-use Rattle.afs_model.specs.Messages as messages
-use Rattle.afs_model.specs.Messages.{received}
+use Rattle.spec_model.specs.Messages as messages
+use Rattle.spec_model.specs.Messages.{received}
 
 -- the bytes are the spelling of this message, and are read as it
 pub record Spells (m : Message) (bytes : List ℕ) : Type 0 where

@@ -1,18 +1,18 @@
 //! The calls and the replies of all three interfaces, each by the table of its own. No two interfaces share an opcode.
 
-ghost use Rattle.afs_model.specs.CellRows.{cell_calls, cell_replies};
-ghost use Rattle.afs_model.proofs.CellMade.{calls_sound, replies_sound};
+ghost use Rattle.spec_model.specs.CellRows.{cell_calls, cell_replies};
+ghost use Rattle.spec_model.proofs.CellMade.{calls_sound, replies_sound};
 
 use afs_fields::messages::Messages;
 use afs_fields::tables::Shape;
 use afs_fsrpc::tables::{FsCalls, FsReplies};
 use afs_num::messages::{Call, Reply};
 use afs_num::types::Mem;
-use afs_shape::faults::ShapeFault;
 use afs_vlrpc::tables::{LocCalls, LocReplies};
 use afs_volrpc::tables::{VolCalls, VolReplies};
 use afs_xdr::reading::Reader;
 use afs_xdr::writing::Writer;
+use spec_shape::faults::ShapeFault;
 use std::alloc::Global;
 
 /// The calls of the cell.

@@ -3,11 +3,11 @@
 ghost use Rattle.std.specs.Prelude.{◌≡◌, [], IfOk, OnOk};
 ghost use Rattle.afs_num.specs.declared.messages.Received.TheVariants.{Whole};
 ghost use Rattle.afs_xdr.specs.Words.{AreWords};
-ghost use Rattle.afs_shape.specs.Reading.{fields_to_end_at};
-ghost use Rattle.afs_model.specs.Heads.{head_words};
-ghost use Rattle.afs_model.specs.Rpc.{replied_at};
-ghost use Rattle.afs_model.specs.CellRows.{cell_calls, cell_replies};
-ghost use Rattle.afs_model.specs.Messages.{called_at, received_reply, received_notice, read_body, received_by, received, spelled, IsSoundReceived, HasSpelling, FitsMessage};
+ghost use Rattle.spec_shape.specs.Reading.{fields_to_end_at};
+ghost use Rattle.spec_model.specs.Heads.{head_words};
+ghost use Rattle.spec_model.specs.Rpc.{replied_at};
+ghost use Rattle.spec_model.specs.CellRows.{cell_calls, cell_replies};
+ghost use Rattle.spec_model.specs.Messages.{called_at, received_reply, received_notice, read_body, received_by, received, spelled, IsSoundReceived, HasSpelling, FitsMessage};
 
 use crate::cell::{CellCalls, CellReplies};
 use afs_num::messages::{Carried, Message, Received};
@@ -16,9 +16,9 @@ use afs_num::types::{Code, Half, Head, Mem};
 use afs_rpc::calls::{read_asked, spell_call};
 use afs_rpc::heads::{head_of, write_head};
 use afs_rpc::replies::{no_fields, read_replied, spell_reply};
-use afs_shape::faults::ShapeFault;
 use afs_xdr::reading::Reader;
 use afs_xdr::writing::Writer;
+use spec_shape::faults::ShapeFault;
 use std::alloc::{AllocError, Global};
 
 fn whole(head: Head, carried: Carried) -> Received
@@ -77,7 +77,7 @@ fn receive_body(alloc: Global, served: &[u32], r: &mut Reader, head: Head) -> Me
 }
 
 /// What is read in these bytes.
-#[tactic(auto, unfolding(afs_model::specs::Messages::received_by))]
+#[tactic(auto, unfolding(spec_model::specs::Messages::received_by))]
 fn receive(alloc: Global, served: &[u32], bytes: &[u8]) -> Mem<Received>
     ensures { IfOk result (λ x. x ≡ received_by served.now bytes.now) }
 {
@@ -98,7 +98,7 @@ pub fn read_message(alloc: Global, served: &[u32], bytes: &[u8]) -> Mem<Received
 }
 
 /// A boot notice: its header alone.
-#[tactic(auto, unfolding(afs_model::specs::Messages::spelled))]
+#[tactic(auto, unfolding(spec_model::specs::Messages::spelled))]
 fn encode_notice(alloc: Global, head: &Head) -> Mem<Octets>
     ensures spelled { IfOk result (λ bytes. bytes ≡ spelled (record { head = head.now; carried = Carried.Notice })) }
     ensures fits { AreWords (head_words head.now) }
@@ -109,7 +109,7 @@ fn encode_notice(alloc: Global, head: &Head) -> Mem<Octets>
     Octets::from_vec(bytes)
 }
 
-#[tactic(auto, unfolding(afs_model::specs::Messages::spelled))]
+#[tactic(auto, unfolding(spec_model::specs::Messages::spelled))]
 fn encode(alloc: Global, message: &Message) -> Mem<Octets>
     requires { HasSpelling message.now }
     ensures spelled { IfOk result (λ bytes. bytes ≡ spelled message.now) }

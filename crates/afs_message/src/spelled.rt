@@ -1,7 +1,7 @@
 //! Messages in their spelling.
 
 ghost use Rattle.std.specs.Prelude.{◌≡◌, ◌∷◌, ◌++◌, [], Some, IfOk, OnErr, OnOk};
-ghost use Rattle.afs_model.specs.Messages.{messages_spelled, parcels_read, received, HasSpelling};
+ghost use Rattle.spec_model.specs.Messages.{messages_spelled, parcels_read, received, HasSpelling};
 ghost use Rattle.afs_message.specs.Spelled.{message_read, reply_in, IsMessage, IsSpelling, Spells};
 
 use crate::messages::encode_message;
@@ -21,7 +21,7 @@ pub struct SpelledMessage {
 
 impl Model for SpelledMessage {
     ghost use Rattle.afs_num.specs.declared.messages.Message.{Message};
-    ghost use Rattle.afs_model.specs.Messages.{received, HasSpelling};
+    ghost use Rattle.spec_model.specs.Messages.{received, HasSpelling};
     ghost use Rattle.afs_message.specs.Spelled.{message_read, IsMessage};
 
     ghost Value = { Message };

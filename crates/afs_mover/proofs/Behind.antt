@@ -1,17 +1,17 @@
 -- Steps behind lines that were told before.
 use Rattle.std.proofs.Common.{◌≡◌, ◌+◌, ℕ, List, [], ◌∷◌, ◌++◌, Option, Some, None, Result, Ok, Err, ap, append_assoc, length, refl, subst, sym, ◌∙◌}
 use Rattle.std.specs.declared.alloc.AllocError.{AllocError}
-use Rattle.afs_history.specs.declared.lines.Line.{Line}
-use Rattle.afs_history.specs.declared.lines.Line.TheVariants as lines
-use Rattle.afs_history.specs.declared.lines.Outs.{Outs}
-use Rattle.afs_history.specs.declared.scripts.AdminAct.{AdminAct}
-use Rattle.afs_model.specs.Messages.{messages_spelled, parcels_read}
-use Rattle.afs_model.specs.Steps.{NodeState}
-use Rattle.afs_rows.specs.Steps.{Step}
-use Rattle.afs_adminrows.specs.AdminRow.{AdminState, ask_message, ask_of, asking, asks_step, ends_step, running_at, turned, with_dump}
-use Rattle.afs_adminrows.specs.declared.places.Place.{Place}
-use Rattle.afs_adminrows.specs.declared.turns.Running.{Running}
-use Rattle.afs_adminrows.specs.declared.turns.Turn.TheVariants as turns
+use Rattle.spec_history.specs.declared.lines.Line.{Line}
+use Rattle.spec_history.specs.declared.lines.Line.TheVariants as lines
+use Rattle.spec_history.specs.declared.lines.Outs.{Outs}
+use Rattle.spec_history.specs.declared.scripts.AdminAct.{AdminAct}
+use Rattle.spec_model.specs.Messages.{messages_spelled, parcels_read}
+use Rattle.spec_model.specs.Steps.{NodeState}
+use Rattle.spec_rows.specs.Steps.{Step}
+use Rattle.spec_adminrows.specs.AdminRow.{AdminState, ask_message, ask_of, asking, asks_step, ends_step, running_at, turned, with_dump}
+use Rattle.spec_adminrows.specs.declared.places.Place.{Place}
+use Rattle.spec_adminrows.specs.declared.turns.Running.{Running}
+use Rattle.spec_adminrows.specs.declared.turns.Turn.TheVariants as turns
 use Rattle.afs_calling.specs.Stepping.{Answers, Makes, Takes}
 use Rattle.afs_mover.specs.Steps.{Behind, by_act, rests}
 

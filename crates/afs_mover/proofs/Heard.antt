@@ -1,8 +1,8 @@
 -- What answers the unanswered call.
 use Rattle.std.proofs.Common.{◌≡◌, ℕ, Bool, true, false, cond, ◌&&◌, List, [], ◌∷◌, Option, Some, None, Result, ap, refl, sym, ◌∙◌}
-use Rattle.afs_history.specs.declared.lines.Line.{Line}
-use Rattle.afs_history.specs.declared.lines.Line.TheVariants as lines
-use Rattle.afs_history.specs.declared.lines.Outs.{Outs}
+use Rattle.spec_history.specs.declared.lines.Line.{Line}
+use Rattle.spec_history.specs.declared.lines.Line.TheVariants as lines
+use Rattle.spec_history.specs.declared.lines.Outs.{Outs}
 use Rattle.afs_num.specs.Nodes.{same_node}
 use Rattle.afs_num.specs.declared.messages.Carried.{Carried}
 use Rattle.afs_num.specs.declared.messages.Carried.TheVariants as carried
@@ -11,11 +11,11 @@ use Rattle.afs_num.specs.declared.messages.Received.{Received}
 use Rattle.afs_num.specs.declared.messages.Received.TheVariants.{Unserved, Whole}
 use Rattle.afs_num.specs.declared.types.Head.{Head}
 use Rattle.afs_num.specs.declared.types.Node.{Node}
-use Rattle.afs_model.proofs.Basics.{same_node-true}
-use Rattle.afs_model.specs.Steps.{NodeState}
-use Rattle.afs_rows.specs.Steps.{Step}
-use Rattle.afs_adminrows.specs.AdminRow.{AdminState, admin_row, ask_message, ask_of, awaits, called, gets, hears, is_for, knows, takes_in, told}
-use Rattle.afs_adminrows.specs.declared.turns.Running.{Running}
+use Rattle.spec_model.proofs.Basics.{same_node-true}
+use Rattle.spec_model.specs.Steps.{NodeState}
+use Rattle.spec_rows.specs.Steps.{Step}
+use Rattle.spec_adminrows.specs.AdminRow.{AdminState, admin_row, ask_message, ask_of, awaits, called, gets, hears, is_awaited, knows_boot, takes_in, told}
+use Rattle.spec_adminrows.specs.declared.turns.Running.{Running}
 use Rattle.afs_calling.specs.Stepping.{Takes}
 use Rattle.afs_calling.proofs.Stepping.{takes_same}
 use Rattle.afs_mover.specs.Steps.{awaited_by, Behind, by_act, heard_by}
@@ -26,14 +26,14 @@ first_true true b h = refl
 first_true false b h = absurd cc
 
 -- it comes from the callee
-from_callee : (a : AdminState) (r : Running) (head : Head) → is_for a head (ask_of a r) ≡ true → (ask_of a r).callee ≡ head.from
+from_callee : (a : AdminState) (r : Running) (head : Head) → is_awaited a head (ask_of a r) ≡ true → (ask_of a r).callee ≡ head.from
 from_callee a r head h = sym (same_node-true head.from (ask_of a r).callee (first_true _ _ h))
 
 boot_as : (me : Node) (a : AdminState) (r : Running) (place boot : ℕ) (callee : Node) → callee ≡ (ask_of a r).callee
-    → told (knows a (ask_of a r).callee boot) place (ask_message me (knows a (ask_of a r).callee boot) (ask_of a r) ∷ []) ≡ told (knows a callee boot) place (ask_message me (knows a callee boot) (ask_of a r) ∷ [])
-boot_as me a r place boot callee same = ap (λ (n : Node). told (knows a n boot) place (ask_message me (knows a n boot) (ask_of a r) ∷ [])) (sym same)
+    → told (knows_boot a (ask_of a r).callee boot) place (ask_message me (knows_boot a (ask_of a r).callee boot) (ask_of a r) ∷ []) ≡ told (knows_boot a callee boot) place (ask_message me (knows_boot a callee boot) (ask_of a r) ∷ [])
+boot_as me a r place boot callee same = ap (λ (n : Node). told (knows_boot a n boot) place (ask_message me (knows_boot a n boot) (ask_of a r) ∷ [])) (sym same)
 
-hears_as : (me : Node) (a : AdminState) (place : ℕ) (r : Running) (head : Head) (x : Carried) → is_for a head (ask_of a r) ≡ true → heard_by me a head.boot x r (lines.Given place ∷ []) ≡ hears me a place r head x
+hears_as : (me : Node) (a : AdminState) (place : ℕ) (r : Running) (head : Head) (x : Carried) → is_awaited a head (ask_of a r) ≡ true → heard_by me a head.boot x r (lines.Given place ∷ []) ≡ hears me a place r head x
 hears_as me a place r head (carried.Call user call) h = refl
 hears_as me a place r head (carried.Refusal code) h = refl
 hears_as me a place r head (carried.Reply reply) h = refl
@@ -50,11 +50,11 @@ left_if false s t h = refl
 
 awaited_as : (me : Node) (a : AdminState) (place : ℕ) (head : Head) (x : Carried) (running : Option Running) → awaited_by a head running ≡ true → by_act a (heard_by me a head.boot x) running (lines.Given place ∷ []) ≡ awaits me a place head x running
 awaited_as me a place head x None h = absurd cc
-awaited_as me a place head x (Some r) h = hears_as me a place r head x h ∙ taken_if (is_for a head (ask_of a r)) (hears me a place r head x) (told a place []) h
+awaited_as me a place head x (Some r) h = hears_as me a place r head x h ∙ taken_if (is_awaited a head (ask_of a r)) (hears me a place r head x) (told a place []) h
 
 unawaited_as : (me : Node) (a : AdminState) (place : ℕ) (head : Head) (x : Carried) (running : Option Running) → awaited_by a head running ≡ false → told a place [] ≡ awaits me a place head x running
 unawaited_as me a place head x None h = refl
-unawaited_as me a place head x (Some r) h = left_if (is_for a head (ask_of a r)) (hears me a place r head x) (told a place []) h
+unawaited_as me a place head x (Some r) h = left_if (is_awaited a head (ask_of a r)) (hears me a place r head x) (told a place []) h
 
 pub awaited_taken : {E : Type 0} (head : Head) (x : Carried) (before : List Line) (old new : NodeState AdminState) (result : Result Outs E)
     → awaited_by old.state head old.state.running ≡ true → before ≡ [] → Behind (by_act old.state (heard_by old.node old.state head.boot x) old.state.running) before old new result

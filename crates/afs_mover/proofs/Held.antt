@@ -2,8 +2,8 @@
 use Rattle.std.proofs.Common.{◌≡◌, ◌≤◌, ◌+◌, ℕ, Bool, true, false, cond, List, [], ◌∷◌, ◌++◌, Option, Some, None, ap, filter, find, length, subst, sym, ◌∙◌, arith}
 use Rattle.std.specs.Option.{option_map}
 use Rattle.afs_adminparts.specs.Fitting.{FitDumps, FitsDump, FitsDumpIfAny}
-use Rattle.afs_adminrows.specs.AdminRow.{dump_held, has_label, has_other_label}
-use Rattle.afs_adminrows.specs.declared.turns.HeldDump.{HeldDump}
+use Rattle.spec_adminrows.specs.AdminRow.{dump_held, has_label, has_other_label}
+use Rattle.spec_adminrows.specs.declared.turns.HeldDump.{HeldDump}
 
 kept_if : (b : Bool) (d dump : HeldDump) (rest : List HeldDump) → FitsDump d.bytes → FitDumps (rest ++ dump ∷ []) → FitDumps (cond b (d ∷ rest) rest ++ dump ∷ [])
 kept_if true d dump rest h k = (h, k)

@@ -1,9 +1,9 @@
 -- What a step of an administrator leaves: how many servers it knows of and its epoch stay; and it draws one number at most.
 use Rattle.std.proofs.Common.{◌≡◌, ◌≤◌, ◌+◌, ℕ, Bool, true, false, cond, List, [], Option, Some, None, Result, Ok, Err, refl, ap, subst, sym, ◌∙◌, arith}
 use Rattle.std.specs.Prelude.{OnOk}
-use Rattle.afs_history.specs.declared.lines.Line.{Line}
-use Rattle.afs_history.specs.declared.lines.Outs.{Outs}
-use Rattle.afs_history.specs.declared.scripts.AdminAct.{AdminAct}
+use Rattle.spec_history.specs.declared.lines.Line.{Line}
+use Rattle.spec_history.specs.declared.lines.Outs.{Outs}
+use Rattle.spec_history.specs.declared.scripts.AdminAct.{AdminAct}
 use Rattle.afs_num.specs.Nodes.{same_node}
 use Rattle.afs_num.specs.declared.messages.Carried.{Carried}
 use Rattle.afs_num.specs.declared.messages.Carried.TheVariants as carried
@@ -12,16 +12,16 @@ use Rattle.afs_num.specs.declared.messages.Received.{Received}
 use Rattle.afs_num.specs.declared.messages.Received.TheVariants.{Nothing, Unserved, Unreadable, Whole}
 use Rattle.afs_num.specs.declared.types.Head.{Head}
 use Rattle.afs_num.specs.declared.types.Node.{Node}
-use Rattle.afs_model.specs.Calls.{Admitted, admitted, is_sent_again}
-use Rattle.afs_model.specs.Calls as pairs
-use Rattle.afs_model.specs.Steps.{NodeState}
-use Rattle.afs_rows.specs.Steps.{Step}
-use Rattle.afs_adminrows.specs.Acts.{answered, begins_with, refused}
-use Rattle.afs_adminrows.specs.AdminRow.{AdminState, admin_begin_row, admin_row, admin_timeout_row, admits, ask_of, awaits, called, dump_held, errand_of, gets, hears, is_for, label_in, sends_again, takes_in, told, turned}
-use Rattle.afs_adminrows.specs.Turns.{dead}
-use Rattle.afs_adminrows.specs.declared.turns.Running.{Running}
-use Rattle.afs_adminrows.specs.declared.turns.Turn.{Turn}
-use Rattle.afs_adminrows.specs.declared.turns.Turn.TheVariants as turns
+use Rattle.spec_model.specs.Calls.{Admitted, admitted, is_sent_again}
+use Rattle.spec_model.specs.Calls as pairs
+use Rattle.spec_model.specs.Steps.{NodeState}
+use Rattle.spec_rows.specs.Steps.{Step}
+use Rattle.spec_adminrows.specs.Acts.{answered, begins_with, refused}
+use Rattle.spec_adminrows.specs.AdminRow.{AdminState, admin_begin_row, admin_row, admin_timeout_row, admits, ask_of, awaits, called, dump_held, errand_of, gets, hears, is_awaited, label_in, sends_again, takes_in, told, turned}
+use Rattle.spec_adminrows.specs.Turns.{dead}
+use Rattle.spec_adminrows.specs.declared.turns.Running.{Running}
+use Rattle.spec_adminrows.specs.declared.turns.Turn.{Turn}
+use Rattle.spec_adminrows.specs.declared.turns.Turn.TheVariants as turns
 use Rattle.afs_calling.specs.Stepping.{Answers, Takes}
 use Rattle.afs_mover.specs.Steps.{lasting, times_out}
 
@@ -64,7 +64,7 @@ hears_rises me a place r head carried.Notice = (refl, stays a.last)
 
 awaits_rises : (me : Node) (a : AdminState) (place : ℕ) (head : Head) (x : Carried) (running : Option Running) → Rises a (awaits me a place head x running)
 awaits_rises me a place head x None = (refl, stays a.last)
-awaits_rises me a place head x (Some r) = either a (is_for a head (ask_of a r)) (hears me a place r head x) (told a place []) (hears_rises me a place r head x) (refl, stays a.last)
+awaits_rises me a place head x (Some r) = either a (is_awaited a head (ask_of a r)) (hears me a place r head x) (told a place []) (hears_rises me a place r head x) (refl, stays a.last)
 
 gets_rises : (me : Node) (a : AdminState) (place : ℕ) (head : Head) (x : Carried) → Rises a (gets me a place head x)
 gets_rises me a place head (carried.Call user call) = called_rises a place head

@@ -1,23 +1,23 @@
 -- What an act asks goes out; and what answers it turns the act.
 use Rattle.std.proofs.Common.{◌≡◌, ◌+◌, ℕ, List, [], ◌∷◌, ◌++◌, Some, Ok, ap, sym, ◌∙◌}
 use Rattle.std.specs.declared.alloc.AllocError.{AllocError}
-use Rattle.afs_history.specs.declared.lines.Line.{Line}
-use Rattle.afs_history.specs.declared.lines.Line.TheVariants as lines
-use Rattle.afs_history.specs.declared.lines.Outs.{Outs}
-use Rattle.afs_history.specs.declared.scripts.AdminAct.{AdminAct}
+use Rattle.spec_history.specs.declared.lines.Line.{Line}
+use Rattle.spec_history.specs.declared.lines.Line.TheVariants as lines
+use Rattle.spec_history.specs.declared.lines.Outs.{Outs}
+use Rattle.spec_history.specs.declared.scripts.AdminAct.{AdminAct}
 use Rattle.afs_num.specs.declared.messages.Reply.{Reply}
 use Rattle.afs_num.specs.declared.types.Code.{Code}
 use Rattle.afs_num.specs.declared.types.Node.{Node}
 use Rattle.afs_num.specs.declared.types.Parcel.{Parcel}
-use Rattle.afs_model.specs.Messages.{messages_spelled, parcels_read}
-use Rattle.afs_model.specs.Steps.{NodeState}
-use Rattle.afs_rows.specs.ClientRow.{boot_of}
-use Rattle.afs_rows.specs.Steps.{Step}
-use Rattle.afs_adminrows.specs.Acts.{answered, begins_with, refused}
-use Rattle.afs_adminrows.specs.AdminRow.{AdminState, admin_begin_row, ask_message, ask_of, dump_held, errand_of, knows, label_in, turned}
-use Rattle.afs_adminrows.specs.declared.turns.Ask.{Ask}
-use Rattle.afs_adminrows.specs.declared.turns.Running.{Running}
-use Rattle.afs_adminrows.specs.declared.turns.Turn.{Turn}
+use Rattle.spec_model.specs.Messages.{messages_spelled, parcels_read}
+use Rattle.spec_model.specs.Steps.{NodeState}
+use Rattle.spec_rows.specs.ClientRow.{boot_of}
+use Rattle.spec_rows.specs.Steps.{Step}
+use Rattle.spec_adminrows.specs.Acts.{answered, begins_with, refused}
+use Rattle.spec_adminrows.specs.AdminRow.{AdminState, admin_begin_row, ask_message, ask_of, dump_held, errand_of, knows_boot, label_in, turned}
+use Rattle.spec_adminrows.specs.declared.turns.Ask.{Ask}
+use Rattle.spec_adminrows.specs.declared.turns.Running.{Running}
+use Rattle.spec_adminrows.specs.declared.turns.Turn.{Turn}
 use Rattle.afs_calling.proofs.Stepping.{boot_told_is}
 use Rattle.afs_calling.specs.Stepping.{Answers}
 use Rattle.afs_mover.specs.Steps.{Behind, asks_in, lines_late, sends_late, sent_under, turns_answered, turns_refused}
@@ -31,14 +31,14 @@ sent_as me a number boot r q ps asked known sent =
     sent ∙ (ap (λ (b : ℕ). messages_spelled (sent_under me a number b q ∷ [])) known ∙ ap (λ (x : Ask). messages_spelled (ask_message me (record a { last = number }) x ∷ [])) asked)
 
 -- in the boot that its callee told
-pub asked_in : (told : List Line) (boot : ℕ) (r : Running) (q : Ask) (old new : NodeState AdminState) (outs : Outs) → q ≡ ask_of old.state r → new ≡ record old { state = knows old.state q.callee boot } → outs.lines ≡ told
+pub asked_in : (told : List Line) (boot : ℕ) (r : Running) (q : Ask) (old new : NodeState AdminState) (outs : Outs) → q ≡ ask_of old.state r → new ≡ record old { state = knows_boot old.state q.callee boot } → outs.lines ≡ told
     → parcels_read outs.parcels ≡ messages_spelled (sent_under old.node old.state old.state.last boot q ∷ []) → Behind {E = AllocError} (asks_in old.node old.state boot r) told old new (Ok outs)
 asked_in told boot r q old new outs asked noted told_is sent =
-    let state : new.state ≡ knows old.state (ask_of old.state r).callee boot
-    = ap (λ (n : NodeState AdminState). n.state) noted ∙ ap (λ (x : Ask). knows old.state x.callee boot) asked in
-    let all_sent : parcels_read outs.parcels ≡ messages_spelled (ask_message old.node (knows old.state (ask_of old.state r).callee boot) (ask_of old.state r) ∷ [])
+    let state : new.state ≡ knows_boot old.state (ask_of old.state r).callee boot
+    = ap (λ (n : NodeState AdminState). n.state) noted ∙ ap (λ (x : Ask). knows_boot old.state x.callee boot) asked in
+    let all_sent : parcels_read outs.parcels ≡ messages_spelled (ask_message old.node (knows_boot old.state (ask_of old.state r).callee boot) (ask_of old.state r) ∷ [])
     = sent ∙ (ap (λ (b : ℕ). messages_spelled (sent_under old.node old.state old.state.last b q ∷ [])) (sym (boot_told_is q.callee boot old.state.boots))
-    ∙ ap (λ (x : Ask). messages_spelled (ask_message old.node (knows old.state x.callee boot) x ∷ [])) asked) in
+    ∙ ap (λ (x : Ask). messages_spelled (ask_message old.node (knows_boot old.state x.callee boot) x ∷ [])) asked) in
     (ap (λ (n : NodeState AdminState). n.node) noted, λ first. record { state = state; lines = ap (λ (ls : List Line). first ++ ls) told_is; sent = all_sent })
 
 -- once more, at a timeout

@@ -1,14 +1,14 @@
 -- What a call gets.
 use Rattle.std.proofs.Common.{◌≡◌, [], ◌∷◌, Ok, ap, ◌∙◌}
 use Rattle.std.specs.declared.alloc.AllocError.{AllocError}
-use Rattle.afs_history.specs.declared.lines.Outs.{Outs}
+use Rattle.spec_history.specs.declared.lines.Outs.{Outs}
 use Rattle.afs_num.specs.declared.messages.Message.{Message}
 use Rattle.afs_num.specs.declared.types.Head.{Head}
-use Rattle.afs_model.specs.Calls.{call_seated}
-use Rattle.afs_model.specs.Messages.{messages_spelled}
-use Rattle.afs_model.specs.Steps.{NodeState}
-use Rattle.afs_rows.specs.ServerRow.{seat_for}
-use Rattle.afs_adminrows.specs.AdminRow.{AdminState, serves_not, told}
+use Rattle.spec_model.specs.Calls.{call_seated}
+use Rattle.spec_model.specs.Messages.{messages_spelled}
+use Rattle.spec_model.specs.Steps.{NodeState}
+use Rattle.spec_rows.specs.ServerRow.{seat_for}
+use Rattle.spec_adminrows.specs.AdminRow.{AdminState, serves_not, told}
 use Rattle.afs_calling.specs.Stepping.{Takes}
 
 -- the refusal is kept and goes out

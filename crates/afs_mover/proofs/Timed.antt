@@ -1,12 +1,12 @@
 -- What a timeout does, by how many there were.
 use Rattle.std.proofs.Common.{◌≡◌, true, false, Option, Some, None, Result, Ok, Err, refl, subst}
 use Rattle.afs_num.specs.declared.types.Node.{Node}
-use Rattle.afs_history.specs.declared.lines.Outs.{Outs}
-use Rattle.afs_model.specs.Calls.{is_sent_again}
-use Rattle.afs_model.specs.Steps.{NodeState}
-use Rattle.afs_rows.specs.Steps.{Step}
-use Rattle.afs_adminrows.specs.AdminRow.{AdminState, admin_timeout_row, ask_of, sends_again}
-use Rattle.afs_adminrows.specs.declared.turns.Running.{Running}
+use Rattle.spec_history.specs.declared.lines.Outs.{Outs}
+use Rattle.spec_model.specs.Calls.{is_sent_again}
+use Rattle.spec_model.specs.Steps.{NodeState}
+use Rattle.spec_rows.specs.Steps.{Step}
+use Rattle.spec_adminrows.specs.AdminRow.{AdminState, admin_timeout_row, ask_of, sends_again}
+use Rattle.spec_adminrows.specs.declared.turns.Running.{Running}
 use Rattle.afs_calling.specs.Stepping.{Answers, Makes}
 use Rattle.afs_mover.proofs.Heard.{left_if, taken_if}
 use Rattle.afs_mover.specs.Steps.{gives_up, sends_late, times_out}

@@ -1,7 +1,7 @@
 -- What the calls of an administrator promise.
 use Rattle.std.specs.Prelude.{◌≡◌, ◌+◌, ℕ, Bool, false, List, [], ◌∷◌, ◌++◌, Option, Some, None, Result, Ok, Err}
-use Rattle.afs_history.specs.declared.lines.Line.{Line}
-use Rattle.afs_history.specs.declared.lines.Outs.{Outs}
+use Rattle.spec_history.specs.declared.lines.Line.{Line}
+use Rattle.spec_history.specs.declared.lines.Outs.{Outs}
 use Rattle.afs_num.specs.declared.messages.Carried.{Carried}
 use Rattle.afs_num.specs.declared.messages.Carried.TheVariants as carried
 use Rattle.afs_num.specs.declared.messages.Message.{Message}
@@ -11,15 +11,15 @@ use Rattle.afs_num.specs.declared.types.Half.TheVariants as halves
 use Rattle.afs_num.specs.declared.types.Head.{Head}
 use Rattle.afs_num.specs.declared.types.Key.{Key}
 use Rattle.afs_num.specs.declared.types.Node.{Node}
-use Rattle.afs_model.specs.CellRows.{call_number, cell_replies}
-use Rattle.afs_model.specs.Steps.{NodeState}
-use Rattle.afs_rows.specs.Steps.{Step}
-use Rattle.afs_shape.specs.Rows.{IsWithin}
-use Rattle.afs_adminrows.specs.Acts.{answered, refused}
-use Rattle.afs_adminrows.specs.AdminRow.{AdminState, admin_timeout_line, admin_timeout_row, ask_message, ask_of, errand_of, is_for, knows, sends_again, turned}
-use Rattle.afs_adminrows.specs.Turns.{dead}
-use Rattle.afs_adminrows.specs.declared.turns.Ask.{Ask}
-use Rattle.afs_adminrows.specs.declared.turns.Running.{Running}
+use Rattle.spec_model.specs.CellRows.{call_number, cell_replies}
+use Rattle.spec_model.specs.Steps.{NodeState}
+use Rattle.spec_rows.specs.Steps.{Step}
+use Rattle.spec_shape.specs.Rows.{IsWithin}
+use Rattle.spec_adminrows.specs.Acts.{answered, refused}
+use Rattle.spec_adminrows.specs.AdminRow.{AdminState, admin_timeout_line, admin_timeout_row, ask_message, ask_of, errand_of, is_awaited, knows_boot, sends_again, turned}
+use Rattle.spec_adminrows.specs.Turns.{dead}
+use Rattle.spec_adminrows.specs.declared.turns.Ask.{Ask}
+use Rattle.spec_adminrows.specs.declared.turns.Running.{Running}
 use Rattle.afs_calling.specs.Calls.{calling}
 use Rattle.afs_calling.specs.Stepping.{Makes}
 
@@ -68,7 +68,7 @@ turns_refused me a code r ls = turned me a r.act ls (refused r.place code)
 -- its callee has told this boot number
 abbrev pub asks_in : Node → AdminState → ℕ → Running → List Line → Step AdminState
 asks_in me a boot r ls =
-    record { state = knows a (ask_of a r).callee boot; lines = ls; sent = ask_message me (knows a (ask_of a r).callee boot) (ask_of a r) ∷ [] }
+    record { state = knows_boot a (ask_of a r).callee boot; lines = ls; sent = ask_message me (knows_boot a (ask_of a r).callee boot) (ask_of a r) ∷ [] }
 
 -- by what a message carries to it
 abbrev pub heard_by : Node → AdminState → ℕ → Carried → Running → List Line → Step AdminState
@@ -85,7 +85,7 @@ IsWithinCarried x = Unit {0}
 -- whether a message with this header answers the unanswered call
 abbrev pub awaited_by : AdminState → Head → Option Running → Bool
 awaited_by a head None = false
-awaited_by a head (Some r) = is_for a head (ask_of a r)
+awaited_by a head (Some r) = is_awaited a head (ask_of a r)
 
 -- ---- timeouts
 

@@ -2,14 +2,14 @@
 
 ghost use Rattle.std.specs.Prelude.{◌≡◌, ℕ, IfOk};
 ghost use Rattle.afs_adminparts.specs.Fitting.{FitsPlace, IsShortAdminAct, IsSpelledAsk};
-ghost use Rattle.afs_adminrows.specs.AdminRow.{running_at};
+ghost use Rattle.spec_adminrows.specs.AdminRow.{running_at};
 ghost use Rattle.afs_mover.specs.Asked.{ask_by};
 
 use afs_adminacts::acts::asked;
-use afs_adminrows::places::Place;
-use afs_adminrows::turns::{Ask, Running};
-use afs_history::orders::SharedAdminAct;
 use afs_num::types::Mem;
+use spec_adminrows::places::Place;
+use spec_adminrows::turns::{Ask, Running};
+use spec_history::orders::SharedAdminAct;
 use std::alloc::Global;
 use std::marker::Model;
 
@@ -21,14 +21,14 @@ pub struct Asking {
 }
 
 impl Model for Asking {
-    ghost use Rattle.afs_adminrows.specs.declared.turns.Running.{Running};
-    ghost use Rattle.afs_mover.specs.Asked.{IsAsked};
+    ghost use Rattle.spec_adminrows.specs.declared.turns.Running.{Running};
+    ghost use Rattle.afs_mover.specs.Asked.{IsAskedByAct};
 
     ghost Value = { Running };
 
     ghost view = { λ a. a.running };
 
-    ghost invariant = { λ a. IsAsked a.running a.ask };
+    ghost invariant = { λ a. IsAskedByAct a.running a.ask };
 }
 
 impl Asking {

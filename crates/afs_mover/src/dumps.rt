@@ -4,11 +4,11 @@ ghost use Rattle.std.specs.Prelude.{◌≡◌, ◌≤◌, ◌++◌, ◌∷◌, [
 ghost use Rattle.std.specs.Option.{option_copied};
 ghost use Rattle.std.specs.Vec.{vec_capacity};
 ghost use Rattle.afs_adminparts.specs.Fitting.{FitDumps, FitsDump, FitsDumpIfAny};
-ghost use Rattle.afs_adminrows.specs.AdminRow.{dump_held, has_label, has_other_label};
+ghost use Rattle.spec_adminrows.specs.AdminRow.{dump_held, has_label, has_other_label};
 
-use afs_adminrows::turns::HeldDump;
 use afs_num::sequences::Octets;
 use afs_num::types::Mem;
+use spec_adminrows::turns::HeldDump;
 use std::alloc::Global;
 use std::marker::Model;
 
@@ -21,7 +21,7 @@ pub struct Dumps {
 impl Model for Dumps {
     ghost use Rattle.std.specs.Prelude.{List};
     ghost use Rattle.afs_adminparts.specs.Fitting.{FitDumps};
-    ghost use Rattle.afs_adminrows.specs.declared.turns.HeldDump.{HeldDump};
+    ghost use Rattle.spec_adminrows.specs.declared.turns.HeldDump.{HeldDump};
 
     ghost Value = { List HeldDump };
 

@@ -3,13 +3,13 @@
 ghost use Rattle.std.specs.Prelude.{◌≡◌, ◌<◌, IfOk, OnErr, OnOk};
 ghost use Rattle.std.specs.Option.{option_copied};
 ghost use Rattle.afs_num.specs.Nodes.{same_node};
-ghost use Rattle.afs_model.specs.CellRows.{cell_replies};
-ghost use Rattle.afs_model.specs.Heads.{IsSoundHead};
-ghost use Rattle.afs_model.specs.Messages.{HasSpelling, IsSoundReceived};
-ghost use Rattle.afs_shape.specs.Rows.{IsWithin};
+ghost use Rattle.spec_model.specs.CellRows.{cell_replies};
+ghost use Rattle.spec_model.specs.Heads.{IsSoundHead};
+ghost use Rattle.spec_model.specs.Messages.{HasSpelling, IsSoundReceived};
+ghost use Rattle.spec_shape.specs.Rows.{IsWithin};
 ghost use Rattle.afs_adminparts.specs.Fitting.{FitsTurn};
-ghost use Rattle.afs_adminrows.specs.Acts.{answered, refused};
-ghost use Rattle.afs_adminrows.specs.AdminRow.{awaits, errand_of, gets, knows, takes_in};
+ghost use Rattle.spec_adminrows.specs.Acts.{answered, refused};
+ghost use Rattle.spec_adminrows.specs.AdminRow.{awaits, errand_of, gets, knows_boot, takes_in};
 ghost use Rattle.afs_calling.specs.Calls.{number_limit};
 ghost use Rattle.afs_calling.specs.Stepping.{Takes};
 ghost use Rattle.afs_mover.specs.Steps.{asks_in, awaited_by, Behind, by_act, heard_by, IsWithinCarried, rests, turns_answered, turns_refused};
@@ -17,13 +17,13 @@ ghost use Rattle.afs_mover.specs.Steps.{asks_in, awaited_by, Behind, by_act, hea
 use crate::asking::Asking;
 use crate::node::Mover;
 use afs_adminacts::acts::{answered, refused};
-use afs_adminrows::turns::Turn;
 use afs_calling::boots::note_boot;
 use afs_calling::messages::quiet;
 use afs_calling::opcodes::opcode;
-use afs_history::lines::{Lines, Outs};
 use afs_num::messages::{Carried, Message, Received, Reply};
 use afs_num::types::{Code, Head, Mem, Node};
+use spec_adminrows::turns::Turn;
+use spec_history::lines::{Lines, Outs};
 
 impl Mover {
     /// The act that runs, with its call.
@@ -93,7 +93,7 @@ impl Mover {
 
     /// The boot number that a node told is kept.
     fn note(&mut self, node: Node, boot: u32) -> Mem<()>
-        ensures ok { OnOk result (self.new ≡ record self.old { state = knows self.old.state node boot }) }
+        ensures ok { OnOk result (self.new ≡ record self.old { state = knows_boot self.old.state node boot }) }
         ensures err { OnErr result (self.new ≡ self.old) }
     {
         note_boot(&mut self.boots, node, boot)

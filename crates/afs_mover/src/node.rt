@@ -2,11 +2,11 @@
 
 ghost use Rattle.std.specs.Prelude.{◌≡◌, ◌≤◌, ◌<◌, ◌+◌, [], ◌∷◌, None, IfOk, IsSome, OnOk};
 ghost use Rattle.afs_num.specs.Nodes.{IsNode};
-ghost use Rattle.afs_model.specs.Messages.{received_by};
-ghost use Rattle.afs_history.specs.declared.lines.Line.TheVariants as told;
+ghost use Rattle.spec_model.specs.Messages.{received_by};
+ghost use Rattle.spec_history.specs.declared.lines.Line.TheVariants as told;
 ghost use Rattle.afs_adminparts.specs.Fitting.{FitsTurn, IsShortAdminAct};
-ghost use Rattle.afs_adminrows.specs.Acts.{begins_with};
-ghost use Rattle.afs_adminrows.specs.AdminRow.{admin_begin_row, admin_reborn, admin_row, dump_held, label_in, new_admin};
+ghost use Rattle.spec_adminrows.specs.Acts.{begins_with};
+ghost use Rattle.spec_adminrows.specs.AdminRow.{admin_begin_row, admin_reborn, admin_row, dump_held, label_in, new_admin};
 ghost use Rattle.afs_calling.specs.Calls.{number_limit};
 ghost use Rattle.afs_calling.specs.Stepping.{Answers, Takes};
 ghost use Rattle.afs_mover.specs.Steps.{Behind, lasting, times_out, waits};
@@ -14,15 +14,15 @@ ghost use Rattle.afs_mover.specs.Steps.{Behind, lasting, times_out, waits};
 use crate::asking::Asking;
 use crate::dumps::Dumps;
 use afs_adminacts::acts::begun;
-use afs_adminrows::turns::Turn;
 use afs_call::CallTable;
 use afs_calling::boots::KnownBoot;
-use afs_history::lines::{Line, Lines, Outs};
-use afs_history::orders::SharedAdminAct;
-use afs_history::scripts::AdminAct;
 use afs_message::messages::read_message;
 use afs_message::spelled::SpelledMessage;
 use afs_num::types::{Key, Mem, Node};
+use spec_adminrows::turns::Turn;
+use spec_history::lines::{Line, Lines, Outs};
+use spec_history::orders::SharedAdminAct;
+use spec_history::scripts::AdminAct;
 use std::alloc::Global;
 use std::marker::Model;
 
@@ -49,8 +49,8 @@ pub struct Mover {
 }
 
 impl Model for Mover {
-    ghost use Rattle.afs_model.specs.Steps.{NodeState};
-    ghost use Rattle.afs_adminrows.specs.AdminRow.{AdminState};
+    ghost use Rattle.spec_model.specs.Steps.{NodeState};
+    ghost use Rattle.spec_adminrows.specs.AdminRow.{AdminState};
     ghost use Rattle.afs_mover.specs.Asked.{FitsMover};
 
     ghost Value = { NodeState AdminState };

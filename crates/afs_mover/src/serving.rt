@@ -2,19 +2,19 @@
 
 ghost use Rattle.std.specs.Prelude.{◌≡◌, ◌∷◌, [], IfOk, OnErr, OnOk};
 ghost use Rattle.afs_call.specs.Admitting.{means};
-ghost use Rattle.afs_model.specs.Calls.{admitted, call_seated, runs};
-ghost use Rattle.afs_model.specs.Heads.{IsSoundHead};
-ghost use Rattle.afs_rows.specs.ServerRow.{boot_told, not_served, refusal, seat_for};
-ghost use Rattle.afs_adminrows.specs.AdminRow.{admits, serves_not, told};
+ghost use Rattle.spec_model.specs.Calls.{admitted, call_seated, runs};
+ghost use Rattle.spec_model.specs.Heads.{IsSoundHead};
+ghost use Rattle.spec_rows.specs.ServerRow.{boot_told, not_served, refusal, seat_for};
+ghost use Rattle.spec_adminrows.specs.AdminRow.{admits, serves_not, told};
 ghost use Rattle.afs_calling.specs.Stepping.{Takes};
 
 use crate::node::Mover;
 use afs_call::Admit;
 use afs_calling::messages::{boot_told, outs_with, quiet, replied};
-use afs_history::lines::{Lines, Outs};
 use afs_message::spelled::SpelledMessage;
 use afs_num::messages::Carried;
 use afs_num::types::{Code, Head, Mem};
+use spec_history::lines::{Lines, Outs};
 
 /// No such call is served here (RXGEN_OPCODE of the Rx protocol).
 const NOT_SERVED: Code = Code(-455);

@@ -1,7 +1,7 @@
 //! The unanswered call is timed out: it is sent again, and at its last timeout given up.
 
 ghost use Rattle.std.specs.Prelude.{◌≡◌, ◌<◌, ◌+◌, true, false, IfOk};
-ghost use Rattle.afs_model.specs.Calls.{is_sent_again};
+ghost use Rattle.spec_model.specs.Calls.{is_sent_again};
 ghost use Rattle.afs_calling.specs.Calls.{number_limit};
 ghost use Rattle.afs_calling.specs.Stepping.{Answers};
 ghost use Rattle.afs_mover.specs.Steps.{gives_up, lines_late, sends_late, times_out};
@@ -9,8 +9,8 @@ ghost use Rattle.afs_mover.specs.Steps.{gives_up, lines_late, sends_late, times_
 use crate::node::Mover;
 use afs_call::{Timeout, timed_out};
 use afs_calling::messages::quiet;
-use afs_history::lines::{Line, Lines, Outs};
 use afs_num::types::{Code, Mem};
+use spec_history::lines::{Line, Lines, Outs};
 
 /// The call was given up.
 const DEAD: Code = Code(-1);

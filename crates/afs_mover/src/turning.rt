@@ -2,25 +2,25 @@
 //! nothing has changed.
 
 ghost use Rattle.std.specs.Prelude.{◌≡◌, ◌<◌, ◌+◌, ◌++◌, ◌∷◌, [], None, length, IfOk, OnErr, OnOk};
-ghost use Rattle.afs_model.specs.Messages.{messages_spelled, parcels_read};
-ghost use Rattle.afs_rows.specs.ClientRow.{boot_of};
+ghost use Rattle.spec_model.specs.Messages.{messages_spelled, parcels_read};
+ghost use Rattle.spec_rows.specs.ClientRow.{boot_of};
 ghost use Rattle.afs_adminparts.specs.Fitting.{FitsDump, FitsPlace, FitsTurn, IsShortAdminAct, IsSpelledAsk};
-ghost use Rattle.afs_adminrows.specs.AdminRow.{ask_message, ask_of, asking, asks_step, ends_step, running_at, turned, with_dump};
+ghost use Rattle.spec_adminrows.specs.AdminRow.{ask_message, ask_of, asking, asks_step, ends_step, running_at, turned, with_dump};
 ghost use Rattle.afs_calling.specs.Calls.{number_limit};
-ghost use Rattle.afs_history.specs.declared.lines.Line.TheVariants as told;
+ghost use Rattle.spec_history.specs.declared.lines.Line.TheVariants as told;
 ghost use Rattle.afs_mover.specs.Steps.{Behind, head_under, sent_under};
 
 use crate::asking::Asking;
 use crate::node::Mover;
-use afs_adminrows::places::Place;
-use afs_adminrows::turns::{Ask, Turn};
 use afs_calling::boots::boot_of;
 use afs_calling::messages::{outs_calling, quiet};
 use afs_calling::opcodes::opcode;
-use afs_history::lines::{Line, Lines, Outs};
-use afs_history::orders::SharedAdminAct;
 use afs_num::sequences::Octets;
 use afs_num::types::{Half, Head, Mem, Node};
+use spec_adminrows::places::Place;
+use spec_adminrows::turns::{Ask, Turn};
+use spec_history::lines::{Line, Lines, Outs};
+use spec_history::orders::SharedAdminAct;
 
 impl Mover {
     /// The header of what is asked under this number, in this boot of its callee.

@@ -3,20 +3,20 @@ use Rattle.std.specs.Prelude.{◌≡◌, ◌+◌, ℕ, List, [], ◌∷◌, Bool
 use Rattle.std.proofs.Common.{refl, ap, sym, subst, ◌∙◌, arith}
 use Rattle.afs_num.specs.declared.messages.Received.{Received}
 use Rattle.afs_disk.specs.declared.disk.Disk.{Ghosts}
-use Rattle.afs_history.specs.declared.lines.Line.TheVariants as lines
-use Rattle.afs_history.specs.declared.lines.Outs.{Outs}
-use Rattle.afs_ideal.specs.Tables.{Table}
-use Rattle.afs_model.specs.Messages.{received_by}
-use Rattle.afs_records.specs.Durable.{Durable}
-use Rattle.afs_rows.specs.ServerRow.{begun_after, device_calls, drops, refuses, repeats, saves, shows, tells_boot, Decision}
-use Rattle.afs_rows.specs.States.{ServerState}
-use Rattle.afs_rows.specs.Steps.{Step}
-use Rattle.afs_volrows.specs.FileRow.{file_decides, file_row}
-use Rattle.afs_volrows.specs.VolLaws.{resting}
-use Rattle.afs_volrows.specs.VolRow.{holds_of}
-use Rattle.afs_volrows.specs.VolStates.{NodeState}
-use Rattle.afs_volrows.specs.VolSteps.{from_of, is_of_client, vol_begun_after, vol_device_calls, VolDecision}
-use Rattle.afs_volrows.specs.VolSteps as volumes
+use Rattle.spec_history.specs.declared.lines.Line.TheVariants as lines
+use Rattle.spec_history.specs.declared.lines.Outs.{Outs}
+use Rattle.spec_ideal.specs.Tables.{Table}
+use Rattle.spec_model.specs.Messages.{received_by}
+use Rattle.spec_records.specs.Durable.{Durable}
+use Rattle.spec_rows.specs.ServerRow.{begun_after, device_calls, drops, refuses, repeats, saves, shows, tells_boot, Decision}
+use Rattle.spec_rows.specs.States.{ServerState}
+use Rattle.spec_rows.specs.Steps.{Step}
+use Rattle.spec_volrows.specs.FileRow.{file_decides, file_row}
+use Rattle.spec_volrows.specs.VolLaws.{resting}
+use Rattle.spec_volrows.specs.VolRow.{holds_of}
+use Rattle.spec_volrows.specs.VolStates.{NodeState}
+use Rattle.spec_volrows.specs.VolSteps.{from_of, is_of_client, vol_begun_after, vol_device_calls, VolDecision}
+use Rattle.spec_volrows.specs.VolSteps as volumes
 use Rattle.afs_volstore.specs.Stores.{Store}
 use Rattle.afs_server_parts.specs.declared.faults.NodeFault.{NodeFault}
 use Rattle.afs_server.specs.Handling.{calls_served, decided_then, holds_seen, record_decided, record_then, server_seen, Handles, ServesOver}

@@ -13,18 +13,18 @@ use Rattle.afs_num.specs.declared.messages.Received.{Received}
 use Rattle.afs_num.specs.declared.messages.Received.TheVariants.{Unserved, Whole}
 use Rattle.afs_num.specs.declared.types.Head.{Head}
 use Rattle.afs_num.specs.declared.types.Node.{Node}
-use Rattle.afs_shape.specs.Tables.{is_among}
-use Rattle.afs_ideal.specs.Tables.{Table}
-use Rattle.afs_model.specs.Calls.{admitted, Admitted}
-use Rattle.afs_model.specs.Calls as pairs
-use Rattle.afs_model.specs.CellRows.{call_number}
-use Rattle.afs_model.specs.Messages.{is_unserved, is_whole, FoundBy}
-use Rattle.afs_rows.specs.Callbacks.{expired, turned_in}
-use Rattle.afs_rows.specs.ServerRow.{drops, is_client, not_served, refuses, whole, Decision}
-use Rattle.afs_rows.specs.ServerSteps.{done}
-use Rattle.afs_rows.specs.States.{ServerState}
-use Rattle.afs_rows.specs.Steps.{Step}
-use Rattle.afs_volrows.specs.FileRow.{file_admits, file_called, file_carried, file_decides, file_row, file_serves}
+use Rattle.spec_shape.specs.Tables.{is_among}
+use Rattle.spec_ideal.specs.Tables.{Table}
+use Rattle.spec_model.specs.Calls.{admitted, Admitted}
+use Rattle.spec_model.specs.Calls as pairs
+use Rattle.spec_model.specs.CellRows.{call_number}
+use Rattle.spec_model.specs.Messages.{is_unserved, is_whole, FoundBy}
+use Rattle.spec_rows.specs.Callbacks.{expired, turned_in}
+use Rattle.spec_rows.specs.ServerRow.{drops, is_client, not_served, refuses, whole, Decision}
+use Rattle.spec_rows.specs.ServerSteps.{done}
+use Rattle.spec_rows.specs.States.{ServerState}
+use Rattle.spec_rows.specs.Steps.{Step}
+use Rattle.spec_volrows.specs.FileRow.{file_admits, file_called, file_carried, file_decides, file_row, file_serves}
 use Rattle.afs_server.specs.Handling.{calls_served}
 
 unserved_file : (holds : Table ℕ) (s : ServerState) (clock : ℕ) (head : Head) (user : List ℕ) (call : FsCall) → is_among calls_served (call_number (ask.File call)) ≡ false → file_serves holds s clock head user call ≡ refuses head not_served

@@ -7,15 +7,15 @@ use Rattle.afs_num.specs.declared.messages.Received.{Received}
 use Rattle.afs_num.specs.declared.messages.Received.TheVariants.{Nothing, Unserved, Unreadable, Whole}
 use Rattle.afs_num.specs.declared.types.Head.{Head}
 use Rattle.afs_num.specs.declared.types.Node.{Node}
-use Rattle.afs_shape.specs.Tables.{is_among}
-use Rattle.afs_ideal.specs.Tables.{Table}
-use Rattle.afs_model.specs.Calls.{admitted, Admitted}
-use Rattle.afs_model.specs.Calls as pairs
-use Rattle.afs_model.specs.CellRows.{all_calls}
-use Rattle.afs_model.specs.Messages.{received, received_by}
-use Rattle.afs_rows.specs.ServerRow.{code_of_unreadable, drops, is_client, not_served, refuses, Decision}
-use Rattle.afs_rows.specs.States.{ServerState}
-use Rattle.afs_volrows.specs.FileRow.{file_admits, file_decides}
+use Rattle.spec_shape.specs.Tables.{is_among}
+use Rattle.spec_ideal.specs.Tables.{Table}
+use Rattle.spec_model.specs.Calls.{admitted, Admitted}
+use Rattle.spec_model.specs.Calls as pairs
+use Rattle.spec_model.specs.CellRows.{all_calls}
+use Rattle.spec_model.specs.Messages.{received, received_by}
+use Rattle.spec_rows.specs.ServerRow.{code_of_unreadable, drops, is_client, not_served, refuses, Decision}
+use Rattle.spec_rows.specs.States.{ServerState}
+use Rattle.spec_volrows.specs.FileRow.{file_admits, file_decides}
 use Rattle.afs_server.specs.Handling.{calls_served, record_decided}
 use Rattle.afs_server_parts.proofs.Standing.{among_all, stands_by}
 

@@ -4,14 +4,14 @@ use Rattle.std.proofs.Common.{⊎_elim, inl, inr, refl, ap, sym, subst, ◌∙�
 use Rattle.afs_num.specs.declared.records.StoreRecord.{StoreRecord}
 use Rattle.afs_num.specs.declared.types.Parcel.{Parcel}
 use Rattle.afs_disk.specs.declared.disk.Disk.{Ghosts}
-use Rattle.afs_history.specs.declared.lines.Line.{Line}
-use Rattle.afs_history.specs.declared.lines.Outs.{Outs}
-use Rattle.afs_fold.specs.Effects.{effect_of}
-use Rattle.afs_fold.specs.Fold.{folded}
+use Rattle.spec_history.specs.declared.lines.Line.{Line}
+use Rattle.spec_history.specs.declared.lines.Outs.{Outs}
+use Rattle.spec_fold.specs.Effects.{effect_of}
+use Rattle.spec_fold.specs.Fold.{folded}
 use Rattle.afs_memory.specs.Telling.{in_words}
-use Rattle.afs_rows.specs.States.{ServerState}
-use Rattle.afs_rows.specs.Steps.{Begun, Step}
-use Rattle.afs_volrows.specs.VolStates.{NodeState}
+use Rattle.spec_rows.specs.States.{ServerState}
+use Rattle.spec_rows.specs.Steps.{Begun, Step}
+use Rattle.spec_volrows.specs.VolStates.{NodeState}
 use Rattle.afs_volstore.specs.Stores.{Store}
 use Rattle.afs_server_parts.specs.declared.faults.NodeFault.{NodeFault}
 use Rattle.afs_server_parts.specs.declared.faults.NodeFault.TheVariants as faults
@@ -22,7 +22,7 @@ use Rattle.afs_node.specs.declared.node.ServerNode.{ServerNode}
 use Rattle.afs_node.proofs.Serving.{vol_held}
 use Rattle.afs_node.proofs.Taken.{made_out, IsLetOut}
 use Rattle.afs_volstore.specs.VolumeFold.{volume_fold}
-use Rattle.afs_sharing.specs.Stores.{IsDone, OnDisk, LeavesPrepared}
+use Rattle.afs_sharing.specs.Stores.{IsKeptBehind, OnDisk, LeavesPrepared}
 use Rattle.afs_saving.specs.Saving.{IsQuiet}
 
 -- the node and its store with room for a step
@@ -63,7 +63,7 @@ module _ {D : Type 0} (m n : ServerNode) (s t : Store D) (ready : HasReadied m n
 
   -- ---- what it leaves
 
-  done_from : (decided : Option StoreRecord) (u : Store D) → IsDone decided t u → IsDone decided s u
+  done_from : (decided : Option StoreRecord) (u : Store D) → IsKeptBehind decided t u → IsKeptBehind decided s u
   done_from None u done = (done.0 ∙ ap (λ (x : Store D). x.durable) ready.store, done.1 ∙ ap (λ (x : Store D). x.count) ready.store)
   done_from (Some r) u done = (sym (ap (λ (x : Store D). folded r x.durable) ready.store) ∙ done.0, done.1 ∙ ap (λ (x : Store D). x.count + 1) ready.store)
 

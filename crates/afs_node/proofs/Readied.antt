@@ -5,15 +5,15 @@ use Rattle.afs_num.specs.declared.messages.Received.{Received}
 use Rattle.afs_num.specs.declared.types.Node.{Node}
 use Rattle.afs_num.specs.declared.types.Parcel.{Parcel}
 use Rattle.afs_disk.specs.declared.disk.Disk.{Ghosts}
-use Rattle.afs_history.specs.declared.lines.Line.{Line}
-use Rattle.afs_history.specs.declared.lines.Line.TheVariants as lines
-use Rattle.afs_history.specs.declared.lines.Outs.{Outs}
-use Rattle.afs_rows.specs.ServerSteps.{back_timeout_row, wake_row}
-use Rattle.afs_rows.specs.States.{BackCall}
-use Rattle.afs_rows.specs.Steps.{Step}
-use Rattle.afs_volrows.specs.VolLaws.{resting}
-use Rattle.afs_volrows.specs.VolStates.{NodeState}
-use Rattle.afs_volrows.specs.VolSteps.{node_back_timeout_row, node_begun_after, node_device_calls, node_row, node_wake_row, piece_timeout_row, VolTurn}
+use Rattle.spec_history.specs.declared.lines.Line.{Line}
+use Rattle.spec_history.specs.declared.lines.Line.TheVariants as lines
+use Rattle.spec_history.specs.declared.lines.Outs.{Outs}
+use Rattle.spec_rows.specs.ServerSteps.{back_timeout_row, wake_row}
+use Rattle.spec_rows.specs.States.{BackCall}
+use Rattle.spec_rows.specs.Steps.{Step}
+use Rattle.spec_volrows.specs.VolLaws.{resting}
+use Rattle.spec_volrows.specs.VolStates.{NodeState}
+use Rattle.spec_volrows.specs.VolSteps.{node_back_timeout_row, node_begun_after, node_device_calls, node_row, node_wake_row, piece_timeout_row, VolTurn}
 use Rattle.afs_callbacks.specs.States.{CallbackState}
 use Rattle.afs_sendings.specs.Pieces.{call_seen, dumps_of, Piece}
 use Rattle.afs_volstore.specs.Stores.{Store}

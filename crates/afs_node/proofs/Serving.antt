@@ -4,19 +4,19 @@ use Rattle.std.proofs.Common.{refl, ap, sym, subst, ◌∙◌}
 use Rattle.afs_num.specs.Nodes.{IsNode}
 use Rattle.afs_num.specs.declared.messages.Received.{Received}
 use Rattle.afs_num.specs.declared.types.Node.{Node}
-use Rattle.afs_history.specs.declared.lines.Line.{Line}
-use Rattle.afs_history.specs.declared.lines.Outs.{Outs}
-use Rattle.afs_ideal.specs.Tables.{Table}
-use Rattle.afs_records.specs.Durable.{Stored}
-use Rattle.afs_rows.specs.ServerRow.{does, drops, refuses, repeats, saves, shows, tells_boot, Decision}
-use Rattle.afs_rows.specs.States.{Held, ServerState}
-use Rattle.afs_rows.specs.Steps.{Step}
-use Rattle.afs_volrows.specs.FileRow.{file_decides, file_row}
-use Rattle.afs_volrows.specs.VolLaws.{AreApart, IsApart}
-use Rattle.afs_volrows.specs.VolRow.{holds_of}
-use Rattle.afs_volrows.specs.VolStates.{NodeState}
-use Rattle.afs_volrows.specs.VolSteps.{from_of, is_of_client}
-use Rattle.afs_volrows.proofs.VolNodes.{nodes_stay_apart}
+use Rattle.spec_history.specs.declared.lines.Line.{Line}
+use Rattle.spec_history.specs.declared.lines.Outs.{Outs}
+use Rattle.spec_ideal.specs.Tables.{Table}
+use Rattle.spec_records.specs.Durable.{Stored}
+use Rattle.spec_rows.specs.ServerRow.{does, drops, refuses, repeats, saves, shows, tells_boot, Decision}
+use Rattle.spec_rows.specs.States.{Held, ServerState}
+use Rattle.spec_rows.specs.Steps.{Step}
+use Rattle.spec_volrows.specs.FileRow.{file_decides, file_row}
+use Rattle.spec_volrows.specs.VolLaws.{AreApart, IsApart}
+use Rattle.spec_volrows.specs.VolRow.{holds_of}
+use Rattle.spec_volrows.specs.VolStates.{NodeState}
+use Rattle.spec_volrows.specs.VolSteps.{from_of, is_of_client}
+use Rattle.spec_volrows.proofs.VolNodes.{nodes_stay_apart}
 use Rattle.afs_callbacks.specs.States.{CallbackState}
 use Rattle.afs_volstore.specs.Stores.{Store}
 use Rattle.afs_server.specs.Handling.{holds_seen, server_seen, Makes, ServesOver}

@@ -6,19 +6,19 @@ use Rattle.afs_num.specs.declared.messages.Received.{Received}
 use Rattle.afs_num.specs.declared.messages.Received.TheVariants.{Nothing, Whole}
 use Rattle.afs_num.specs.declared.records.StoreRecord.{StoreRecord}
 use Rattle.afs_num.specs.declared.types.Node.{Node}
-use Rattle.afs_history.specs.declared.lines.Line.TheVariants as lines
-use Rattle.afs_model.specs.Messages.{received, received_by, FindsMessages}
-use Rattle.afs_shape.proofs.Codecs.{IsBytes}
-use Rattle.afs_model.proofs.Spellings.{found_in}
-use Rattle.afs_rows.specs.Callbacks.{expired}
-use Rattle.afs_rows.specs.ServerRow.{begun_after, device_calls, is_client, Decision}
-use Rattle.afs_rows.specs.States.{durable_of, ServerState}
-use Rattle.afs_rows.specs.Steps.{Begun, Step}
-use Rattle.afs_volrows.specs.FileRow.{file_row}
-use Rattle.afs_volrows.specs.VolLaws.{resting}
-use Rattle.afs_volrows.specs.VolRow.{holds_of}
-use Rattle.afs_volrows.specs.VolStates.{NodeState}
-use Rattle.afs_volrows.specs.VolSteps.{from_of, is_of_client, node_begun_after, node_device_calls, node_file_decides, vol_begun_after, vol_decides, vol_device_calls, vol_turned, VolDecision, VolTurn}
+use Rattle.spec_history.specs.declared.lines.Line.TheVariants as lines
+use Rattle.spec_model.specs.Messages.{received, received_by, FindsMessages}
+use Rattle.spec_shape.proofs.Codecs.{IsBytes}
+use Rattle.spec_model.proofs.Spellings.{found_in}
+use Rattle.spec_rows.specs.Callbacks.{expired}
+use Rattle.spec_rows.specs.ServerRow.{begun_after, device_calls, is_client, Decision}
+use Rattle.spec_rows.specs.States.{durable_of, ServerState}
+use Rattle.spec_rows.specs.Steps.{Begun, Step}
+use Rattle.spec_volrows.specs.FileRow.{file_row}
+use Rattle.spec_volrows.specs.VolLaws.{resting}
+use Rattle.spec_volrows.specs.VolRow.{holds_of}
+use Rattle.spec_volrows.specs.VolStates.{NodeState}
+use Rattle.spec_volrows.specs.VolSteps.{from_of, is_of_client, node_begun_after, node_device_calls, node_file_decides, vol_begun_after, vol_decides, vol_device_calls, vol_turned, VolDecision, VolTurn}
 use Rattle.afs_server.specs.Handling.{calls_served, record_decided}
 use Rattle.afs_volserv.specs.Handling.{vol_calls_served, vol_record}
 use Rattle.afs_node.specs.Handling.{let_out, node_record, node_taken, vol_resting, AreSameSteps, IsSameStep}

@@ -5,17 +5,17 @@ use Rattle.afs_num.specs.declared.messages.Received.{Received}
 use Rattle.afs_num.specs.declared.records.StoreRecord.{StoreRecord}
 use Rattle.afs_num.specs.declared.types.Node.{Node}
 use Rattle.afs_disk.specs.declared.disk.Disk.{Ghosts}
-use Rattle.afs_history.specs.declared.lines.Line.{Line}
-use Rattle.afs_history.specs.declared.lines.Line.TheVariants as lines
-use Rattle.afs_history.specs.declared.lines.Outs.{Outs}
-use Rattle.afs_ideal.specs.Tables.{Table}
-use Rattle.afs_rows.specs.States.{Backs, Lasting, ServerState}
-use Rattle.afs_rows.specs.Steps.{Begun, Step}
-use Rattle.afs_volrows.specs.FileRow.{file_row}
-use Rattle.afs_volrows.specs.VolLaws.{resting}
-use Rattle.afs_volrows.specs.VolRow.{holds_of}
-use Rattle.afs_volrows.specs.VolStates.{VolState}
-use Rattle.afs_volrows.specs.VolSteps.{VolTurn}
+use Rattle.spec_history.specs.declared.lines.Line.{Line}
+use Rattle.spec_history.specs.declared.lines.Line.TheVariants as lines
+use Rattle.spec_history.specs.declared.lines.Outs.{Outs}
+use Rattle.spec_ideal.specs.Tables.{Table}
+use Rattle.spec_rows.specs.States.{Backs, Lasting, ServerState}
+use Rattle.spec_rows.specs.Steps.{Begun, Step}
+use Rattle.spec_volrows.specs.FileRow.{file_row}
+use Rattle.spec_volrows.specs.VolLaws.{resting}
+use Rattle.spec_volrows.specs.VolRow.{holds_of}
+use Rattle.spec_volrows.specs.VolStates.{VolState}
+use Rattle.spec_volrows.specs.VolSteps.{VolTurn}
 use Rattle.afs_callbacks.specs.States.{backs_at, CallbackState}
 use Rattle.afs_volstore.specs.Stores.{Store}
 use Rattle.afs_server_parts.specs.declared.faults.NodeFault.{NodeFault}
@@ -28,7 +28,7 @@ use Rattle.afs_node.specs.Handling.{vol_resting, LeavesNode, StepsBy, TookNode}
 use Rattle.afs_node.specs.Seen.{node_seen, ClosesStored, SameStored, ServesNode}
 use Rattle.afs_node.specs.declared.node.ServerNode.{ServerNode}
 use Rattle.afs_node.proofs.Serving.{volume_serves, with_callbacks}
-use Rattle.afs_sharing.specs.Stores.{IsClosed, IsDone, SameStore}
+use Rattle.afs_sharing.specs.Stores.{IsClosed, IsKeptBehind, SameStore}
 
 -- ---- a store of which nothing was done
 
@@ -79,7 +79,7 @@ volume_took {D} t before m n k s u (Err faults.Down) closed = closes_stored s u 
 -- ---- what it leaves
 
 pub file_leaves : {D : Type 0} (decided : Option StoreRecord) (m : ServerNode) (n : Memory) (s t : Store D) (result : Result Outs NodeFault) → OnOk result (ServesNode (record m { file = n }) t) →
-    OnOk result (t ≡ record s { durable = t.durable; disk = t.disk; prepared = t.prepared; count = t.count; drawn = t.drawn }) → OnOk result (IsDone decided s t) →
+    OnOk result (t ≡ record s { durable = t.durable; disk = t.disk; prepared = t.prepared; count = t.count; drawn = t.drawn }) → OnOk result (IsKeptBehind decided s t) →
     OnOk result ((t.drawn ≤ s.drawn + 204) × (n.lists.last_owed + length n.lists.promises ≤ m.file.lists.last_owed + length m.file.lists.promises + 50)) → OnOk result (LeavesNode decided m (record m { file = n }) s t)
 file_leaves {D} decided m n s t (Ok outs) serves store done draws = record {
   serves = serves;
@@ -90,7 +90,7 @@ file_leaves {D} decided m n s t (Ok outs) serves store done draws = record {
 file_leaves {D} decided m n s t (Err e) serves store done draws = tt
 
 pub volume_leaves : {D : Type 0} (decided : Option StoreRecord) (m : ServerNode) (n : VolMemory) (k : CallbackState) (s u : Store D) (result : Result Outs NodeFault) → ServesNode m s → OnOk result (StaysInOrder m.vol n k u) → OnOk result (VolumeDraws (callbacks_of m.file) k s u) →
-    OnOk result (u ≡ record s { durable = u.durable; disk = u.disk; prepared = u.prepared; count = u.count; drawn = u.drawn; holds = u.holds }) → OnOk result (IsDone decided s u) → OnOk result (LeavesNode decided m (record { file = with_callbacks m.file k; vol = n }) s u)
+    OnOk result (u ≡ record s { durable = u.durable; disk = u.disk; prepared = u.prepared; count = u.count; drawn = u.drawn; holds = u.holds }) → OnOk result (IsKeptBehind decided s u) → OnOk result (LeavesNode decided m (record { file = with_callbacks m.file k; vol = n }) s u)
 volume_leaves {D} decided m n k s u (Ok outs) serves order draws store done = record {
   serves = volume_serves m n k s u serves order;
   store = store;

@@ -6,20 +6,20 @@ use Rattle.afs_num.specs.declared.messages.Received.{Received}
 use Rattle.afs_num.specs.declared.types.Head.{Head}
 use Rattle.afs_num.specs.declared.types.Node.{Node}
 use Rattle.afs_num.specs.declared.types.Parcel.{Parcel}
-use Rattle.afs_history.specs.declared.lines.Line.{Line}
-use Rattle.afs_history.specs.declared.lines.Line.TheVariants as lines
-use Rattle.afs_history.specs.declared.lines.Outs.{Outs}
-use Rattle.afs_model.specs.Messages.{messages_spelled, parcels_read, spelled}
+use Rattle.spec_history.specs.declared.lines.Line.{Line}
+use Rattle.spec_history.specs.declared.lines.Line.TheVariants as lines
+use Rattle.spec_history.specs.declared.lines.Outs.{Outs}
+use Rattle.spec_model.specs.Messages.{messages_spelled, parcels_read, spelled}
 use Rattle.afs_num.specs.declared.messages.Received.TheVariants.{Whole}
-use Rattle.afs_rows.specs.Callbacks.{expired, is_ready, replies_of}
-use Rattle.afs_rows.specs.ServerSteps.{back_timeout_row, wake_row}
-use Rattle.afs_rows.specs.States.{durable_of, BackCall}
-use Rattle.afs_rows.specs.Steps.{Step}
-use Rattle.afs_volrows.specs.FileRow.{file_row}
-use Rattle.afs_volrows.specs.VolLaws.{resting}
-use Rattle.afs_volrows.specs.VolRow.{holds_of}
-use Rattle.afs_volrows.specs.VolStates.{NodeState, PieceCall}
-use Rattle.afs_volrows.specs.VolSteps.{from_of, is_of_client, is_waiting, node_back_timeout_row, node_row, node_wake_row, piece_timeout_row, vol_decides, vol_timed, vol_turned}
+use Rattle.spec_rows.specs.Callbacks.{expired, is_ready, replies_of}
+use Rattle.spec_rows.specs.ServerSteps.{back_timeout_row, wake_row}
+use Rattle.spec_rows.specs.States.{durable_of, BackCall}
+use Rattle.spec_rows.specs.Steps.{Step}
+use Rattle.spec_volrows.specs.FileRow.{file_row}
+use Rattle.spec_volrows.specs.VolLaws.{resting}
+use Rattle.spec_volrows.specs.VolRow.{holds_of}
+use Rattle.spec_volrows.specs.VolStates.{NodeState, PieceCall}
+use Rattle.spec_volrows.specs.VolSteps.{from_of, is_of_client, waits_for_breaks, node_back_timeout_row, node_row, node_wake_row, piece_timeout_row, vol_decides, vol_timed, vol_turned}
 use Rattle.afs_volstore.specs.Stores.{Store}
 use Rattle.afs_node.specs.Handling.{let_out, node_taken, vol_resting, MakesNode, TakesNode}
 use Rattle.afs_node.specs.Seen.{node_seen}
@@ -57,7 +57,7 @@ messages_spelled-append [] ns = refl
 messages_spelled-append (m ∷ ms) ns = ap (λ (t : List (Head × List ℕ × Received)). (m.head, spelled m, Whole m) ∷ t) (messages_spelled-append ms ns)
 
 abbrev pub state_let_out : NodeState → NodeState
-state_let_out s = record { file = s.file; vol = record s.vol { held = filter (is_waiting s.file.backs.lists.owed) s.vol.held } }
+state_let_out s = record { file = s.file; vol = record s.vol { held = filter (waits_for_breaks s.file.backs.lists.owed) s.vol.held } }
 
 abbrev pub ready_in : NodeState → List Message
 ready_in s = replies_of (filter (is_ready s.file.backs.lists.owed) s.vol.held)
@@ -65,7 +65,7 @@ ready_in s = replies_of (filter (is_ready s.file.backs.lists.owed) s.vol.held)
 -- what the node is once these replies are out, with whatever room is left
 pub record IsLetOut (m n : ServerNode) (behind : List Parcel) : Type 0 where
   pub sent : parcels_read behind ≡ messages_spelled (replies_of (filter (is_ready m.file.lists.owed) m.vol.held))
-  pub is : n ≡ record m { vol = record m.vol { held = filter (is_waiting m.file.lists.owed) m.vol.held; room = n.vol.room } }
+  pub is : n ≡ record m { vol = record m.vol { held = filter (waits_for_breaks m.file.lists.owed) m.vol.held; room = n.vol.room } }
 
 pub made_out : {D : Type 0} (step : Step NodeState) (before : List Line) (m n : ServerNode) (s : Store D) (outs : Outs) (behind : List Parcel) → TakesNode step before m s outs → IsLetOut m n behind → MakesNode (let_out step) before n s outs behind
 made_out {D} step before m n s outs behind taken out = record {

@@ -13,16 +13,16 @@ use Rattle.afs_num.specs.declared.types.Head.{Head}
 use Rattle.afs_num.specs.declared.types.Node.{Node}
 use Rattle.afs_num.specs.declared.volume_calls.VolCall.{VolCall}
 use Rattle.afs_num.specs.declared.volume_calls.VolCall.TheVariants as calls
-use Rattle.afs_shape.specs.Tables.{is_among}
-use Rattle.afs_model.specs.Calls.{admitted, Admitted}
-use Rattle.afs_model.specs.Calls as pairs
-use Rattle.afs_model.specs.CellRows.{all_calls, call_number}
-use Rattle.afs_model.specs.Messages.{is_unserved, is_whole, received, received_by, FoundBy}
-use Rattle.afs_records.specs.Durable.{Durable}
-use Rattle.afs_rows.specs.ServerRow.{bad_fields, not_served}
-use Rattle.afs_rows.specs.States.{Backs, Lasting}
-use Rattle.afs_volrows.specs.VolStates.{VolState}
-use Rattle.afs_volrows.specs.VolSteps.{drops, is_vol_caller, is_volume_call, refuses_vol, vol_admits, vol_called, vol_carried, vol_decides, vol_turn, vol_turned, VolDecision}
+use Rattle.spec_shape.specs.Tables.{is_among}
+use Rattle.spec_model.specs.Calls.{admitted, Admitted}
+use Rattle.spec_model.specs.Calls as pairs
+use Rattle.spec_model.specs.CellRows.{all_calls, call_number}
+use Rattle.spec_model.specs.Messages.{is_unserved, is_whole, received, received_by, FoundBy}
+use Rattle.spec_records.specs.Durable.{Durable}
+use Rattle.spec_rows.specs.ServerRow.{bad_fields, not_served}
+use Rattle.spec_rows.specs.States.{Backs, Lasting}
+use Rattle.spec_volrows.specs.VolStates.{VolState}
+use Rattle.spec_volrows.specs.VolSteps.{drops, is_vol_caller, is_volume_call, refuses_vol, vol_admits, vol_called, vol_carried, vol_decides, vol_turn, vol_turned, VolDecision}
 use Rattle.afs_volserv.specs.Handling.{vol_calls_served, vol_record}
 use Rattle.afs_server_parts.proofs.Standing.{among_all, stands_by}
 

@@ -11,17 +11,17 @@ use Rattle.afs_num.specs.declared.types.Half.TheVariants as halves
 use Rattle.afs_num.specs.declared.types.Head.{Head}
 use Rattle.afs_num.specs.declared.types.Node.{Node}
 use Rattle.afs_xdr.specs.declared.faults.XdrFault.{XdrFault}
-use Rattle.afs_shape.specs.declared.faults.ShapeFault.{ShapeFault}
-use Rattle.afs_shape.specs.declared.kinds.Field.{Field}
-use Rattle.afs_shape.specs.Reading.{fields_to_end_at}
-use Rattle.afs_shape.specs.Tables.{is_among}
-use Rattle.afs_model.specs.CellRows.{all_calls, cell_calls, cell_replies}
-use Rattle.afs_model.specs.Heads.{head_at}
-use Rattle.afs_model.specs.Messages.{read_behind_head, read_body, received, received_by, received_call, received_notice, received_reply}
-use Rattle.afs_model.specs.Rpc.{asked_at, first_of, replied_at}
-use Rattle.afs_records.proofs.Forms.{some_is}
-use Rattle.afs_rows.specs.ServerRow.{is_client}
-use Rattle.afs_volrows.specs.VolSteps.{from_of, is_of_client}
+use Rattle.spec_shape.specs.declared.faults.ShapeFault.{ShapeFault}
+use Rattle.spec_shape.specs.declared.kinds.Field.{Field}
+use Rattle.spec_shape.specs.Reading.{fields_to_end_at}
+use Rattle.spec_shape.specs.Tables.{is_among}
+use Rattle.spec_model.specs.CellRows.{all_calls, cell_calls, cell_replies}
+use Rattle.spec_model.specs.Heads.{head_at}
+use Rattle.spec_model.specs.Messages.{read_behind_head, read_body, received, received_by, received_call, received_notice, received_reply}
+use Rattle.spec_model.specs.Rpc.{asked_at, first_of, replied_at}
+use Rattle.spec_records.proofs.Forms.{some_is}
+use Rattle.spec_rows.specs.ServerRow.{is_client}
+use Rattle.spec_volrows.specs.VolSteps.{from_of, is_of_client}
 use Rattle.afs_node.specs.Seen.{is_from_client, sent_by_client}
 
 -- ---- what is found has the header's sender

@@ -7,23 +7,23 @@ use Rattle.afs_num.specs.declared.records.StoreRecord.{StoreRecord}
 use Rattle.afs_num.specs.declared.types.Node.{Node}
 use Rattle.afs_num.specs.declared.types.Parcel.{Parcel}
 use Rattle.afs_disk.specs.declared.disk.Disk.{Ghosts}
-use Rattle.afs_history.specs.declared.lines.Line.{Line}
-use Rattle.afs_history.specs.declared.lines.Line.TheVariants as lines
-use Rattle.afs_history.specs.declared.lines.Outs.{Outs}
-use Rattle.afs_model.specs.Messages.{messages_spelled, parcels_read, received}
-use Rattle.afs_records.specs.Durable.{Durable}
-use Rattle.afs_fold.specs.Effects.{effect_of}
-use Rattle.afs_fold.specs.Fold.{folded}
+use Rattle.spec_history.specs.declared.lines.Line.{Line}
+use Rattle.spec_history.specs.declared.lines.Line.TheVariants as lines
+use Rattle.spec_history.specs.declared.lines.Outs.{Outs}
+use Rattle.spec_model.specs.Messages.{messages_spelled, parcels_read, received}
+use Rattle.spec_records.specs.Durable.{Durable}
+use Rattle.spec_fold.specs.Effects.{effect_of}
+use Rattle.spec_fold.specs.Fold.{folded}
 use Rattle.afs_memory.specs.Telling.{in_words}
-use Rattle.afs_rows.specs.Callbacks.{expired, is_ready, replies_of}
-use Rattle.afs_rows.specs.ServerSteps.{stepped}
-use Rattle.afs_rows.specs.States.{durable_of, ServerState}
-use Rattle.afs_rows.specs.Steps.{Begun, Step}
-use Rattle.afs_volrows.specs.FileRow.{file_row}
-use Rattle.afs_volrows.specs.VolLaws.{resting}
-use Rattle.afs_volrows.specs.VolRow.{holds_of}
-use Rattle.afs_volrows.specs.VolStates.{NodeState}
-use Rattle.afs_volrows.specs.VolSteps.{from_of, is_of_client, is_waiting, node_begun_after, node_device_calls, node_file_decides, node_row, risen, vol_decides, vol_turned, VolTurn}
+use Rattle.spec_rows.specs.Callbacks.{expired, is_ready, replies_of}
+use Rattle.spec_rows.specs.ServerSteps.{stepped}
+use Rattle.spec_rows.specs.States.{durable_of, ServerState}
+use Rattle.spec_rows.specs.Steps.{Begun, Step}
+use Rattle.spec_volrows.specs.FileRow.{file_row}
+use Rattle.spec_volrows.specs.VolLaws.{resting}
+use Rattle.spec_volrows.specs.VolRow.{holds_of}
+use Rattle.spec_volrows.specs.VolStates.{NodeState}
+use Rattle.spec_volrows.specs.VolSteps.{from_of, is_of_client, waits_for_breaks, node_begun_after, node_device_calls, node_file_decides, node_row, node_risen, vol_decides, vol_turned, VolTurn}
 use Rattle.afs_volstore.specs.Stores.{Store}
 use Rattle.afs_server_parts.specs.declared.faults.NodeFault.{NodeFault}
 use Rattle.afs_server_parts.specs.declared.faults.NodeFault.TheVariants as faults
@@ -32,7 +32,7 @@ use Rattle.afs_server.specs.Seen.{begun_step}
 use Rattle.afs_volserv.specs.Handling.{turn_behind, vol_record}
 use Rattle.afs_node.specs.Seen.{node_found, node_seen, ClosesStored, SameNode, SameStored, ServesNode}
 use Rattle.afs_node.specs.declared.node.ServerNode.{ServerNode}
-use Rattle.afs_sharing.specs.Stores.{IsDone, OnDisk, LeavesPrepared}
+use Rattle.afs_sharing.specs.Stores.{IsKeptBehind, OnDisk, LeavesPrepared}
 use Rattle.afs_saving.specs.Saving.{IsWritten}
 use Rattle.afs_sharing.specs.Lasting.{lasting_of}
 
@@ -71,14 +71,14 @@ node_taken me s clock place m =
 -- and then they do
 abbrev pub let_out : Step NodeState → Step NodeState
 let_out s = record {
-  state = record { file = s.state.file; vol = record s.state.vol { held = filter (is_waiting s.state.file.backs.lists.owed) s.state.vol.held } };
+  state = record { file = s.state.file; vol = record s.state.vol { held = filter (waits_for_breaks s.state.file.backs.lists.owed) s.state.vol.held } };
   lines = s.lines;
   sent = s.sent ++ replies_of (filter (is_ready s.state.file.backs.lists.owed) s.state.vol.held);
 }
 
 -- the start of both servers over a store that has begun its boot
 abbrev pub node_begun_step : Node → Durable → ℕ → ℕ → Step NodeState
-node_begun_step me d clock count = risen (begun_step me d clock count) (lasting_of d).kept
+node_begun_step me d clock count = node_risen (begun_step me d clock count) (lasting_of d).kept
 
 -- ---- the step
 
@@ -116,7 +116,7 @@ pub record DrawsFew {D : Type 0} (breaks : ℕ) (old new : ServerNode) (s t : St
 pub record LeavesNode {D : Type 0} (decided : Option StoreRecord) (old new : ServerNode) (s t : Store D) : Type 0 where
   pub serves : ServesNode new t
   pub store : t ≡ record s { durable = t.durable; disk = t.disk; prepared = t.prepared; count = t.count; drawn = t.drawn; holds = t.holds }
-  pub done : IsDone decided s t
+  pub done : IsKeptBehind decided s t
   pub draws : DrawsFew 50 old new s t
 
 -- A step with this record, or none, and so many device calls, behind which a restart begins so where the record is whole on the disk. Where it was

@@ -5,12 +5,12 @@ use Rattle.afs_num.specs.declared.messages.Received.{Received}
 use Rattle.afs_num.specs.declared.types.Head.{Head}
 use Rattle.afs_num.specs.declared.types.Node.{Node}
 use Rattle.afs_xdr.specs.declared.faults.XdrFault.{XdrFault}
-use Rattle.afs_model.specs.Heads.{head_at}
-use Rattle.afs_model.specs.Messages.{received_by}
-use Rattle.afs_model.specs.Rpc.{first_of}
-use Rattle.afs_rows.specs.ServerRow.{is_client}
+use Rattle.spec_model.specs.Heads.{head_at}
+use Rattle.spec_model.specs.Messages.{received_by}
+use Rattle.spec_model.specs.Rpc.{first_of}
+use Rattle.spec_rows.specs.ServerRow.{is_client}
 use Rattle.afs_callees.specs.Called.{call_to}
-use Rattle.afs_volrows.specs.VolStates.{NodeState}
+use Rattle.spec_volrows.specs.VolStates.{NodeState}
 use Rattle.afs_volstore.specs.Stores.{Store}
 use Rattle.afs_server.specs.Handling.{calls_served, server_seen, ServesOver}
 use Rattle.afs_volserv.specs.Handling.{vol_calls_served}

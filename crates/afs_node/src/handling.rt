@@ -3,10 +3,10 @@
 ghost use Rattle.std.specs.Prelude.{◌≡◌, ◌≤◌, ◌∷◌, [], ℕ, false, true, filter, IsErrOf, OnOk};
 ghost use Rattle.afs_num.specs.declared.messages.Message.{Message};
 ghost use Rattle.afs_num.specs.declared.messages.Received.TheVariants.{Whole};
-ghost use Rattle.afs_history.specs.declared.lines.Line.TheVariants as lines;
-ghost use Rattle.afs_model.specs.Messages.{messages_spelled, parcels_read, received};
-ghost use Rattle.afs_rows.specs.Callbacks.{is_ready, replies_of};
-ghost use Rattle.afs_volrows.specs.VolSteps.{is_waiting, node_row};
+ghost use Rattle.spec_history.specs.declared.lines.Line.TheVariants as lines;
+ghost use Rattle.spec_model.specs.Messages.{messages_spelled, parcels_read, received};
+ghost use Rattle.spec_rows.specs.Callbacks.{is_ready, replies_of};
+ghost use Rattle.spec_volrows.specs.VolSteps.{waits_for_breaks, node_row};
 ghost use Rattle.afs_server_parts.specs.declared.faults.NodeFault.TheVariants as faults;
 ghost use Rattle.afs_server.specs.Seen.{CanDraw};
 ghost use Rattle.afs_volserv.specs.Seen.{CanRelease, HasRoom};
@@ -16,11 +16,11 @@ ghost use Rattle.afs_node.specs.Seen.{node_found, node_seen, sent_by_client, Sam
 use crate::node::ServerNode;
 use afs_decisions::deciding::is_client;
 use afs_disk::Disk;
-use afs_history::lines::Outs;
 use afs_num::types::Parcels;
 use afs_rpc::heads::read_head;
 use afs_server_parts::faults::NodeFault;
 use afs_volstore::VolStore;
+use spec_history::lines::Outs;
 
 /// Whether these are the bytes of a client's message, as its header tells, or have no header.
 fn sent_by_client(bytes: &[u8]) -> bool
@@ -100,7 +100,7 @@ impl ServerNode {
     pub(crate) fn release(&mut self) -> Parcels
         requires { CanRelease self.old.vol }
         ensures sent { parcels_read result ≡ messages_spelled (replies_of (filter (is_ready self.old.file.lists.owed) self.old.vol.held)) }
-        ensures held { self.new ≡ record self.old { vol = record self.old.vol { held = filter (is_waiting self.old.file.lists.owed) self.old.vol.held; room = self.new.vol.room } } }
+        ensures held { self.new ≡ record self.old { vol = record self.old.vol { held = filter (waits_for_breaks self.old.file.lists.owed) self.old.vol.held; room = self.new.vol.room } } }
     {
         self.vol.release(self.file.promises())
     }

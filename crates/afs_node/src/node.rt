@@ -2,7 +2,7 @@
 
 ghost use Rattle.std.specs.Prelude.{◌≡◌, ◌≤◌, ◌+◌, [], length, IfOk, OnErr};
 ghost use Rattle.afs_num.specs.Nodes.{IsNode};
-ghost use Rattle.afs_volrows.specs.VolStates.{fresh_vol};
+ghost use Rattle.spec_volrows.specs.VolStates.{fresh_vol};
 ghost use Rattle.afs_server.specs.Seen.{first_memory};
 ghost use Rattle.afs_volserv.specs.Seen.{vol_seen, ServesVolumes};
 ghost use Rattle.afs_node.specs.Handling.{node_begun_step, MakesNode};
@@ -10,11 +10,11 @@ ghost use Rattle.afs_node.specs.Seen.{ServesNode};
 ghost use Rattle.afs_sharing.specs.Lasting.{lasting_of};
 
 use afs_disk::Disk;
-use afs_history::lines::Outs;
 use afs_num::types::Mem;
 use afs_server::FileServer;
 use afs_volserv::VolServer;
 use afs_volstore::VolStore;
+use spec_history::lines::Outs;
 use std::alloc::Global;
 
 /// A file server and a volume server, which share the store of their disk, promises and breaks, and the numbers of the node's own calls.

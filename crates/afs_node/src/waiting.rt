@@ -1,21 +1,21 @@
 //! A server node whose calls wait too long, and as time passes.
 
 ghost use Rattle.std.specs.Prelude.{◌≡◌, ◌≤◌, [], None, Some, true, IsErrOf, IsSome, OnOk};
-ghost use Rattle.afs_rows.specs.States as rows;
+ghost use Rattle.spec_rows.specs.States as rows;
 ghost use Rattle.afs_sendings.specs.Pieces.{call_seen, Piece};
 ghost use Rattle.afs_callees.specs.Called.{call_to};
 ghost use Rattle.afs_server_parts.specs.declared.faults.NodeFault.TheVariants as faults;
 ghost use Rattle.afs_server.specs.Seen.{CanDraw};
-ghost use Rattle.afs_volrows.specs.VolSteps.{node_back_timeout_row, node_wake_row, piece_timeout_row};
+ghost use Rattle.spec_volrows.specs.VolSteps.{node_back_timeout_row, node_wake_row, piece_timeout_row};
 ghost use Rattle.afs_node.specs.Handling.{DrawsFew, HandlesNode};
 ghost use Rattle.afs_node.specs.Seen.{file_waits, node_seen, node_waits, volumes_wait, SameNode, SameStored, ServesNode};
 
 use crate::node::ServerNode;
 use afs_disk::Disk;
-use afs_history::lines::Outs;
 use afs_num::types::{Node, Parcels};
 use afs_server_parts::faults::NodeFault;
 use afs_volstore::VolStore;
+use spec_history::lines::Outs;
 
 impl ServerNode {
     /// Whether its file server waits for a reply of this node. It takes no memory.

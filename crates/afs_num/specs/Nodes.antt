@@ -1,5 +1,5 @@
 -- The numbers of nodes on the wire.
-use Rattle.std.specs.Prelude.{◌≡◌, ℕ, ◌+◌, ◌-◌, ◌&&◌, Bool, true, false, Option, Some, None, nat_le, nat_eq, if◌then◌else◌}
+use Rattle.std.specs.Prelude.{◌≡◌, ℕ, ◌+◌, ◌-◌, ◌&&◌, Bool, true, false, Option, Some, None, nat_le, nat_eq, if◌then◌else◌, is_some}
 use Rattle.afs_num.specs.declared.types.Node.{Node}
 use Rattle.afs_num.specs.declared.types.Node.TheVariants.{Loc, Server, Client, Admin}
 
@@ -33,3 +33,7 @@ same_node (Server i) (Server j) = nat_eq i j
 same_node (Client i) (Client j) = nat_eq i j
 same_node (Admin i) (Admin j) = nat_eq i j
 same_node a b = false
+
+-- the number is a node's
+abbrev pub is_known : ℕ → Bool
+is_known n = is_some (node_of n)

@@ -7,14 +7,14 @@ use Rattle.std.specs.List.{list_all, AllByRecursion}
 use Rattle.afs_num.specs.declared.vnodes.Vnode as image
 use Rattle.afs_num.specs.declared.volumes.Change.{Change}
 use Rattle.afs_num.specs.declared.volumes.VolumeHead.{VolumeHead}
-use Rattle.afs_shape.specs.Taking.{◌>>=◌}
-use Rattle.afs_ideal.specs.Images.{value_of, values_of}
-use Rattle.afs_ideal.specs.Volumes.{Vnode}
-use Rattle.afs_ideal.specs.Tables.{Table, get, set, unset, AscendsFrom}
-use Rattle.afs_ideal.specs.VnodeMaps.{most_vnodes, is_full_for}
-use Rattle.afs_ideal.proofs.Tables.{ascends_set, ascends_unset}
-use Rattle.afs_records.specs.Durable.{Stored, allowed, changed_stored, counted_as, with_image, with_images, without}
-use Rattle.afs_records.specs.Sound.{is_sound}
+use Rattle.spec_shape.specs.Taking.{◌>>=◌}
+use Rattle.spec_ideal.specs.Images.{value_of, values_of}
+use Rattle.spec_ideal.specs.Volumes.{Vnode}
+use Rattle.spec_ideal.specs.Tables.{Table, get, set, unset, AscendsFrom}
+use Rattle.spec_ideal.specs.VnodeMaps.{most_vnodes, is_full_for}
+use Rattle.spec_ideal.proofs.Tables.{ascends_set, ascends_unset}
+use Rattle.spec_records.specs.Durable.{Stored, allowed, changed_stored, counted_as, with_image, with_images, without}
+use Rattle.spec_records.specs.Sound.{is_sound}
 use Rattle.afs_volume.specs.Assembling.{are_read, make_volume}
 use Rattle.afs_volume.specs.Seen.{all_seen, kind_seen, volume_seen, AreReadable, IsReadable}
 use Rattle.afs_volume.specs.Taking.{is_among, put_but, stored_of, stored_with, without_all}

@@ -3,7 +3,7 @@ use Rattle.std.proofs.Common.{◌≡◌, ℕ, Bool, true, false, List, [], ◌�
 use Rattle.afs_num.specs.declared.directories.Name.{Name}
 use Rattle.afs_num.specs.declared.vnodes.Vnode as image
 use Rattle.afs_num.specs.declared.volumes.Change.{Change}
-use Rattle.afs_ideal.specs.Tables.{get}
+use Rattle.spec_ideal.specs.Tables.{get}
 use Rattle.afs_volume.specs.Given.{names_after, names_given}
 use Rattle.afs_volume.specs.Listed.{names_in}
 use Rattle.afs_volume.specs.Seen.{seen}

@@ -4,17 +4,17 @@ use Rattle.std.specs.Prelude.{◌&&◌, ◌||◌}
 use Rattle.std.specs.List.{list_all}
 use Rattle.std.proofs.lemmas.Bool.Decides.{nat_tests}
 use Rattle.afs_num.specs.declared.directories.Name.{Name}
-use Rattle.afs_ideal.specs.Tables.{Table, get, AscendsFrom}
-use Rattle.afs_ideal.specs.Operations.{is_kind, is_below, leads_up}
-use Rattle.afs_ideal.specs.Soundness.{names_it, names_of}
-use Rattle.afs_ideal.specs.VnodeMaps.{most_vnodes}
-use Rattle.afs_ideal.specs.Volumes.{Kind, a_file, a_directory, a_link, Vnode, Volume}
-use Rattle.afs_ideal.proofs.Basics.{both, both_true, some_of, yes_no}
-use Rattle.afs_ideal.proofs.Counts.{count_more, one_if}
-use Rattle.afs_ideal.proofs.Directories.{same_is}
-use Rattle.afs_ideal.proofs.Ranks.{Ranked, at, steps, reaching_ranked, HasParents, ranked_reaching}
-use Rattle.afs_ideal.proofs.Tables.{get_below}
-use Rattle.afs_records.specs.Sound.{ascends_from, gives_held, gives_one, has_by_kind, has_names, is_held_by, is_named_in, is_root, is_sound, is_sound_vnode, kind_is_right, same_test}
+use Rattle.spec_ideal.specs.Tables.{Table, get, AscendsFrom}
+use Rattle.spec_ideal.specs.Operations.{is_kind, is_below, leads_up}
+use Rattle.spec_ideal.specs.Soundness.{names_it, names_of}
+use Rattle.spec_ideal.specs.VnodeMaps.{most_vnodes}
+use Rattle.spec_ideal.specs.Volumes.{VnodeKind, a_file, a_directory, a_link, Vnode, Volume}
+use Rattle.spec_ideal.proofs.Basics.{both, both_true, some_of, yes_no}
+use Rattle.spec_ideal.proofs.Counts.{count_more, one_if}
+use Rattle.spec_ideal.proofs.Directories.{same_is}
+use Rattle.spec_ideal.proofs.Ranks.{Ranked, at, steps, reaching_ranked, HasParents, ranked_reaching}
+use Rattle.spec_ideal.proofs.Tables.{get_below}
+use Rattle.spec_records.specs.Sound.{ascends_from, gives_held, gives_one, has_by_kind, has_names, is_held_by, is_named_in, is_root, is_sound, is_sound_vnode, kind_is_right, same_test}
 use Rattle.afs_volume.specs.Taking.{is_among}
 use Rattle.afs_patch.specs.Patching.{gives_touched, is_right, is_unmoved, keeps_place, others_named, passes, passes_by, reaches, same_others, same_parent, KeepsNames}
 
@@ -257,7 +257,7 @@ still_given touched v w n u (m ∷ ms) k unmet h =
 
 -- a vnode that isn't touched is named as before
 
-no_names : (k : Kind) (links count : ℕ) → count ≡ 0 → has_names k links count ≡ true → ⊥
+no_names : (k : VnodeKind) (links count : ℕ) → count ≡ 0 → has_names k links count ≡ true → ⊥
 no_names a_directory links count e h = grind (arith, nat_tests, e, h)
 no_names a_file links count e h = grind (arith, nat_tests, e, (both (nat_eq count links) (not (nat_eq count 0)) h).1)
 no_names a_link links count e h = grind (arith, nat_tests, e, (both (nat_eq count links) (not (nat_eq count 0)) h).1)

@@ -7,12 +7,12 @@ use Rattle.std.specs.Option.{option_map}
 use Rattle.afs_num.specs.declared.vnodes.Vnode as image
 use Rattle.afs_num.specs.declared.volumes.Change.{Change}
 use Rattle.afs_num.specs.declared.volumes.VolumeHead.{VolumeHead}
-use Rattle.afs_ideal.specs.Tables.{Table, get, set, unset, AscendsFrom}
-use Rattle.afs_ideal.specs.VnodeImage.{FitsImage}
-use Rattle.afs_ideal.specs.Volumes.{Vnode, Volume}
-use Rattle.afs_ideal.proofs.Basics.{both, yes_no}
-use Rattle.afs_ideal.proofs.Tables.{ascends_set, ascends_unset, get_set, get_unset}
-use Rattle.afs_records.specs.Sound.{gives_one, is_named_in, is_sound}
+use Rattle.spec_ideal.specs.Tables.{Table, get, set, unset, AscendsFrom}
+use Rattle.spec_ideal.specs.VnodeImage.{FitsImage}
+use Rattle.spec_ideal.specs.Volumes.{Vnode, Volume}
+use Rattle.spec_ideal.proofs.Basics.{both, yes_no}
+use Rattle.spec_ideal.proofs.Tables.{ascends_set, ascends_unset, get_set, get_unset}
+use Rattle.spec_records.specs.Sound.{gives_one, is_named_in, is_sound}
 use Rattle.afs_volume.specs.Seen.{all_seen, seen, IsReadable}
 use Rattle.afs_volume.specs.Taking.{is_among, put_but, without_all, CanTakeIn}
 use Rattle.afs_volume.specs.declared.volume.Volume as volumes

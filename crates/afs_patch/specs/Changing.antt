@@ -2,8 +2,8 @@
 use Rattle.std.specs.Prelude.{◌≡◌, ◌<◌, ◌⊎◌, ℕ, List, Bool, false, is_some, length}
 use Rattle.std.specs.List.{list_all}
 use Rattle.afs_num.specs.declared.vnodes.Vnode as image
-use Rattle.afs_ideal.specs.Tables.{Table, get}
-use Rattle.afs_ideal.specs.VnodeMaps.{most_vnodes}
+use Rattle.spec_ideal.specs.Tables.{Table, get}
+use Rattle.spec_ideal.specs.VnodeMaps.{most_vnodes}
 use Rattle.afs_volume.specs.Seen.{all_seen}
 use Rattle.afs_volume.specs.Taking.{put_but, without_all}
 

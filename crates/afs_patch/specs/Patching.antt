@@ -5,11 +5,11 @@ use Rattle.std.specs.Str.{bytes_eq}
 use Rattle.afs_num.specs.declared.directories.Name.{Name}
 use Rattle.afs_num.specs.declared.vnodes.Vnode as image
 use Rattle.afs_num.specs.declared.volumes.Change.{Change}
-use Rattle.afs_ideal.specs.Operations.{is_kind, leads_up}
-use Rattle.afs_ideal.specs.Tables.{Table, get}
-use Rattle.afs_ideal.specs.VnodeMaps.{most_vnodes}
-use Rattle.afs_ideal.specs.Volumes.{a_directory, Vnode, Volume}
-use Rattle.afs_records.specs.Sound.{gives_one, has_by_kind, has_names, is_named_in, is_root, kind_is_right}
+use Rattle.spec_ideal.specs.Operations.{is_kind, leads_up}
+use Rattle.spec_ideal.specs.Tables.{Table, get}
+use Rattle.spec_ideal.specs.VnodeMaps.{most_vnodes}
+use Rattle.spec_ideal.specs.Volumes.{a_directory, Vnode, Volume}
+use Rattle.spec_records.specs.Sound.{gives_one, has_by_kind, has_names, is_named_in, is_root, kind_is_right}
 use Rattle.afs_volume.specs.Seen.{volume_seen}
 use Rattle.afs_volume.specs.Taking.{is_among, put_but, without_all}
 use Rattle.afs_volume.specs.declared.volume.Volume as volumes

@@ -2,9 +2,9 @@
 
 ghost use Rattle.std.specs.Prelude.{◌≡◌, ◌≤◌, ◌<◌, Err, None, Some, true, length, IfOk, OnOk};
 ghost use Rattle.std.specs.List.{list_all, AllByRecursion};
-ghost use Rattle.afs_ideal.specs.VnodeImage.{FitsImage};
-ghost use Rattle.afs_ideal.specs.VnodeMaps.{most_vnodes};
-ghost use Rattle.afs_records.specs.Durable.{changed_stored};
+ghost use Rattle.spec_ideal.specs.VnodeImage.{FitsImage};
+ghost use Rattle.spec_ideal.specs.VnodeMaps.{most_vnodes};
+ghost use Rattle.spec_records.specs.Durable.{changed_stored};
 ghost use Rattle.afs_vnode.specs.Stores.{AreVnodes};
 ghost use Rattle.afs_volume.specs.Seen.{IsReadable};
 ghost use Rattle.afs_volume.specs.Taking.{put_but, stored_of, without_all, CanTakeIn};

@@ -4,12 +4,12 @@
 ghost use Rattle.std.specs.Prelude.{◌≡◌, ◌≤◌, ◌+◌, ◌&&◌, ◌||◌, ◌<◌, ◌^◌, if◌then◌else◌, [], None, Some, true, nat_eq, length, IfOk};
 ghost use Rattle.std.specs.List.{list_all, AllByRecursion};
 ghost use Rattle.std.specs.Option.{option_copied, option_map};
-ghost use Rattle.afs_ideal.specs.Operations.{is_kind, leads_up};
-ghost use Rattle.afs_ideal.specs.Tables.{get};
-ghost use Rattle.afs_ideal.specs.VnodeImage.{FitsImage};
-ghost use Rattle.afs_ideal.specs.VnodeMaps.{most_vnodes};
-ghost use Rattle.afs_ideal.specs.Volumes.{a_directory};
-ghost use Rattle.afs_records.specs.Sound.{gives_one, is_named_in, is_root};
+ghost use Rattle.spec_ideal.specs.Operations.{is_kind, leads_up};
+ghost use Rattle.spec_ideal.specs.Tables.{get};
+ghost use Rattle.spec_ideal.specs.VnodeImage.{FitsImage};
+ghost use Rattle.spec_ideal.specs.VnodeMaps.{most_vnodes};
+ghost use Rattle.spec_ideal.specs.Volumes.{a_directory};
+ghost use Rattle.spec_records.specs.Sound.{gives_one, is_named_in, is_root};
 ghost use Rattle.afs_volume.specs.Seen.{seen, IsReadable};
 ghost use Rattle.afs_volume.specs.Taking.{is_among, CanTakeIn};
 ghost use Rattle.afs_patch.specs.Changing.{is_in};

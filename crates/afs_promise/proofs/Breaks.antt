@@ -8,9 +8,9 @@ use Rattle.std.specs.BinaryHeap.{IsUpperBound}
 use Rattle.std.specs.declared.cmp.Reverse.{Reverse}
 use Rattle.std.proofs.lemmas.Bool.Decides.{nat_tests}
 use Rattle.std.proofs.lemmas.List.Sorted.{list_any-IsPermutation}
-use Rattle.afs_breaks.specs.declared.types.OwedBreak.{OwedBreak}
+use Rattle.spec_breaks.specs.declared.types.OwedBreak.{OwedBreak}
 use Rattle.afs_promise.proofs.Split.{and_both}
-use Rattle.afs_breaks.specs.Promises.{has_break, without_break, lasting_breaks}
+use Rattle.spec_breaks.specs.Promises.{has_break, without_break, lasting_breaks}
 use Rattle.afs_promise.specs.Owing.{break_before, breaks_in, IsNumbered, Ascends, is_at, AreDue, has_some, is_due, struck, due_order, IsOwing}
 
 abbrev Entries : Type 0

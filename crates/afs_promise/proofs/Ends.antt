@@ -5,10 +5,10 @@ use Rattle.std.proofs.lemmas.Bool.Decides.{nat_tests}
 use Rattle.std.proofs.lemmas.List.{append-nil, take-append-drop}
 use Rattle.std.proofs.lemmas.List.Elements.{filter-append}
 use Rattle.afs_num.specs.declared.types.Node.{Node}
-use Rattle.afs_breaks.specs.declared.types.Promise.{Promise}
+use Rattle.spec_breaks.specs.declared.types.Promise.{Promise}
 use Rattle.afs_promise.specs.declared.types.Grant.{Grant}
 use Rattle.afs_promise.specs.declared.types.Holding.{Holding}
-use Rattle.afs_breaks.specs.Promises.{is_promise, without_promise, lasting}
+use Rattle.spec_breaks.specs.Promises.{is_promise, without_promise, lasting}
 use Rattle.afs_promise.specs.Granting.{holding_in, same_holding, has_order, is_held, held, IsIn, Rises, DoNotFall, IsLog, is_due, ends, reach}
 use Rattle.afs_promise.proofs.Held.{removed}
 use Rattle.afs_promise.proofs.Logs.{removed_log, held_alike}

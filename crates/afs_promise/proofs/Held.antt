@@ -6,10 +6,10 @@ use Rattle.afs_num.specs.Nodes.{same_node}
 use Rattle.afs_num.specs.declared.types.Fid.{Fid}
 use Rattle.afs_num.specs.declared.types.Node.{Node}
 use Rattle.afs_num.specs.declared.types.Node.TheVariants.{Loc, Server, Client, Admin}
-use Rattle.afs_breaks.specs.declared.types.Promise.{Promise}
+use Rattle.spec_breaks.specs.declared.types.Promise.{Promise}
 use Rattle.afs_promise.specs.declared.types.Grant.{Grant}
 use Rattle.afs_promise.specs.declared.types.Holding.{Holding}
-use Rattle.afs_breaks.specs.Promises.{is_promise, without_promise}
+use Rattle.spec_breaks.specs.Promises.{is_promise, without_promise}
 use Rattle.afs_promise.specs.Granting.{holding, holding_in, same_holding, has_order, is_held, held, Rises}
 
 nats_flip : (i j : ℕ) → nat_eq i j ≡ nat_eq j i

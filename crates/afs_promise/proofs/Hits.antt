@@ -8,10 +8,10 @@ use Rattle.afs_num.specs.Nodes.{same_node}
 use Rattle.afs_num.specs.declared.types.Fid.{Fid}
 use Rattle.afs_num.specs.declared.types.Node.{Node}
 use Rattle.afs_num.specs.declared.types.Node.TheVariants.{Loc, Server, Client, Admin}
-use Rattle.afs_breaks.specs.declared.types.Promise.{Promise}
+use Rattle.spec_breaks.specs.declared.types.Promise.{Promise}
 use Rattle.afs_promise.specs.declared.types.Grant.{Grant}
 use Rattle.afs_promise.specs.declared.types.Holding.{Holding}
-use Rattle.afs_breaks.specs.Promises.{without_promise, is_hit, hits, left}
+use Rattle.spec_breaks.specs.Promises.{without_promise, is_hit, hits, left}
 use Rattle.afs_promise.specs.Granting.{holding, holding_in, same_holding, has_order, is_held, held, IsIn, hit_of, earlier, oldest, IsLog}
 use Rattle.afs_promise.proofs.Held.{removed, same_key}
 use Rattle.afs_promise.proofs.Split.{IsWithout, Split, split, and_both, holding_itself}

@@ -8,10 +8,10 @@ use Rattle.std.proofs.lemmas.List.{take-append-le}
 use Rattle.afs_num.specs.Nodes.{same_node}
 use Rattle.afs_num.specs.declared.types.Fid.{Fid}
 use Rattle.afs_num.specs.declared.types.Node.{Node}
-use Rattle.afs_breaks.specs.declared.types.Promise.{Promise}
+use Rattle.spec_breaks.specs.declared.types.Promise.{Promise}
 use Rattle.afs_promise.specs.declared.types.Grant.{Grant}
 use Rattle.afs_promise.specs.declared.types.Holding.{Holding}
-use Rattle.afs_breaks.specs.Promises.{without_promise}
+use Rattle.spec_breaks.specs.Promises.{without_promise}
 use Rattle.afs_promise.specs.Granting.{holding, holding_in, same_holding, has_order, is_held, held, IsIn, Rises, DoNotFall, IsLog, goes_on}
 use Rattle.afs_promise.proofs.Held.{removed, replaced, held_last}
 use Rattle.afs_promise.proofs.Split.{IsWithout, split, holdings_are_one, holding_itself}

@@ -4,8 +4,8 @@ use Rattle.std.proofs.lemmas.Bool.Decides.{nat_tests}
 use Rattle.afs_num.specs.Nodes.{same_node}
 use Rattle.afs_num.specs.declared.types.Fid.{Fid}
 use Rattle.afs_num.specs.declared.types.Node.{Node}
-use Rattle.afs_breaks.specs.declared.types.Promise.{Promise}
-use Rattle.afs_breaks.specs.Promises.{is_hit, hits, lasting}
+use Rattle.spec_breaks.specs.declared.types.Promise.{Promise}
+use Rattle.spec_breaks.specs.Promises.{is_hit, hits, lasting}
 use Rattle.afs_promise.specs.declared.types.Grant.{Grant}
 use Rattle.afs_promise.specs.declared.types.Holding.{Holding}
 use Rattle.afs_promise.specs.Granting.{holding, holding_in, has_order, is_held, held, IsIn, Rises, hit_of, earlier, oldest, from_place, since, IsLog}

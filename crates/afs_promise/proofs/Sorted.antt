@@ -11,9 +11,9 @@ use Rattle.std.proofs.lemmas.Bool.Decides.{nat_tests}
 use Rattle.std.proofs.lemmas.List.Sorted.{All-permutation, IsPermutation-sym, sorted_far, ranks_by}
 use Rattle.std.proofs.lemmas.Map.Keys.{IsDistinct-IsPermutation}
 use Rattle.afs_num.specs.Fids.{fid_order}
-use Rattle.afs_breaks.specs.declared.types.Promise.{Promise}
+use Rattle.spec_breaks.specs.declared.types.Promise.{Promise}
 use Rattle.afs_promise.specs.declared.types.Grant.{Grant}
-use Rattle.afs_breaks.specs.Promises.{placed, by_fid}
+use Rattle.spec_breaks.specs.Promises.{promise_put, by_fid}
 use Rattle.afs_promise.specs.Granting.{promises_in, IsIn, Rises}
 use Rattle.afs_promise.proofs.Ends.{get_in, from_low}
 
@@ -27,19 +27,19 @@ inserted : List Grant → List Grant
 inserted [] = []
 inserted (g ∷ gs) = put g (inserted gs)
 
-put_promises : (g : Grant) (hs : List Grant) → promises_in (put g hs) ≡ placed g.promise (promises_in hs)
+put_promises : (g : Grant) (hs : List Grant) → promises_in (put g hs) ≡ promise_put g.promise (promises_in hs)
 unfolding put
 put_promises g [] = refl
 put_promises g (h ∷ hs) = by (is_lt (fid_order h.promise.fid g.promise.fid)) (put_promises g hs)
   where
-    by : (t : Bool) → promises_in (put g hs) ≡ placed g.promise (promises_in hs) → promises_in (if t then h ∷ put g hs else g ∷ h ∷ hs) ≡ (if t then h.promise ∷ placed g.promise (promises_in hs) else g.promise ∷ h.promise ∷ promises_in hs)
+    by : (t : Bool) → promises_in (put g hs) ≡ promise_put g.promise (promises_in hs) → promises_in (if t then h ∷ put g hs else g ∷ h ∷ hs) ≡ (if t then h.promise ∷ promise_put g.promise (promises_in hs) else g.promise ∷ h.promise ∷ promises_in hs)
     by true later = ap (λ (ps : List Promise). h.promise ∷ ps) later
     by false later = refl
 
 inserted_promises : (gs : List Grant) → promises_in (inserted gs) ≡ by_fid (promises_in gs)
 unfolding inserted
 inserted_promises [] = refl
-inserted_promises (g ∷ gs) = put_promises g (inserted gs) ∙ ap (placed g.promise) (inserted_promises gs)
+inserted_promises (g ∷ gs) = put_promises g (inserted gs) ∙ ap (promise_put g.promise) (inserted_promises gs)
 
 put_has : (z g : Grant) (hs : List Grant) → IsIn z (put g hs) → (g ≡ z) ⊎ IsIn z hs
 unfolding put

@@ -1,7 +1,7 @@
 -- A grant that is held parts the log: what is held before it and behind it stays, once it is gone.
 use Rattle.std.proofs.Common.{◌≡◌, inl, inr, ℕ, ◌+◌, ◌<◌, ◌≤◌, ◌&&◌, Bool, true, false, List, [], ◌∷◌, ◌++◌, Option, Some, None, nat_eq, if◌then◌else◌, refl, ap, sym, subst, ◌∙◌, arith}
 use Rattle.std.proofs.lemmas.Bool.Decides.{nat_tests}
-use Rattle.afs_breaks.specs.declared.types.Promise.{Promise}
+use Rattle.spec_breaks.specs.declared.types.Promise.{Promise}
 use Rattle.afs_promise.specs.declared.types.Grant.{Grant}
 use Rattle.afs_promise.specs.declared.types.Holding.{Holding}
 use Rattle.afs_promise.specs.Granting.{holding_in, same_holding, has_order, is_held, held, IsIn, Rises}

@@ -9,10 +9,10 @@ use Rattle.afs_num.specs.Nodes.{same_node}
 use Rattle.afs_num.specs.declared.types.Fid.{Fid}
 use Rattle.afs_num.specs.declared.types.Node.{Node}
 use Rattle.afs_num.specs.declared.types.Node.TheVariants.{Loc, Server, Client, Admin}
-use Rattle.afs_breaks.specs.declared.types.Promise.{Promise}
+use Rattle.spec_breaks.specs.declared.types.Promise.{Promise}
 use Rattle.afs_promise.specs.declared.types.Grant.{Grant}
 use Rattle.afs_promise.specs.declared.types.Holding.{Holding}
-use Rattle.afs_breaks.specs.Promises.{is_promise, without_promise, is_on, hits_on, lasting, left_off}
+use Rattle.spec_breaks.specs.Promises.{is_promise, without_promise, promise_on_volume, hits_on, lasting, left_off}
 use Rattle.afs_promise.specs.Granting.{is_held, held, lasting_grants, promises_in, is_held_on, held_on, IsIn}
 use Rattle.afs_promise.proofs.Ends.{filters_swap}
 use Rattle.afs_promise.proofs.Hits.{fids_are_one}
@@ -22,9 +22,9 @@ use Rattle.afs_promise.proofs.Split.{and_both}
 
 pub on_promises : (latest : Holding → Option Grant) (v : ℕ) (log : List Grant) → promises_in (held_on latest v log) ≡ hits_on v (held latest log)
 on_promises latest v [] = refl
-on_promises latest v (g ∷ gs) = by (is_on v g.promise) (is_held latest g) refl (on_promises latest v gs)
+on_promises latest v (g ∷ gs) = by (promise_on_volume v g.promise) (is_held latest g) refl (on_promises latest v gs)
   where
-    by : (o h : Bool) → is_on v g.promise ≡ o → promises_in (held_on latest v gs) ≡ hits_on v (held latest gs) → promises_in (if o && h then g ∷ held_on latest v gs else held_on latest v gs) ≡ hits_on v (if h then g.promise ∷ held latest gs else held latest gs)
+    by : (o h : Bool) → promise_on_volume v g.promise ≡ o → promises_in (held_on latest v gs) ≡ hits_on v (held latest gs) → promises_in (if o && h then g ∷ held_on latest v gs else held_on latest v gs) ≡ hits_on v (if h then g.promise ∷ held latest gs else held latest gs)
     by true true e later = rw e (ap (λ (ps : List Promise). g.promise ∷ ps) later)
     by true false e later = later
     by false true e later = rw e later
@@ -42,11 +42,11 @@ promises_last now (g ∷ gs) = by (nat_lt now g.promise.expiry) (promises_last n
 pub on_lasting : (latest : Holding → Option Grant) (v now : ℕ) (log : List Grant) → promises_in (lasting_grants now (held_on latest v log)) ≡ hits_on v (lasting now (held latest log))
 on_lasting latest v now log =
     promises_last now (held_on latest v log)
-    ∙ (ap (lasting now) (on_promises latest v log) ∙ filters_swap (λ (p : Promise). nat_lt now p.expiry) (is_on v) (held latest log))
+    ∙ (ap (lasting now) (on_promises latest v log) ∙ filters_swap (λ (p : Promise). nat_lt now p.expiry) (promise_on_volume v) (held latest log))
 
 pub on_few : (latest : Holding → Option Grant) (v : ℕ) (log : List Grant) → length (held_on latest v log) ≤ length (held latest log)
 on_few latest v [] = omega arith
-on_few latest v (g ∷ gs) = by (is_on v g.promise) (is_held latest g) (on_few latest v gs)
+on_few latest v (g ∷ gs) = by (promise_on_volume v g.promise) (is_held latest g) (on_few latest v gs)
   where
     by : (o h : Bool) → length (held_on latest v gs) ≤ length (held latest gs) → length (if o && h then g ∷ held_on latest v gs else held_on latest v gs) ≤ length (if h then g.promise ∷ held latest gs else held latest gs)
     by true true later = omega (arith, later)
@@ -139,7 +139,7 @@ takes_none p v (g ∷ gs) off on = by (same_node p.client g.promise.client) (sam
     by true false same later = later
     by false s same later = later
 
-taken_is : (x : Grant) (v : ℕ) (gs : List Grant) → ((y : Grant) → IsIn y gs → y.promise.fid.volume ≡ v) → (is_on v x.promise ≡ true → IsIn x gs) → (t : Bool) → is_on v x.promise ≡ t → list_any (takes x.promise) gs ≡ t
+taken_is : (x : Grant) (v : ℕ) (gs : List Grant) → ((y : Grant) → IsIn y gs → y.promise.fid.volume ≡ v) → (promise_on_volume v x.promise ≡ true → IsIn x gs) → (t : Bool) → promise_on_volume v x.promise ≡ t → list_any (takes x.promise) gs ≡ t
 taken_is x v gs on there true e = any_in x.promise x gs (there e) (takes_own x)
 taken_is x v gs on there false e = takes_none x.promise v gs e on
 
@@ -154,7 +154,7 @@ left_after latest v gs (x ∷ xs) on there = by (is_held latest x) refl (left_af
 
     by : (h : Bool) → is_held latest x ≡ h → filter (λ p. not (list_any (takes p) gs)) (held latest xs) ≡ left_off v (held latest xs)
         → filter (λ p. not (list_any (takes p) gs)) (if h then x.promise ∷ held latest xs else held latest xs) ≡ left_off v (if h then x.promise ∷ held latest xs else held latest xs)
-    by true h later = rw (taken_is x v gs on (λ o. there x h (inl refl) o) (is_on v x.promise) refl) (over (not (is_on v x.promise)) _ _ later)
+    by true h later = rw (taken_is x v gs on (λ o. there x h (inl refl) o) (promise_on_volume v x.promise) refl) (over (not (promise_on_volume v x.promise)) _ _ later)
     by false h later = later
 
 -- the promises on the volume go, and no other

@@ -1,7 +1,7 @@
 -- Promises that were looked for before they are withdrawn.
 use Rattle.std.specs.Prelude.{List, [], ◌∷◌}
-use Rattle.afs_breaks.specs.Promises.{without_promise}
-use Rattle.afs_breaks.specs.declared.types.Promise.{Promise}
+use Rattle.spec_breaks.specs.Promises.{without_promise}
+use Rattle.spec_breaks.specs.declared.types.Promise.{Promise}
 
 -- what is left without them: each takes what its client holds on its fid
 abbrev pub without_found : List Promise → List Promise → List Promise

@@ -6,7 +6,7 @@ use Rattle.std.specs.Map.{set_value}
 use Rattle.std.specs.Ordering.{nat_cmp, ordering_then}
 use Rattle.std.specs.declared.cmp.Ordering.{Ordering}
 use Rattle.std.specs.declared.cmp.Reverse.{Reverse}
-use Rattle.afs_breaks.specs.declared.types.OwedBreak.{OwedBreak}
+use Rattle.spec_breaks.specs.declared.types.OwedBreak.{OwedBreak}
 
 -- the breaks that are owed, the last number of one, and how many more can become owed without memory
 pub record Owing : Type 0 where

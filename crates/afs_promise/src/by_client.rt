@@ -4,16 +4,16 @@ ghost use Rattle.std.specs.Prelude.{◌≡◌, ◌++◌, ◌<◌, ℕ, List, [],
 ghost use Rattle.std.specs.List.{AllByRecursion};
 ghost use Rattle.std.specs.Option.{option_to_list};
 ghost use Rattle.indexmap.specs.IndexMap.{get};
-ghost use Rattle.afs_breaks.specs.Promises.{lasting};
-ghost use Rattle.afs_breaks.specs.declared.types.Promise.{Promise};
+ghost use Rattle.spec_breaks.specs.Promises.{lasting};
+ghost use Rattle.spec_breaks.specs.declared.types.Promise.{Promise};
 ghost use Rattle.afs_promise.specs.Gathered.{first_from, found_by, IsInOrder};
 ghost use Rattle.afs_promise.specs.Granting.{same_holding, hit_of, earlier, oldest, from_place};
 
 use crate::holding::holding;
 use crate::types::{Grant, Holding};
-use afs_breaks::types::Promise;
 use afs_num::types::{Fid, Mem, Node};
 use indexmap::IndexMap;
+use spec_breaks::types::Promise;
 use std::alloc::Global;
 
 /// The grant, where it doesn't stand before this place in the order of granting.

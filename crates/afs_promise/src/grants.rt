@@ -6,17 +6,17 @@ ghost use Rattle.std.specs.Option.{option_to_list};
 ghost use Rattle.std.specs.Vec.{vec_capacity, vec_len};
 ghost use Rattle.afs_num.specs.Nodes.{same_node};
 ghost use Rattle.afs_num.specs.declared.types.Node.{Node};
-ghost use Rattle.afs_breaks.specs.declared.types.Promise.{Promise};
-ghost use Rattle.afs_breaks.specs.Promises.{with_promise, without_promise, hits, left, hits_on, left_off, by_fid, lasting};
+ghost use Rattle.spec_breaks.specs.declared.types.Promise.{Promise};
+ghost use Rattle.spec_breaks.specs.Promises.{with_promise, without_promise, hits, left, hits_on, left_off, by_fid, lasting};
 ghost use Rattle.afs_promise.specs.Granting.{promises_in};
 
 use crate::by_client::{add_in_order, found_by, oldest};
 use crate::latest::{is_held, note, remove};
 use crate::log::{end_due, gather, goes_on, keep_lasting, reach, sort_by_fid};
 use crate::types::{Grant, Holding};
-use afs_breaks::types::Promise;
 use afs_num::types::{Fid, Mem, Node};
 use indexmap::IndexMap;
+use spec_breaks::types::Promise;
 use std::alloc::{AllocError, Global};
 use std::marker::Model;
 

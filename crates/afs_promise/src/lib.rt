@@ -10,6 +10,6 @@ mod owed;
 mod promises;
 mod types;
 
-pub use afs_breaks::types::{OwedBreak, Promise};
 pub use owed::{OwedBreaks, OwedList};
 pub use promises::Promises;
+pub use spec_breaks::types::{OwedBreak, Promise};

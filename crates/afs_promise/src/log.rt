@@ -6,7 +6,7 @@ ghost use Rattle.std.specs.List.Sorted.{IsPermutation};
 ghost use Rattle.std.specs.Vec.{vec_capacity, vec_len};
 ghost use Rattle.indexmap.specs.IndexMap.{get, spare};
 ghost use Rattle.afs_promise.specs.declared.types.Holding.{Holding};
-ghost use Rattle.afs_breaks.specs.Promises.{by_fid};
+ghost use Rattle.spec_breaks.specs.Promises.{by_fid};
 ghost use Rattle.afs_promise.specs.Granting.{holding_in, same_holding, is_held_on, is_due, ends, reach, goes_on, lasting_grants, promises_in, held_on, Rises};
 
 use crate::latest::{is_held, remove};

@@ -7,13 +7,13 @@ ghost use Rattle.std.specs.List.Sorted.{IsPermutation};
 ghost use Rattle.std.specs.BinaryHeap.{heap_items, heap_len, heap_capacity, IsHeap};
 ghost use Rattle.std.specs.declared.cmp.Reverse.{Reverse};
 ghost use Rattle.indexmap.specs.IndexMap.{get, spare};
-ghost use Rattle.afs_breaks.specs.Promises.{has_break, without_break, lasting_breaks};
+ghost use Rattle.spec_breaks.specs.Promises.{has_break, without_break, lasting_breaks};
 ghost use Rattle.afs_promise.specs.Owing.{has_some, is_due, struck, due_order};
 
-use afs_breaks::types::OwedBreak;
 use afs_num::types::{Fid, Mem, Node};
 use indexmap::IndexMap;
 use indexmap::map::Iter;
+use spec_breaks::types::OwedBreak;
 use std::alloc::Global;
 use std::cmp::Reverse;
 use std::collections::BinaryHeap;
@@ -255,7 +255,7 @@ pub struct OwedBreaks<'a> {
 
 impl<'a> Model for OwedBreaks<'a> {
     ghost use Rattle.std.specs.Prelude.{List};
-    ghost use Rattle.afs_breaks.specs.declared.types.OwedBreak.{OwedBreak};
+    ghost use Rattle.spec_breaks.specs.declared.types.OwedBreak.{OwedBreak};
     ghost use Rattle.afs_promise.specs.Owing.{breaks_in};
 
     ghost Value = { List OwedBreak };

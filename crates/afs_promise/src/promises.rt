@@ -1,15 +1,15 @@
 ghost use Rattle.std.specs.Prelude.{◌≡◌, ◌+◌, ◌<◌, ◌≤◌, ◌++◌, List, length, IfOk, IsOk, OnOk, OnErr};
 ghost use Rattle.std.specs.Vec.{vec_capacity};
-ghost use Rattle.afs_breaks.specs.declared.types.Promise.{Promise};
+ghost use Rattle.spec_breaks.specs.declared.types.Promise.{Promise};
 ghost use Rattle.afs_promise.specs.Granting.{promises_in};
-ghost use Rattle.afs_breaks.specs.Promises.{no_lists, grants, grants_all, gives_up, with_promises, owes_all, owes_from, by_fid, hits, hits_on, left, lasting, withdraws, withdraws_volume, withdrawn, ends, expired};
+ghost use Rattle.spec_breaks.specs.Promises.{no_lists, grants, grants_all, gives_up, with_promises, owes_all, owes_from, by_fid, hits, hits_on, left, lasting, withdraws, withdraws_volume, withdrawn, break_ended, expired};
 ghost use Rattle.afs_promise.specs.Found.{without_found};
 
 use crate::grants::Grants;
 use crate::owed::OwedList;
 use crate::types::Grant;
-use afs_breaks::types::Promise;
 use afs_num::types::{Fid, Mem, Node};
+use spec_breaks::types::Promise;
 use std::alloc::{AllocError, Global};
 use std::marker::Model;
 
@@ -31,7 +31,7 @@ pub struct Promises {
 impl Model for Promises {
     ghost use Rattle.std.specs.Prelude.{◌≡◌, ◌≤◌, [], length};
     ghost use Rattle.std.specs.Vec.{vec_capacity};
-    ghost use Rattle.afs_breaks.specs.Promises.{Lists};
+    ghost use Rattle.spec_breaks.specs.Promises.{Lists};
 
     ghost Value = { Lists };
 
@@ -284,14 +284,14 @@ impl Promises {
 
     /// The client has handled this break. It takes no memory.
     pub fn settled(&mut self, number: u32)
-        ensures { self.new ≡ ends number self.old }
+        ensures { self.new ≡ break_ended number self.old }
     {
         self.owed.end(number);
     }
 
     /// The client doesn't answer, and this break is given up. It takes no memory.
     pub fn quit(&mut self, number: u32)
-        ensures { self.new ≡ ends number self.old }
+        ensures { self.new ≡ break_ended number self.old }
     {
         self.owed.end(number);
     }

@@ -3,7 +3,7 @@ ghost use Rattle.std.specs.Hash as fed;
 ghost use Rattle.std.specs.Cmp.Rules.{hashing};
 ghost use Rattle.std.proofs.Common.{rules};
 
-use afs_breaks::types::Promise;
+use spec_breaks::types::Promise;
 use std::hash::{Hash, Hasher};
 
 /// A promise, and its place in the order of granting.

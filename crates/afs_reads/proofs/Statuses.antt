@@ -3,15 +3,15 @@ use Rattle.std.proofs.Common.{◌≡◌, ◌<◌, ◌≤◌, ◌++◌, ℕ, zero
 use Rattle.std.specs.List.{AllByRecursion}
 use Rattle.std.specs.Option.{option_map}
 use Rattle.afs_num.specs.declared.types.Fid.{Fid}
-use Rattle.afs_ideal.specs.Operations.{Caller, Found, Result, limited, refused, reads, shows_statuses, changes, no_operation, one_more, statuses}
-use Rattle.afs_ideal.specs.Replies.{found_status, reading_reply, vnode_or_none}
-use Rattle.afs_ideal.specs.Volumes.{Vnode, Volume, vnode_of}
+use Rattle.spec_ideal.specs.Operations.{Caller, Found, Result, limited, refused, reads, shows_statuses, changes, no_operation, one_more, shows_several}
+use Rattle.spec_ideal.specs.Replies.{found_status, reading_reply, vnode_or_none}
+use Rattle.spec_ideal.specs.Volumes.{Vnode, Volume, vnode_of}
 use Rattle.afs_num.specs.declared.calls.AfsCallBack.{AfsCallBack}
 use Rattle.afs_num.specs.declared.calls.AfsFetchStatus.{AfsFetchStatus}
 use Rattle.afs_num.specs.declared.calls.AfsVolSync.{AfsVolSync}
 use Rattle.afs_num.specs.declared.calls.FsReply.{FsReply}
 use Rattle.afs_num.specs.declared.calls.FsReply.TheVariants as replies
-use Rattle.afs_shape.specs.Rows.{no_callback}
+use Rattle.spec_shape.specs.Rows.{no_callback}
 use Rattle.afs_reads.specs.Bulk.{refusal_at, IsShown, IsRefusal, found_of, status_seen, sync_beside}
 use Rattle.afs_reads.specs.Replying.{refusal_of, reply_of, times_of}
 use Rattle.afs_volume.specs.Giving.{volume_of}
@@ -23,10 +23,10 @@ shown_by : (f : Fid) (t : Option ℕ) (o : Option Vnode) (r : Result) (xs : List
 shown_by f t None r xs passes there is = absurd cc
 shown_by f t (Some x) r xs passes there is = rw (passes, is) refl
 
-pub all_shown : (caller : Caller) (v : Volume) (fs : List Fid) → AllByRecursion (λ (f : Fid). IsShown caller v f) fs → statuses caller v fs ≡ reads (shows_statuses (map (λ (f : Fid). found_of v f) fs))
+pub all_shown : (caller : Caller) (v : Volume) (fs : List Fid) → AllByRecursion (λ (f : Fid). IsShown caller v f) fs → shows_several caller v fs ≡ reads (shows_statuses (map (λ (f : Fid). found_of v f) fs))
 all_shown caller v [] all = refl
 all_shown caller v (f ∷ fs) all =
-    shown_by f (refusal_at caller v f) (vnode_of f v) (statuses caller v fs) (map (λ (g : Fid). found_of v g) fs) all.0.passes all.0.there (all_shown caller v fs all.1)
+    shown_by f (refusal_at caller v f) (vnode_of f v) (shows_several caller v fs) (map (λ (g : Fid). found_of v g) fs) all.0.passes all.0.there (all_shown caller v fs all.1)
 
 first_by : (f : Fid) (t : Option ℕ) (o : Option Vnode) (r : Result) (z : ℤ) → option_map pos t ≡ Some z → option_map pos (refusal_of (one_more f t o r)) ≡ Some z
 first_by f None o r z is = absurd cc
@@ -39,18 +39,18 @@ later_by f t (Some x) (reads shown) z passes there is = absurd cc
 later_by f t (Some x) (changes es n) z passes there is = absurd cc
 later_by f t (Some x) no_operation z passes there is = absurd cc
 
-pub refused_at : (caller : Caller) (v : Volume) (fs : List Fid) (i : ℕ) (f : Fid) (z : ℤ) → i < length fs → (d : Fid) → f ≡ get_or fs i d → AllByRecursion (λ (g : Fid). IsShown caller v g) (take i fs) → option_map pos (refusal_at caller v f) ≡ Some z → option_map pos (refusal_of (statuses caller v fs)) ≡ Some z
+pub refused_at : (caller : Caller) (v : Volume) (fs : List Fid) (i : ℕ) (f : Fid) (z : ℤ) → i < length fs → (d : Fid) → f ≡ get_or fs i d → AllByRecursion (λ (g : Fid). IsShown caller v g) (take i fs) → option_map pos (refusal_at caller v f) ≡ Some z → option_map pos (refusal_of (shows_several caller v fs)) ≡ Some z
 refused_at caller v [] i f z lt d is all refusal = absurd (omega (arith, lt))
 refused_at caller v (g ∷ fs) zero f z lt d is all refusal =
-    first_by g (refusal_at caller v g) (vnode_of g v) (statuses caller v fs) z (subst (λ (h : Fid). option_map pos (refusal_at caller v h) ≡ Some z) is refusal)
+    first_by g (refusal_at caller v g) (vnode_of g v) (shows_several caller v fs) z (subst (λ (h : Fid). option_map pos (refusal_at caller v h) ≡ Some z) is refusal)
 refused_at caller v (g ∷ fs) (suc i) f z lt d is all refusal =
-    later_by g (refusal_at caller v g) (vnode_of g v) (statuses caller v fs) z all.0.passes all.0.there (refused_at caller v fs i f z (omega (arith, lt)) d is all.1 refusal)
+    later_by g (refusal_at caller v g) (vnode_of g v) (shows_several caller v fs) z all.0.passes all.0.there (refused_at caller v fs i f z (omega (arith, lt)) d is all.1 refusal)
 
 pub map_twice : {A B C : Type 0} (g : B → C) (h : A → B) (xs : List A) → map g (map h xs) ≡ map (λ (x : A). g (h x)) xs
 map_twice {A} {B} {C} g h [] = refl
 map_twice {A} {B} {C} g h (x ∷ xs) = ap (λ (t : List C). g (h x) ∷ t) (map_twice g h xs)
 
-pub refused_all : (caller : Caller) (v : Volume) (fs : List Fid) (i : ℕ) (f : Fid) (e : OpFault) → i < length fs → (d : Fid) → f ≡ get_or fs i d → AllByRecursion (λ (g : Fid). IsShown caller v g) (take i fs) → IsRefusal (refusal_at caller v f) e → IsRefusal (refusal_of (statuses caller v fs)) e
+pub refused_all : (caller : Caller) (v : Volume) (fs : List Fid) (i : ℕ) (f : Fid) (e : OpFault) → i < length fs → (d : Fid) → f ≡ get_or fs i d → AllByRecursion (λ (g : Fid). IsShown caller v g) (take i fs) → IsRefusal (refusal_at caller v f) e → IsRefusal (refusal_of (shows_several caller v fs)) e
 refused_all caller v fs i f (faults.Code code) lt d is all refusal = refused_at caller v fs i f code.0 lt d is all refusal
 refused_all caller v fs i f faults.OutOfMemory lt d is all refusal = tt
 

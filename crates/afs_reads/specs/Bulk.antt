@@ -4,12 +4,12 @@ use Rattle.std.specs.Option.{option_map}
 use Rattle.afs_num.specs.declared.types.Fid.{Fid}
 use Rattle.afs_num.specs.declared.calls.AfsFetchStatus.{AfsFetchStatus}
 use Rattle.afs_num.specs.declared.calls.AfsVolSync.{AfsVolSync}
-use Rattle.afs_shape.specs.Rows.{no_sync}
+use Rattle.spec_shape.specs.Rows.{no_sync}
 use Rattle.afs_num.specs.declared.calls.FsCall.TheVariants as calls
-use Rattle.afs_ideal.specs.Operations.{Caller, Found, first_failing, tests}
-use Rattle.afs_ideal.specs.Replies.{found_status, sync_of, vnode_or_none}
-use Rattle.afs_ideal.specs.Volumes as ideal
-use Rattle.afs_ideal.specs.Volumes.{vnode_of}
+use Rattle.spec_ideal.specs.Operations.{Caller, Found, first_failing, tests}
+use Rattle.spec_ideal.specs.Replies.{found_status, sync_of, vnode_or_none}
+use Rattle.spec_ideal.specs.Volumes as ideal
+use Rattle.spec_ideal.specs.Volumes.{vnode_of}
 use Rattle.afs_reads.specs.Replying.{times_of}
 use Rattle.afs_volume.specs.Giving.{volume_of}
 use Rattle.afs_reads.specs.declared.faults.OpFault.{OpFault}

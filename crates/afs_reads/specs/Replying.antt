@@ -1,10 +1,10 @@
 -- What the reading calls on a volume give, and their refusals.
 use Rattle.std.specs.Prelude.{◌≡◌, ◌≤◌, ℕ, length, pos, Option, Some, None, Result, Ok, Err, Bool, true, false}
 use Rattle.std.specs.Option.{option_map}
-use Rattle.afs_ideal.specs.Operations as op
-use Rattle.afs_ideal.specs.Operations.{Caller, the_user, all_rights, refused, reads, changes}
-use Rattle.afs_ideal.specs.VnodeImage.{most_acl, most_contents}
-use Rattle.afs_ideal.specs.Volumes as ideal
+use Rattle.spec_ideal.specs.Operations as op
+use Rattle.spec_ideal.specs.Operations.{Caller, the_user, all_rights, refused, reads, changes}
+use Rattle.spec_ideal.specs.VnodeImage.{most_acl, most_contents}
+use Rattle.spec_ideal.specs.Volumes as ideal
 use Rattle.afs_volume.specs.Seen.{seen}
 use Rattle.afs_num.specs.declared.calls.FsCall.{FsCall}
 use Rattle.afs_num.specs.declared.calls.FsCall.TheVariants as calls
@@ -12,9 +12,9 @@ use Rattle.afs_num.specs.declared.calls.FsReply.{FsReply}
 use Rattle.afs_num.specs.declared.calls.FsReply.TheVariants as replies
 use Rattle.afs_num.specs.declared.calls.AfsFetchStatus.{AfsFetchStatus}
 use Rattle.afs_num.specs.declared.types.Fid.{Fid}
-use Rattle.afs_shape.specs.Tables.{IsVolumeKind}
-use Rattle.afs_ideal.specs.Replies.{reading_reply}
-use Rattle.afs_ideal.specs.Tables.{get}
+use Rattle.spec_shape.specs.Tables.{IsVolumeKind}
+use Rattle.spec_ideal.specs.Replies.{reading_reply}
+use Rattle.spec_ideal.specs.Tables.{get}
 use Rattle.afs_num.specs.declared.vnodes.Vnode as image
 use Rattle.afs_volume.specs.declared.volume.Volume.{Volume}
 use Rattle.afs_reads.specs.declared.callers.Caller as callers

@@ -3,8 +3,8 @@
 ghost use Rattle.std.specs.Prelude.{◌≡◌, ◌≤◌, length, map, IfErr, IfOk, OnOk};
 ghost use Rattle.afs_num.specs.declared.calls.FsCall.TheVariants as calls;
 ghost use Rattle.afs_num.specs.declared.types.Fid.{Fid};
-ghost use Rattle.afs_shape.specs.Rows.{no_callback};
-ghost use Rattle.afs_ideal.specs.Operations.{op, reads, shows_statuses, statuses};
+ghost use Rattle.spec_shape.specs.Rows.{no_callback};
+ghost use Rattle.spec_ideal.specs.Operations.{op, reads, shows_statuses, shows_several};
 ghost use Rattle.afs_reads.specs.Bulk.{found_of, refusal_at, status_seen, sync_beside, IsRefusal, IsShown};
 ghost use Rattle.afs_reads.specs.Replying.{caller_seen, most_fids, refusal_of, FitsReply, Replies};
 ghost use Rattle.afs_volume.specs.Giving.{volume_of};
@@ -45,9 +45,9 @@ fn status_of(volume: &Volume, caller: &Caller, fid: &Fid) -> Result<AfsFetchStat
 
 /// The statuses of the fids.
 fn statuses(volume: &Volume, caller: &Caller, fids: &[Fid]) -> Result<Statuses, OpFault>
-    ensures shown { OnOk result (statuses (caller_seen caller.now) (volume_of volume.now) fids.now ≡ reads (shows_statuses (map (λ (f : Fid). found_of (volume_of volume.now) f) fids.now))) }
+    ensures shown { OnOk result (shows_several (caller_seen caller.now) (volume_of volume.now) fids.now ≡ reads (shows_statuses (map (λ (f : Fid). found_of (volume_of volume.now) f) fids.now))) }
     ensures value { IfOk result (λ ss. ss ≡ map (λ (f : Fid). status_seen (caller_seen caller.now) volume.now f) fids.now) }
-    ensures refused { IfErr result (IsRefusal (refusal_of (statuses (caller_seen caller.now) (volume_of volume.now) fids.now))) }
+    ensures refused { IfErr result (IsRefusal (refusal_of (shows_several (caller_seen caller.now) (volume_of volume.now) fids.now))) }
 {
     let mut told = Statuses::new(volume.alloc);
     for fid in fids {

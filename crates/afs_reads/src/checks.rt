@@ -1,6 +1,6 @@
 ghost use Rattle.std.specs.Prelude.{◌≡◌, OnOk};
 ghost use Rattle.std.specs.List.{AllByRecursion};
-ghost use Rattle.afs_ideal.specs.Operations.{first_failing};
+ghost use Rattle.spec_ideal.specs.Operations.{first_failing};
 ghost use Rattle.afs_reads.specs.Replying.{checked, HasPassed, Passes};
 
 use crate::faults::OpFault;

@@ -2,9 +2,9 @@
 
 ghost use Rattle.std.specs.Prelude.{◌≡◌, Some, IfOk, IfSome};
 ghost use Rattle.std.specs.Option.{option_copied, option_map};
-ghost use Rattle.afs_ideal.specs.Tables.{get};
-ghost use Rattle.afs_ideal.specs.VnodeImage.{FitsImage};
-ghost use Rattle.afs_ideal.specs.Volumes.{if_unique, vnode_of};
+ghost use Rattle.spec_ideal.specs.Tables.{get};
+ghost use Rattle.spec_ideal.specs.VnodeImage.{FitsImage};
+ghost use Rattle.spec_ideal.specs.Volumes.{if_unique, vnode_of};
 ghost use Rattle.afs_volume.specs.Giving.{volume_of};
 ghost use Rattle.afs_reads.specs.Replying.{Finds};
 ghost use Rattle.afs_volume.specs.Seen.{seen, IsReadable};

@@ -2,9 +2,9 @@
 
 ghost use Rattle.std.specs.Prelude.{◌≡◌, true, IfOk};
 ghost use Rattle.afs_num.specs.declared.calls.FsCall.TheVariants as calls;
-ghost use Rattle.afs_ideal.specs.AccessLists.{acl_text};
-ghost use Rattle.afs_ideal.specs.Operations.{is_kind, op, the_user, IsOn};
-ghost use Rattle.afs_ideal.specs.Volumes.{a_directory};
+ghost use Rattle.spec_ideal.specs.AccessLists.{acl_text};
+ghost use Rattle.spec_ideal.specs.Operations.{is_kind, op, the_user, IsOn};
+ghost use Rattle.spec_ideal.specs.Volumes.{a_directory};
 ghost use Rattle.afs_reads.specs.Replying.{caller_seen, is_reading, FitsCall, FitsReply, Replies};
 ghost use Rattle.afs_volume.specs.Giving.{volume_of};
 ghost use Rattle.afs_volume.specs.Seen.{seen, IsReadable};

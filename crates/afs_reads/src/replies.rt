@@ -1,9 +1,9 @@
 //! Statuses, and the words of a volume beside them.
 
 ghost use Rattle.std.specs.Prelude.{◌≡◌};
-ghost use Rattle.afs_shape.specs.Rows.{no_callback, no_sync};
-ghost use Rattle.afs_ideal.specs.Replies.{sync_of};
-ghost use Rattle.afs_ideal.specs.VnodeImage.{FitsImage};
+ghost use Rattle.spec_shape.specs.Rows.{no_callback, no_sync};
+ghost use Rattle.spec_ideal.specs.Replies.{sync_of};
+ghost use Rattle.spec_ideal.specs.VnodeImage.{FitsImage};
 ghost use Rattle.afs_volume.specs.Giving.{volume_of};
 ghost use Rattle.afs_reads.specs.Replying.{IsStatus};
 ghost use Rattle.afs_volume.specs.Seen.{IsReadable};

@@ -2,9 +2,9 @@
 
 ghost use Rattle.std.specs.Prelude.{◌≡◌, Some};
 ghost use Rattle.std.specs.Option.{option_copied, option_map};
-ghost use Rattle.afs_ideal.specs.AccessLists.{anyuser, no_acl, rights_of};
-ghost use Rattle.afs_ideal.specs.Operations.{acl_of, list_for, may, rights_by};
-ghost use Rattle.afs_ideal.specs.Volumes.{has_bit};
+ghost use Rattle.spec_ideal.specs.AccessLists.{anyuser, no_acl, rights_of};
+ghost use Rattle.spec_ideal.specs.Operations.{acl_of, list_for, may, rights_by};
+ghost use Rattle.spec_ideal.specs.Volumes.{has_bit};
 ghost use Rattle.afs_reads.specs.Replying.{caller_seen};
 ghost use Rattle.afs_volume.specs.Giving.{volume_of};
 ghost use Rattle.afs_volume.specs.Seen.{seen, list_spelled};
@@ -31,7 +31,7 @@ impl Rights {
 }
 
 /// The rights where there is no access list: none, but for those of a caller with all rights.
-#[tactic(auto, unfolding(afs_ideal::specs::AccessLists::rights_of))]
+#[tactic(auto, unfolding(spec_ideal::specs::AccessLists::rights_of))]
 fn rights_without(caller: &Caller) -> Rights
     ensures caller { result.caller ≡ rights_by (caller_seen caller.now) no_acl }
     ensures anonymous { result.anonymous ≡ rights_of anyuser no_acl }
@@ -47,7 +47,7 @@ fn rights_without(caller: &Caller) -> Rights
 }
 
 /// The rights of a user, and everyone's, by the access list of this text; a text that is no list gives none.
-#[tactic(auto, unfolding(afs_volume::specs::Seen::list_spelled, afs_ideal::specs::AccessLists::rights_of))]
+#[tactic(auto, unfolding(afs_volume::specs::Seen::list_spelled, spec_ideal::specs::AccessLists::rights_of))]
 fn rights_of_user(user: &[u8], text: &[u8]) -> Rights
     ensures caller { result.caller ≡ rights_of user.now (list_spelled text.now) }
     ensures anonymous { result.anonymous ≡ rights_of anyuser (list_spelled text.now) }

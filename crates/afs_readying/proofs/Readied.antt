@@ -8,17 +8,17 @@ use Rattle.std.proofs.lemmas.List.{length-map}
 use Rattle.afs_num.specs.declared.vnodes.Vnode as image
 use Rattle.afs_num.specs.declared.volumes.VolumeHead.{VolumeHead}
 use Rattle.afs_num.specs.declared.records.StoredVolume.{StoredVolume}
-use Rattle.afs_shape.specs.Taking.{◌>>=◌}
-use Rattle.afs_ideal.specs.Images.{value_of, values_of, with_value}
-use Rattle.afs_ideal.specs.Volumes.{Vnode}
-use Rattle.afs_ideal.specs.Tables.{Table, set, AscendsFrom}
-use Rattle.afs_ideal.specs.VnodeImage.{FitsImage}
-use Rattle.afs_ideal.specs.VnodeMaps.{most_vnodes, is_full_for}
-use Rattle.afs_records.specs.Durable.{Durable, Stored, allowed, by_number, stored_of, times_of, volume_with, with_stored, with_volumes}
-use Rattle.afs_records.specs.Forms.{image_form}
-use Rattle.afs_records.specs.Records.{are_listed, ascend_from, listed, marked_form, row, volume_form, was_changed}
+use Rattle.spec_shape.specs.Taking.{◌>>=◌}
+use Rattle.spec_ideal.specs.Images.{value_of, values_of, with_value}
+use Rattle.spec_ideal.specs.Volumes.{Vnode}
+use Rattle.spec_ideal.specs.Tables.{Table, set, AscendsFrom}
+use Rattle.spec_ideal.specs.VnodeImage.{FitsImage}
+use Rattle.spec_ideal.specs.VnodeMaps.{most_vnodes, is_full_for}
+use Rattle.spec_records.specs.Durable.{Durable, Stored, allowed, by_number, stored_of, times_of, volume_with, with_stored, with_volumes}
+use Rattle.spec_records.specs.Forms.{image_form}
+use Rattle.spec_records.specs.Records.{are_listed, ascend_from, listed_vnode, marked_form, row, volume_form, was_changed}
 use Rattle.afs_num.specs.declared.records.RecordBody.TheVariants as bodies
-use Rattle.afs_records.specs.Sound.{is_sound}
+use Rattle.spec_records.specs.Sound.{is_sound}
 use Rattle.afs_volume.specs.Assembling.{make_volume}
 use Rattle.afs_num.specs.Nodes.{is_between}
 use Rattle.afs_volume.specs.Seen.{all_seen, seen, volume_seen, FitsHead}
@@ -83,12 +83,12 @@ pub in_order : (s : StoredVolume) → volume_form.Fits s → AreInOrder s.vnodes
 unfolding volume_form
 in_order s fits =
     let vnodes = fits.0.1.1.1.1.1.1.1.1.1.1 in
-    let whole = both (not (nat_lt most_vnodes (length (map listed s.vnodes)))) (are_listed (map listed s.vnodes) s.vnodes && (ascend_from 0 s.vnodes && list_all was_changed s.vnodes)) vnodes.1.1 in
-    let rest = both (are_listed (map listed s.vnodes) s.vnodes) (ascend_from 0 s.vnodes && list_all was_changed s.vnodes) whole.1 in
+    let whole = both (not (nat_lt most_vnodes (length (map listed_vnode s.vnodes)))) (are_listed (map listed_vnode s.vnodes) s.vnodes && (ascend_from 0 s.vnodes && list_all was_changed s.vnodes)) vnodes.1.1 in
+    let rest = both (are_listed (map listed_vnode s.vnodes) s.vnodes) (ascend_from 0 s.vnodes && list_all was_changed s.vnodes) whole.1 in
     record {
       fits = fit_images s.vnodes vnodes.1.0;
       ascend = (both (ascend_from 0 s.vnodes) (list_all was_changed s.vnodes) rest.1).0;
-      few = whole_few (map listed s.vnodes) (length s.vnodes) (length-map s.vnodes listed) whole.0;
+      few = whole_few (map listed_vnode s.vnodes) (length s.vnodes) (length-map s.vnodes listed_vnode) whole.0;
     }
 
 kind_within : (n : ℕ) (b : Bool) → is_between 0 2 n ≡ b → (if b then Some n else None) ≡ Some n → n ≤ 2

@@ -1,7 +1,7 @@
 -- A record that is ready for the disk: it is spelled, and what it says is ready to be done.
 use Rattle.std.specs.Prelude.{◌≡◌, Option, Some, None}
 use Rattle.afs_num.specs.declared.records.StoreRecord.{StoreRecord}
-use Rattle.afs_records.specs.Records.{record_bytes, FitsRecord}
+use Rattle.spec_records.specs.Records.{record_bytes, FitsRecord}
 use Rattle.afs_memory.specs.Redoing.{FitsRedo}
 use Rattle.afs_memory.specs.Redos.{record_of, IsReady}
 use Rattle.afs_readying.specs.declared.prepared.Prepared.{Prepared}

@@ -3,11 +3,11 @@
 ghost use Rattle.std.specs.Prelude.{◌≡◌, ◌≤◌, ◌||◌, Bool, Err, true, false, is_some, length, IfOk, IfSome};
 ghost use Rattle.afs_num.specs.declared.records.RecordBody.TheVariants as bodies;
 ghost use Rattle.afs_num.specs.Nodes.{node_number};
-ghost use Rattle.afs_ideal.specs.Tables.{get};
-ghost use Rattle.afs_records.specs.Records.{most_name, row, server_form};
-ghost use Rattle.afs_fold.specs.Deeds.{can_take, has_volume, has_volume_room};
+ghost use Rattle.spec_ideal.specs.Tables.{get};
+ghost use Rattle.spec_records.specs.Records.{most_name, row, server_form};
+ghost use Rattle.spec_fold.specs.Deeds.{can_take, has_volume, has_volume_room};
 ghost use Rattle.afs_record.specs.declared.faults.Unfit.TheVariants.{Bad};
-ghost use Rattle.afs_shape.specs.Tables.{IsVolumeKind};
+ghost use Rattle.spec_shape.specs.Tables.{IsVolumeKind};
 ghost use Rattle.afs_shelves.specs.Deeds.{clone_by, deed_body, SuitsDeed};
 ghost use Rattle.afs_shelves.specs.Shelving.{is_new_in, kept_on, stored_as};
 

@@ -2,11 +2,11 @@
 
 ghost use Rattle.std.specs.Prelude.{◌≡◌, ◌≤◌, Err, None, true, false, length, map, IfOk};
 ghost use Rattle.std.specs.List.{list_all, AllByRecursion};
-ghost use Rattle.afs_ideal.specs.VnodeImage.{FitsImage};
-ghost use Rattle.afs_ideal.specs.VnodeMaps.{most_vnodes};
-ghost use Rattle.afs_records.specs.Durable.{Durable, by_number, stored_of, with_volumes};
-ghost use Rattle.afs_records.specs.Records.{ascend_from, record_bytes, row, volume_form, FitsRecord};
-ghost use Rattle.afs_fold.specs.Fold.{body_taken};
+ghost use Rattle.spec_ideal.specs.VnodeImage.{FitsImage};
+ghost use Rattle.spec_ideal.specs.VnodeMaps.{most_vnodes};
+ghost use Rattle.spec_records.specs.Durable.{Durable, by_number, stored_of, with_volumes};
+ghost use Rattle.spec_records.specs.Records.{ascend_from, record_bytes, row, volume_form, FitsRecord};
+ghost use Rattle.spec_fold.specs.Fold.{body_taken};
 ghost use Rattle.afs_volume.specs.Assembling.{can_be_read};
 ghost use Rattle.afs_volume.specs.Listed.{listed_as};
 ghost use Rattle.afs_volume.specs.Seen.{IsReadable};
@@ -31,13 +31,13 @@ use afs_num::vnodes::{Vnode, VnodeNumbers, Vnodes};
 use afs_num::volumes::Change;
 use afs_record::faults::{RecordFault, Unfit};
 use afs_record::records::{decode_record, encode_record};
-use afs_records::laws::records_are_read_again;
 use afs_shelves::deed::{Deed, RestoreDeed};
 use afs_vnode::copying::copy_vnodes;
 use afs_vnode::faults::VnodeFault;
 use afs_vnode::store::VnodeStore;
 use afs_volume::faults::AssembleFault;
 use afs_volume::{ReadyChange, ReadyNames, Volume};
+use spec_records::laws::records_are_read_again;
 use std::alloc::{AllocError, Global};
 
 /// The vnodes of a volume by their numbers.

@@ -1,10 +1,10 @@
 -- Reading one value after the other, as a loop does.
 use Rattle.std.proofs.Common.{◌≡◌, ℕ, zero, suc, false, length, drop, ◌-◌, ◌+◌, ◌≤◌, ◌<◌, List, [], ◌∷◌, ◌++◌, Option, Some, None, refl, sym, ap, ◌∙◌, append_assoc, arith}
 use Rattle.std.proofs.lemmas.List.{append-nil}
-use Rattle.afs_shape.specs.Taking.{◌>>=◌}
+use Rattle.spec_shape.specs.Taking.{◌>>=◌}
 use Rattle.afs_num.specs.declared.vnodes.Vnode.{Vnode}
-use Rattle.afs_records.specs.Forms.{many_at}
-use Rattle.afs_records.specs.Records.{are_listed}
+use Rattle.spec_records.specs.Forms.{many_at}
+use Rattle.spec_records.specs.Records.{are_listed}
 
 -- what was read before, and what is still read
 abbrev pub with_front : {T : Type 0} → List T → Option (List T × List ℕ) → Option (List T × List ℕ)

@@ -1,7 +1,7 @@
 -- What a call that reads a form gives, in terms of the bytes that were left.
 use Rattle.std.specs.Prelude.{◌≡◌, ℕ, List, Option, Some, None, Result, Ok, Err}
 use Rattle.afs_xdr.specs.Reading.{Reading}
-use Rattle.afs_records.specs.Records.{made_at_end}
+use Rattle.spec_records.specs.Records.{made_at_end}
 use Rattle.afs_record.specs.declared.faults.RecordFault.{RecordFault}
 use Rattle.afs_record.specs.declared.faults.RecordFault.TheVariants as faults
 

@@ -1,8 +1,8 @@
 //! Forms: how a value is written, and how it is read.
 
 ghost use Rattle.std.specs.Prelude.{◌≡◌, ◌++◌, OnOk};
-ghost use Rattle.afs_records.specs.Forms as forms;
-ghost use Rattle.afs_records.specs.Records.{between, kind_form, server_form, flag_form, flag_number};
+ghost use Rattle.spec_records.specs.Forms as forms;
+ghost use Rattle.spec_records.specs.Records.{between, kind_form, server_form, flag_form, flag_number};
 ghost use Rattle.afs_record.specs.Reading.{ReadsForm};
 
 use crate::faults::RecordFault;
@@ -17,7 +17,7 @@ use std::alloc::Global;
 
 /// How values are spelled in a record. Of what a form reads nothing is limited but by the bytes that are there.
 pub trait Form {
-    ghost use Rattle.afs_records.specs.Forms as forms;
+    ghost use Rattle.spec_records.specs.Forms as forms;
 
     type Value: Drop;
 

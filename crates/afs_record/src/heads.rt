@@ -1,7 +1,7 @@
 //! What stands before the fields of each record.
 
 ghost use Rattle.std.specs.Prelude.{◌≡◌, ◌++◌, OnOk};
-ghost use Rattle.afs_records.specs.Records.{caller_form, caller_number, head_form, may_call, tells_call};
+ghost use Rattle.spec_records.specs.Records.{caller_form, caller_number, head_form, may_call, tells_call};
 ghost use Rattle.afs_record.specs.Reading.{ReadsForm};
 
 use crate::faults::RecordFault;
@@ -50,7 +50,7 @@ fn tells_call(caller: Option<Node>, epoch: u32, number: u32, reply: &[u8]) -> bo
 }
 
 /// Reads a head.
-#[tactic(auto, unfolding(afs_records::specs::Records::head_form))]
+#[tactic(auto, unfolding(spec_records::specs::Records::head_form))]
 pub fn read_head(alloc: Global, r: &mut Reader) -> Result<RecordHead, RecordFault>
     ensures { ReadsForm head_form.at (λ h. h) r.old r.new result }
 {
@@ -81,7 +81,7 @@ pub fn may_call(number: u32, caller: Option<Node>) -> bool
 }
 
 /// Appends a head.
-#[tactic(auto, unfolding(afs_records::specs::Records::head_form))]
+#[tactic(auto, unfolding(spec_records::specs::Records::head_form))]
 pub fn write_head(head: &RecordHead, w: &mut Writer) -> Mem<()>
     requires { head_form.Fits head.now }
     ensures { OnOk result (w.new ≡ w.old ++ head_form.spelled head.now) }

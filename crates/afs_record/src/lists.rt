@@ -2,7 +2,7 @@
 
 ghost use Rattle.std.specs.Prelude.{◌≡◌, ◌++◌, OnOk};
 ghost use Rattle.std.specs.List.{flat_map, AllByRecursion};
-ghost use Rattle.afs_records.specs.Forms.{many_at, list_form};
+ghost use Rattle.spec_records.specs.Forms.{many_at, list_form};
 ghost use Rattle.afs_record.specs.Reading.{ReadsForm};
 
 use crate::faults::RecordFault;

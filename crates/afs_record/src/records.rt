@@ -2,7 +2,7 @@
 
 ghost use Rattle.std.specs.Prelude.{◌≡◌, ◌++◌, OnOk, IfOk};
 ghost use Rattle.afs_xdr.specs.Words.{word};
-ghost use Rattle.afs_records.specs.Records.{body_at, row, record_at, record_bytes, FitsRecord};
+ghost use Rattle.spec_records.specs.Records.{body_at, row, record_at, record_bytes, FitsRecord};
 ghost use Rattle.afs_record.specs.Reading.{GivesForm};
 
 use crate::faults::RecordFault;
@@ -11,9 +11,9 @@ use crate::tables::{number_of, read_body, write_body};
 use afs_num::records::{RecordBody, StoreRecord};
 use afs_num::sequences::Octets;
 use afs_num::types::Mem;
-use afs_records::laws::read_records_are_spelled;
 use afs_xdr::reading::Reader;
 use afs_xdr::writing::Writer;
+use spec_records::laws::read_records_are_spelled;
 use std::alloc::Global;
 
 /// How many bytes the record of a change takes without its reply, its vnodes and the numbers of those that are gone, with the
@@ -42,7 +42,7 @@ fn room_for(rec: &StoreRecord) -> usize {
 }
 
 /// The one spelling of a record.
-#[tactic(auto, unfolding(afs_records::specs::Records::record_bytes))]
+#[tactic(auto, unfolding(spec_records::specs::Records::record_bytes))]
 pub fn encode_record(alloc: Global, rec: &StoreRecord) -> Mem<Octets>
     requires { FitsRecord rec.now }
     ensures { IfOk result (λ bytes. bytes ≡ record_bytes rec.now) }
@@ -55,7 +55,7 @@ pub fn encode_record(alloc: Global, rec: &StoreRecord) -> Mem<Octets>
 }
 
 /// The record that these bytes are, as it is read.
-#[tactic(auto, unfolding(afs_records::specs::Records::record_at))]
+#[tactic(auto, unfolding(spec_records::specs::Records::record_at))]
 fn read_record(alloc: Global, bytes: &[u8]) -> Result<StoreRecord, RecordFault>
     ensures { GivesForm (record_at bytes.now) result }
 {

@@ -2,8 +2,8 @@
 
 ghost use Rattle.std.specs.Prelude.{◌≡◌, ◌<◌, ◌^◌, ◌++◌, [], false, length, OnOk};
 ghost use Rattle.afs_num.specs.declared.records.RecordBody.TheVariants as bodies;
-ghost use Rattle.afs_records.specs.Forms.{image_form, list_form, word_form};
-ghost use Rattle.afs_records.specs.Records.{body_at, row};
+ghost use Rattle.spec_records.specs.Forms.{image_form, list_form, word_form};
+ghost use Rattle.spec_records.specs.Records.{body_at, row};
 ghost use Rattle.afs_xdr.specs.Words.{opaque, words};
 ghost use Rattle.afs_record.specs.Reading.{GivesForm, MakesAtEnd};
 

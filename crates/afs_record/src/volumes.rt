@@ -2,8 +2,8 @@
 
 ghost use Rattle.std.specs.Prelude.{◌≡◌, ◌++◌, map, OnOk};
 ghost use Rattle.std.specs.List.{flat_map, AllByRecursion, list_all};
-ghost use Rattle.afs_records.specs.Forms.{word_form, ◌before◌, many_at};
-ghost use Rattle.afs_records.specs.Records.{are_listed, are_whole, ascend_from, listed, listed_form, mark_form, marked_form, vnodes_form, volume_form, was_changed};
+ghost use Rattle.spec_records.specs.Forms.{word_form, ◌before◌, many_at};
+ghost use Rattle.spec_records.specs.Records.{are_listed, are_whole, ascend_from, listed_vnode, listed_form, mark_form, marked_form, vnodes_form, volume_form, was_changed};
 ghost use Rattle.afs_record.specs.Reading.{ReadsForm};
 
 use crate::faults::RecordFault;
@@ -152,7 +152,7 @@ fn read_vnodes(alloc: Global, r: &mut Reader) -> Result<Vnodes, RecordFault>
 
 /// Appends the numbers and uniques of vnodes.
 fn write_pairs(vnodes: &[Vnode], w: &mut Writer) -> Mem<()>
-    ensures { OnOk result (w.new ≡ w.old ++ flat_map listed_form.spelled (map listed vnodes.now)) }
+    ensures { OnOk result (w.new ≡ w.old ++ flat_map listed_form.spelled (map listed_vnode vnodes.now)) }
 {
     for vnode in vnodes {
         w.word(vnode.vnode)?;
@@ -179,7 +179,7 @@ impl Form for Volume {
 
     ghost form = { volume_form };
 
-    #[tactic(auto, unfolding(afs_records::specs::Records::volume_form))]
+    #[tactic(auto, unfolding(spec_records::specs::Records::volume_form))]
     fn read(alloc: Global, r: &mut Reader) -> Result<StoredVolume, RecordFault> {
         let name = read_text(alloc, r, MOST_NAME)?;
         let flags = r.word()?;
@@ -205,7 +205,7 @@ impl Form for Volume {
         })
     }
 
-    #[tactic(auto, unfolding(afs_records::specs::Records::volume_form))]
+    #[tactic(auto, unfolding(spec_records::specs::Records::volume_form))]
     fn write(value: &StoredVolume, w: &mut Writer) -> Mem<()> {
         let head = &value.head;
         w.opaque(head.name.as_slice())?;

@@ -1,18 +1,17 @@
 -- What a restorer was fed, and how far it was read.
 use Rattle.std.proofs.Common.{◌≡◌, ℕ, zero, suc, ◌-◌, ◌≤◌, ◌<◌, List, [], ◌∷◌, ◌++◌, length, take, drop, Option, Some, None, refl, sym, ap, subst, ◌∙◌, append_assoc, arith}
 use Rattle.afs_num.specs.declared.vnodes.Vnode as image
-use Rattle.afs_xdr.specs.Words.{word_at}
-use Rattle.afs_ideal.specs.DirectoryLaws.{IsBytes}
-use Rattle.afs_dumps.specs.Dumps.{Dump}
-use Rattle.afs_dumps.specs.Feeding.{Stage, at_headers, at_count, at_pair, at_image, at_acl, at_contents, at_magic, at_end, stepped, IsAtEnd}
-use Rattle.afs_dumps.specs.Fields.{Taken, took, cut_at, bad_at, ◌>>=◌}
-use Rattle.afs_dumps.specs.Laws.{IsReading}
-use Rattle.afs_dumps.specs.Restores.{fed, refused_at}
-use Rattle.afs_dumps.specs.Streams.{dump_at, dump_header_field, ended}
-use Rattle.afs_dumps.proofs.Feeding.{readers_read_on}
-use Rattle.afs_dumps.proofs.Streams.{refused_stays}
+use Rattle.afs_xdr.specs.Words.{word_at, IsBytes}
+use Rattle.spec_dumps.specs.Dumps.{Dump}
+use Rattle.spec_dumps.specs.Feeding.{Stage, at_headers, at_count, at_pair, at_image, at_acl, at_contents, at_magic, at_end, stepped, IsAtEnd}
+use Rattle.spec_dumps.specs.Fields.{FieldTaken, took, cut_at, bad_at, ◌>>=◌}
+use Rattle.spec_dumps.specs.Laws.{IsReading}
+use Rattle.spec_dumps.specs.Restores.{fed, refused_at}
+use Rattle.spec_dumps.specs.Streams.{dump_at, dump_header_field, dump_ended}
+use Rattle.spec_dumps.proofs.Feeding.{readers_read_on}
+use Rattle.spec_dumps.proofs.Streams.{refused_stays}
 use Rattle.afs_restore.specs.Parts.{dump_in, AreSame, IsAtFirst, IsNoted, Keeps}
-use Rattle.afs_restore.specs.ReadOn.{bytes_before, bytes_read, left_of, IsFed, IsFedSoFar, Reaches, ReadsOn, Stands, Waits}
+use Rattle.afs_restore.specs.ReadOn.{bytes_before, bytes_read, left_of, IsFed, IsFedSoFar, Reaches, ReadsOn, ReaderStands, Waits}
 use Rattle.afs_restore.specs.Reading.{headers_told, words_in}
 use Rattle.afs_restore.specs.Steps.{past_pairs, stage_of, stepped_past, IsStep}
 use Rattle.afs_restore.specs.declared.headers.Headers as read
@@ -72,7 +71,7 @@ pub bytes_more : (step : Step) (p : Parts) (pending piece : List ℕ) → bytes_
 unfolding bytes_read
 bytes_more step p pending piece = sym (append_assoc (bytes_before (stage_of step p)) pending piece)
 
-pub stands_more : (step : Step) (p : Parts) (pending piece : List ℕ) → Stands step p pending → Stands step p (pending ++ piece)
+pub stands_more : (step : Step) (p : Parts) (pending piece : List ℕ) → ReaderStands step p pending → ReaderStands step p (pending ++ piece)
 stands_more step p pending piece s = record {
   may = s.may;
   reading = subst (λ (t : List ℕ). IsReading t (stage_of step p) (pending ++ piece)) (sym (bytes_more step p pending piece)) (readers_read_on.more (bytes_read step p pending) piece pending (stage_of step p) s.reading);
@@ -129,7 +128,7 @@ same_may (steps.Contents place) p q same may = same_place place p q same may
 same_may steps.Magic p q same may = tt
 same_may steps.End p q same may = tt
 
-same_stands : (step : Step) (p q : Parts) (pending : List ℕ) → AreSame p q → Stands step p pending → Stands step q pending
+same_stands : (step : Step) (p q : Parts) (pending : List ℕ) → AreSame p q → ReaderStands step p pending → ReaderStands step q pending
 same_stands step p q pending same s = record {
   may = same_may step p q same s.may;
   reading = subst (λ (stage : Stage). IsReading (bytes_read step q pending) stage pending) (sym (same_stage step p q same)) (subst (λ (t : List ℕ). IsReading t (stage_of step p) pending) (sym (same_read step p q pending same)) s.reading);
@@ -172,12 +171,12 @@ reads_next bytes left rest stage next e h =
     let past = past_is stage next left rest e in
     subst (λ (s : Stage). IsReading bytes s rest) past.is (past_reading bytes rest past.middle (readers_read_on.step bytes left rest stage past.middle h past.taken))
 
-cut_by : (o : Taken Stage) (left : List ℕ) → (o >>= λ s. took (past_pairs s.0) s.1) ≡ cut_at left → o ≡ cut_at left
+cut_by : (o : FieldTaken Stage) (left : List ℕ) → (o >>= λ s. took (past_pairs s.0) s.1) ≡ cut_at left → o ≡ cut_at left
 cut_by (took s rest) left e = absurd cc
 cut_by (cut_at rest) left e = let z : rest ≡ left = cc in ap (λ (r : List ℕ). cut_at r) z
 cut_by (bad_at rest) left e = absurd cc
 
-bad_by : (o : Taken Stage) (left : List ℕ) → (o >>= λ s. took (past_pairs s.0) s.1) ≡ bad_at left → o ≡ bad_at left
+bad_by : (o : FieldTaken Stage) (left : List ℕ) → (o >>= λ s. took (past_pairs s.0) s.1) ≡ bad_at left → o ≡ bad_at left
 bad_by (took s rest) left e = absurd cc
 bad_by (cut_at rest) left e = absurd cc
 bad_by (bad_at rest) left e = let z : rest ≡ left = cc in ap (λ (r : List ℕ). bad_at r) z
@@ -232,11 +231,11 @@ left_within from before after bytes (reads.Refused step left short) on = on.0.wi
 
 -- ---- at the end
 
-ended_more : (d : Dump) (pending : List ℕ) → 1 ≤ length pending → ended d pending ≡ bad_at pending
+ended_more : (d : Dump) (pending : List ℕ) → 1 ≤ length pending → dump_ended d pending ≡ bad_at pending
 ended_more d [] some = absurd (omega (arith, some))
 ended_more d (b ∷ bytes) some = refl
 
-pub at_the_end : (p : Parts) (bytes left : List ℕ) → IsReading bytes (stage_of steps.End p) left → dump_at bytes ≡ ended (dump_in p) left
+pub at_the_end : (p : Parts) (bytes left : List ℕ) → IsReading bytes (stage_of steps.End p) left → dump_at bytes ≡ dump_ended (dump_in p) left
 unfolding stage_of
 at_the_end p bytes left h = readers_read_on.end bytes left (dump_in p) h
 
@@ -254,7 +253,7 @@ waits_going (steps.Image place) bytes pending short p h w = fed_cut bytes w.0 w.
 waits_going (steps.Acl place) bytes pending short p h w = fed_cut bytes w.0 w.1.0
 waits_going (steps.Contents place) bytes pending short p h w = fed_cut bytes w.0 w.1.0
 waits_going steps.Magic bytes pending short p h w = fed_cut bytes w.0 w.1.0
-waits_going steps.End bytes pending short p h w = fed_took bytes (dump_in p) [] (at_the_end p bytes pending h ∙ ap (ended (dump_in p)) w)
+waits_going steps.End bytes pending short p h w = fed_took bytes (dump_in p) [] (at_the_end p bytes pending h ∙ ap (dump_ended (dump_in p)) w)
 
 pub so_far_going : (step : Step) (p : Parts) (pending : List ℕ) (count short : ℕ) → IsFedSoFar step p pending count short → fed (bytes_read step p pending) ≡ None
 so_far_going step p pending count short h = waits_going step (bytes_read step p pending) pending short p h.stands.reading h.waits

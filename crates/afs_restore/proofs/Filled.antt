@@ -2,18 +2,18 @@
 use Rattle.std.proofs.Common.{◌≡◌, ℕ, Bool, true, false, List, [], ◌∷◌, ◌++◌, Option, Some, None, nat_eq, if◌then◌else◌, refl, sym, ap, subst, ◌∙◌, append_assoc}
 use Rattle.std.specs.Prelude.{⊤}
 use Rattle.std.specs.Option.{option_map}
-use Rattle.afs_ideal.specs.Images.{Image, value_of}
-use Rattle.afs_ideal.specs.Tables.{Table, get}
-use Rattle.afs_ideal.specs.Volumes.{Vnode, if_unique}
-use Rattle.afs_dumps.specs.Restores as restores
-use Rattle.afs_dumps.specs.Restores.{image_in, indexed, restored_vnodes, timed, vnode_by, vnodes_in, with_timed, Timed}
-use Rattle.afs_records.specs.Durable.{Stored, or_zero}
+use Rattle.spec_ideal.specs.Images.{Image, value_of}
+use Rattle.spec_ideal.specs.Tables.{Table, get}
+use Rattle.spec_ideal.specs.Volumes.{Vnode, if_unique}
+use Rattle.spec_dumps.specs.Restores as restores
+use Rattle.spec_dumps.specs.Restores.{image_in, indexed, restored_vnodes, timed, vnode_by, vnodes_in, with_timed, Timed}
+use Rattle.spec_records.specs.Durable.{Stored, or_zero}
 use Rattle.afs_vnode.specs.Stores.{table_of}
 use Rattle.afs_volume.specs.Seen.{all_seen, seen}
 use Rattle.afs_volume.specs.Taking.{times_in}
 use Rattle.afs_volume.proofs.Tables.{got}
 use Rattle.afs_volume.proofs.Timed.{times_are}
-use Rattle.afs_restore.specs.Filling.{filled, image_indexed, kept, numbered_as, or_kept, with_first, with_unique, AreGood, IsGoodWhere}
+use Rattle.afs_restore.specs.Filling.{filled, image_indexed, kept, numbered_as, or_kept, with_first, with_unique, ImagesAreGood, IsGoodWhere}
 use Rattle.afs_restore.proofs.Given.{given_by}
 use Rattle.afs_restore.proofs.Good.{good_valued}
 
@@ -123,7 +123,7 @@ one_is anew p old s None is given =
     (sym (ap (get p.0) is.vnodes ∙ got p.0 old))
     (of_volume anew p.0 p.1 (or_zero (get p.0 s.times)) (get p.0 old) (λ x e. ap (λ (t : Table ℕ). or_zero (get p.0 t)) is.times ∙ times_are old p.0 x e))
 
-pub all_filled : (anew : Bool) (old : Table Image) (is : List Image) (s : Stored) (ps : List (ℕ × ℕ)) → IsOld old s → AreGood ps (given_by ps is) → AreAll anew (filled anew old ps (given_by ps is)) (restored_vnodes ps is s)
+pub all_filled : (anew : Bool) (old : Table Image) (is : List Image) (s : Stored) (ps : List (ℕ × ℕ)) → IsOld old s → ImagesAreGood ps (given_by ps is) → AreAll anew (filled anew old ps (given_by ps is)) (restored_vnodes ps is s)
 unfolding AreAll all_seen
 all_filled anew old is s [] has given = (refl, refl)
 all_filled anew old is s (p ∷ ps) has given =

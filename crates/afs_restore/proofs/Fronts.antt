@@ -3,15 +3,14 @@ use Rattle.std.proofs.Common.{◌≡◌, ℕ, zero, suc, ◌+◌, ◌-◌, ◌�
 use Rattle.std.specs.List.{flat_map}
 use Rattle.std.proofs.Math.Seq.{drop-append_seam}
 use Rattle.std.proofs.lemmas.List.{length-append, take-append-drop}
-use Rattle.afs_xdr.specs.Words.{word, opaque}
-use Rattle.afs_shape.proofs.Codecs.{Takes, Takes-then}
-use Rattle.afs_ideal.specs.DirectoryLaws.{IsBytes}
-use Rattle.afs_dumps.specs.Dumps.{Headers}
-use Rattle.afs_dumps.specs.Feeding.{Begun, Stage, at_headers, at_count, at_pair, at_image, at_acl, at_contents, at_magic, at_end, after_words, stepped, with_next, words_at}
-use Rattle.afs_dumps.specs.Fields.{Field, took, cut_at, ◌>>=◌, mark}
-use Rattle.afs_dumps.specs.Streams.{acl_field, contents_field, count_field, dump_header_field, dump_header_tag, end_magic, end_tag, headers_field, image_bytes, image_field, image_made, image_words_field, next_at, pair_bytes, pair_field, vnode_tag, ImageWords}
-use Rattle.afs_dumps.proofs.Fields.{bound, mark_good, took_is, IsGoodField}
-use Rattle.afs_dumps.proofs.Streams.{acl_good, contents_good, count_good, headers_good, next_is, pair_is_good, words_are_good, NextIs}
+use Rattle.afs_xdr.specs.Words.{word, opaque, IsBytes}
+use Rattle.spec_shape.proofs.Codecs.{Takes, Takes-then}
+use Rattle.spec_dumps.specs.Dumps.{Headers}
+use Rattle.spec_dumps.specs.Feeding.{Begun, Stage, at_headers, at_count, at_pair, at_image, at_acl, at_contents, at_magic, at_end, after_words, stepped, with_next, words_at}
+use Rattle.spec_dumps.specs.Fields.{Field, took, cut_at, ◌>>=◌, mark}
+use Rattle.spec_dumps.specs.Streams.{acl_field, contents_field, count_field, dump_header_field, dump_header_tag, end_magic, end_tag, headers_field, image_bytes, image_field, image_made, image_words_field, next_at, pair_bytes, pair_field, vnode_tag, ImageWords}
+use Rattle.spec_dumps.proofs.Fields.{bound, mark_good, took_is, IsGoodField}
+use Rattle.spec_dumps.proofs.Streams.{acl_good, contents_good, count_good, headers_good, next_is, pair_is_good, words_are_good, NextIs}
 use Rattle.afs_restore.specs.Parts.{dump_in}
 use Rattle.afs_restore.specs.Reading.{headers_told, words_in}
 use Rattle.afs_restore.specs.ReadOn.{bytes_before, bytes_read, images_bytes, list_bytes}

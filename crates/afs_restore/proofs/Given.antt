@@ -2,13 +2,13 @@
 use Rattle.std.proofs.Common.{◌≡◌, ℕ, zero, suc, ◌+◌, ◌<◌, ◌≤◌, Bool, true, false, cond, List, [], ◌∷◌, length, map, Option, Some, None, nat_eq, refl, sym, ap, subst, ◌∙◌, arith}
 use Rattle.std.proofs.lemmas.Bool.{eqb-true}
 use Rattle.std.proofs.lemmas.Bool.Decides.{nat_tests}
-use Rattle.afs_ideal.specs.Images.{Image}
-use Rattle.afs_ideal.specs.Tables.{AscendsFrom}
-use Rattle.afs_ideal.specs.VnodeImage.{kind_fits}
-use Rattle.afs_dumps.specs.Dumps.{Dump}
-use Rattle.afs_dumps.specs.Restores.{image_in}
-use Rattle.afs_dumps.specs.Streams.{dump_field, image_field, live_field, FitImages, FitPairs, FitsDump, FitsEither}
-use Rattle.afs_restore.specs.Filling.{given_in, next_given, AreGood, IsGood, IsGoodWhere, IsList}
+use Rattle.spec_ideal.specs.Images.{Image}
+use Rattle.spec_ideal.specs.Tables.{AscendsFrom}
+use Rattle.spec_ideal.specs.VnodeImage.{kind_fits}
+use Rattle.spec_dumps.specs.Dumps.{Dump}
+use Rattle.spec_dumps.specs.Restores.{image_in}
+use Rattle.spec_dumps.specs.Streams.{dump_field, image_field, live_field, FitImages, FitPairs, FitsDump, FitsEither}
+use Rattle.afs_restore.specs.Filling.{given_in, next_given, ImagesAreGood, ImageIsGood, IsGoodWhere, IsList}
 
 -- the image of each vnode of the list, by its number
 abbrev pub given_by : List (ℕ × ℕ) → List Image → List (Option Image)
@@ -35,7 +35,7 @@ dump_images d fits = fits.0.1.0.1
 
 -- ---- the images
 
-image_good : (p : ℕ × ℕ) (i : Image) → (image_field p).Fits i → IsGood p i
+image_good : (p : ℕ × ℕ) (i : Image) → (image_field p).Fits i → ImageIsGood p i
 unfolding image_field
 image_good p i fits =
     let number : i.vnode ≡ p.0 = eqb-true i.vnode p.0 fits.0.0.0.1 in
@@ -55,12 +55,12 @@ next_by : Bool → Image → List Image → Option Image × List Image
 next_by b i is = cond b (Some i, is) (None, i ∷ is)
 
 good_by : (b : Bool) (p : ℕ × ℕ) (ps : List (ℕ × ℕ)) (i : Image) (is : List Image) → FitsEither b ((image_field p).Fits i × FitImages ps is) (FitImages ps (i ∷ is)) →
-    (FitImages ps is → AreGood ps (given_in ps is)) → (FitImages ps (i ∷ is) → AreGood ps (given_in ps (i ∷ is))) → IsGoodWhere p (next_by b i is).0 × AreGood ps (given_in ps (next_by b i is).1)
+    (FitImages ps is → ImagesAreGood ps (given_in ps is)) → (FitImages ps (i ∷ is) → ImagesAreGood ps (given_in ps (i ∷ is))) → IsGoodWhere p (next_by b i is).0 × ImagesAreGood ps (given_in ps (next_by b i is).1)
 unfolding next_by
 good_by true p ps i is fits own other = (image_good p i fits.0, own fits.1)
 good_by false p ps i is fits own other = (tt, other fits)
 
-all_good : (ps : List (ℕ × ℕ)) (is : List Image) → FitImages ps is → AreGood ps (given_in ps is)
+all_good : (ps : List (ℕ × ℕ)) (is : List Image) → FitImages ps is → ImagesAreGood ps (given_in ps is)
 unfolding next_by
 all_good [] [] fits = tt
 all_good [] (i ∷ is) fits = absurd fits
@@ -113,7 +113,7 @@ given_is m (p ∷ ps) (i ∷ is) up fits = is_by (nat_eq i.vnode p.0) p ps i is 
 
 -- ---- those of a dump
 
-pub dump_good : (d : Dump) → FitsDump d → AreGood d.live (given_in d.live d.images)
+pub dump_good : (d : Dump) → FitsDump d → ImagesAreGood d.live (given_in d.live d.images)
 dump_good d fits = all_good d.live d.images (dump_images d fits)
 
 pub dump_given : (d : Dump) → FitsDump d → given_in d.live d.images ≡ given_by d.live d.images
@@ -121,5 +121,5 @@ dump_given d fits = given_is 0 d.live d.images (dump_list d fits).ascends (dump_
 
 -- ---- as a loop has them
 
-pub first_good : (ps qs : List (ℕ × ℕ)) (p : ℕ × ℕ) (is : List Image) → ps ≡ p ∷ qs → AreGood ps (given_in ps is) → IsGoodWhere p (next_given p is).0 × AreGood qs (given_in qs (next_given p is).1)
-first_good ps qs p is here all = subst (λ (z : List (ℕ × ℕ)). AreGood z (given_in z is)) here all
+pub first_good : (ps qs : List (ℕ × ℕ)) (p : ℕ × ℕ) (is : List Image) → ps ≡ p ∷ qs → ImagesAreGood ps (given_in ps is) → IsGoodWhere p (next_given p is).0 × ImagesAreGood qs (given_in qs (next_given p is).1)
+first_good ps qs p is here all = subst (λ (z : List (ℕ × ℕ)). ImagesAreGood z (given_in z is)) here all

@@ -5,19 +5,19 @@ use Rattle.std.specs.Prelude as prelude
 use Rattle.std.proofs.lemmas.Bool.Decides.{nat_tests}
 use Rattle.afs_num.specs.declared.directories.Name.{Name}
 use Rattle.afs_num.specs.declared.vnodes.Vnode as image
-use Rattle.afs_ideal.specs.AccessLists.{acl_at}
-use Rattle.afs_ideal.specs.Directories.{directory_bytes, directory_of}
-use Rattle.afs_ideal.specs.DirectoryLaws.{IsBytes}
-use Rattle.afs_ideal.specs.Images.{Image, value_of}
-use Rattle.afs_ideal.specs.VnodeImage.{kind_fits}
-use Rattle.afs_ideal.specs.Volumes.{Vnode}
-use Rattle.afs_ideal.proofs.DirectoryBytes.{read_is_spelled}
-use Rattle.afs_dumps.specs.Streams.{are_good_contents, is_good_acl, is_ok}
+use Rattle.spec_ideal.specs.AccessLists.{acl_at}
+use Rattle.spec_ideal.specs.Directories.{directory_bytes, directory_of}
+use Rattle.afs_xdr.specs.Words.{IsBytes}
+use Rattle.spec_ideal.specs.Images.{Image, value_of}
+use Rattle.spec_ideal.specs.VnodeImage.{kind_fits}
+use Rattle.spec_ideal.specs.Volumes.{Vnode}
+use Rattle.spec_ideal.proofs.DirectoryBytes.{read_is_spelled}
+use Rattle.spec_dumps.specs.Streams.{are_good_contents, is_good_acl, is_ok}
 use Rattle.afs_volume.specs.Assembling.{can_be_read}
 use Rattle.afs_volume.specs.Seen.{names_read, names_spelled, seen, IsReadable}
 use Rattle.afs_volume.proofs.Folded.{value_seen}
 use Rattle.afs_volume.proofs.Readable.{directory_read, other_read, readable_directory, readable_other}
-use Rattle.afs_restore.specs.Filling.{IsGood, IsMade}
+use Rattle.afs_restore.specs.Filling.{ImageIsGood, IsMade}
 
 ok_is : {A E : Type 0} (r : Result A E) → is_ok r ≡ true → prelude.is_ok r ≡ true
 ok_is {A} {E} (Ok x) e = refl
@@ -50,7 +50,7 @@ good_spelled x fits good kind =
     let is : nat_eq x.kind 2 ≡ true = grind (arith, nat_tests, kind) in
     spelled_by x.contents (directory_of x.contents) fits refl (rw is at good)
 
-pub good_made : (p : ℕ × ℕ) (x : image.Vnode) → IsGood p x → IsBytes x.contents → IsMade p x
+pub good_made : (p : ℕ × ℕ) (x : image.Vnode) → ImageIsGood p x → IsBytes x.contents → IsMade p x
 good_made p x good fits = record { number = good.number; fits = good.fits; readable = readable_is x good.kind good.acl (good_spelled x fits good.contents) }
 
 read_by : (x : image.Vnode) (b : Bool) → nat_eq x.kind 2 ≡ b → kind_fits x.vnode x.kind ≡ true → is_good_acl x.kind x.acl ≡ true → are_good_contents x.kind x.contents ≡ true → can_be_read x ≡ true
@@ -65,5 +65,5 @@ valued_by i None e some = absurd cc
 valued_by i (Some x) e some = e ∙ ap (λ (y : Vnode). Some y) (sym (value_seen i x e))
 
 -- what is good has a value
-pub good_valued : (p : ℕ × ℕ) (i : Image) → IsGood p i → value_of i ≡ Some (seen i)
+pub good_valued : (p : ℕ × ℕ) (i : Image) → ImageIsGood p i → value_of i ≡ Some (seen i)
 good_valued p i good = valued_by i (value_of i) refl (read_by i (nat_eq i.kind 2) refl good.kind good.acl good.contents)

@@ -2,7 +2,7 @@
 use Rattle.std.proofs.Common.{◌≡◌, ℕ, zero, suc, ◌<◌, List, [], ◌∷◌, ◌++◌, drop, take, length, slice_get, slice_index_or, Some, refl, ap, arith, ◌∙◌, append-nil}
 use Rattle.std.specs.List.{flat_map}
 use Rattle.std.proofs.lemmas.List.Concat.{flat_map-append}
-use Rattle.afs_ideal.specs.DirectoryLaws.{IsBytes}
+use Rattle.afs_xdr.specs.Words.{IsBytes}
 
 none_of : {A : Type 0} (i : ℕ) → drop {A = A} i [] ≡ []
 none_of {A} zero = refl

@@ -1,8 +1,8 @@
 -- Vnodes that are made pair by pair stand in the order of the list, and can be read.
 use Rattle.std.proofs.Common.{◌≡◌, ℕ, suc, ◌+◌, ◌≤◌, Bool, true, false, List, [], ◌∷◌, ◌++◌, length, Option, Some, refl, sym, ap, subst}
-use Rattle.afs_ideal.specs.Images.{Image}
-use Rattle.afs_ideal.specs.Tables.{AscendsFrom}
-use Rattle.afs_ideal.specs.VnodeMaps.{AllFit}
+use Rattle.spec_ideal.specs.Images.{Image}
+use Rattle.spec_ideal.specs.Tables.{AscendsFrom}
+use Rattle.spec_ideal.specs.VnodeMaps.{AllFit}
 use Rattle.afs_vnode.specs.Stores.{table_of}
 use Rattle.afs_volume.proofs.Readable.{AllReadable}
 use Rattle.afs_restore.specs.Filling.{image_indexed, AreMade, IsGiven, IsMade}

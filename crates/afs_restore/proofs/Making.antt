@@ -3,11 +3,11 @@ use Rattle.std.proofs.Common.{◌≡◌, Bool, true, false, List, Option, Some, 
 use Rattle.std.specs.Prelude.{◌&&◌, not}
 use Rattle.std.specs.Option.{option_map}
 use Rattle.afs_num.specs.declared.volumes.VolumeHead.{VolumeHead}
-use Rattle.afs_ideal.specs.Images.{Image}
-use Rattle.afs_ideal.specs.Tables.{Table}
-use Rattle.afs_records.specs.Sound.{is_sound}
-use Rattle.afs_dumps.specs.Restores.{is_other_family, restored_vnodes}
-use Rattle.afs_dumps.specs.Streams.{FitsDump}
+use Rattle.spec_ideal.specs.Images.{Image}
+use Rattle.spec_ideal.specs.Tables.{Table}
+use Rattle.spec_records.specs.Sound.{is_sound}
+use Rattle.spec_dumps.specs.Restores.{is_other_family, restored_vnodes}
+use Rattle.spec_dumps.specs.Streams.{FitsDump}
 use Rattle.afs_vnode.specs.Stores.{table_of}
 use Rattle.afs_volume.specs.Assembling.{make_volume}
 use Rattle.afs_volume.specs.Seen.{volume_seen}

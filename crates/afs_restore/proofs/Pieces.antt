@@ -1,8 +1,8 @@
 -- A piece was fed.
 use Rattle.std.proofs.Common.{◌≡◌, ℕ, ◌+◌, ◌-◌, List, ◌++◌, length, drop, Option, Some, None, sym, ap, subst, ◌∙◌, arith}
 use Rattle.std.proofs.lemmas.List.{length-append}
-use Rattle.afs_ideal.specs.DirectoryLaws.{IsBytes}
-use Rattle.afs_dumps.specs.Restores.{fed}
+use Rattle.afs_xdr.specs.Words.{IsBytes}
+use Rattle.spec_dumps.specs.Restores.{fed}
 use Rattle.afs_restore.specs.ReadOn.{bytes_read, IsFed, IsFedSoFar, Reaches, Waits}
 use Rattle.afs_restore.specs.declared.parts.Parts.{Parts}
 use Rattle.afs_restore.specs.declared.steps.Step.{Step}

@@ -3,22 +3,22 @@ use Rattle.std.proofs.Common.{◌≡◌, ℕ, suc, ◌≤◌, Bool, true, false,
 use Rattle.std.specs.Prelude.{◌&&◌, nat_lt, not, if◌then◌else◌}
 use Rattle.std.proofs.lemmas.Bool.Decides.{nat_tests}
 use Rattle.afs_num.specs.declared.volumes.VolumeHead.{VolumeHead}
-use Rattle.afs_ideal.specs.Images.{Image}
-use Rattle.afs_ideal.specs.Tables.{Table}
-use Rattle.afs_ideal.specs.VnodeMaps.{most_vnodes}
-use Rattle.afs_ideal.specs.Volumes.{Vnode}
-use Rattle.afs_records.specs.Durable.{Stored, allowed}
-use Rattle.afs_records.specs.Sound.{is_sound}
-use Rattle.afs_dumps.specs.Dumps.{Dump}
-use Rattle.afs_dumps.specs.Restores as restores
-use Rattle.afs_dumps.specs.Restores.{allowed_with, is_other_family, restored, restored_vnodes, vnodes_in, Timed}
-use Rattle.afs_dumps.specs.Streams.{FitsDump}
+use Rattle.spec_ideal.specs.Images.{Image}
+use Rattle.spec_ideal.specs.Tables.{Table}
+use Rattle.spec_ideal.specs.VnodeMaps.{most_vnodes}
+use Rattle.spec_ideal.specs.Volumes.{Vnode}
+use Rattle.spec_records.specs.Durable.{Stored, allowed}
+use Rattle.spec_records.specs.Sound.{is_sound}
+use Rattle.spec_dumps.specs.Dumps.{Dump}
+use Rattle.spec_dumps.specs.Restores as restores
+use Rattle.spec_dumps.specs.Restores.{allowed_with, is_other_family, restored, restored_vnodes, vnodes_in, Timed}
+use Rattle.spec_dumps.specs.Streams.{FitsDump}
 use Rattle.afs_vnode.specs.Stores.{table_of}
 use Rattle.afs_volume.specs.Assembling.{are_read, make_volume}
 use Rattle.afs_volume.specs.Seen.{all_seen, kind_seen, volume_seen}
 use Rattle.afs_volume.specs.Taking as taking
 use Rattle.afs_volume.proofs.Readable.{all_read, readable_kind}
-use Rattle.afs_restore.specs.Filling.{filled, given_in, AreGood, AreMade, IsList}
+use Rattle.afs_restore.specs.Filling.{filled, given_in, ImagesAreGood, AreMade, IsList}
 use Rattle.afs_restore.specs.Parts.{dump_in}
 use Rattle.afs_restore.specs.declared.headers.Told.{Told}
 use Rattle.afs_restore.specs.declared.parts.Parts.{Parts}
@@ -130,7 +130,7 @@ filled_is id head old p fits =
     let s : Stored = taking.stored_with head old in
     let same : given_by p.live.items p.images.items ≡ given_in p.live.items p.images.items = sym (dump_given (dump_in p) fits) in
     subst (λ (os : List (Option Image)). AreAll anew (filled anew old p.live.items os) (restored_vnodes p.live.items p.images.items s)) same
-    (all_filled anew old p.images.items s p.live.items (record { vnodes = refl; times = refl }) (subst (λ (os : List (Option Image)). AreGood p.live.items os) (sym same) (dump_good (dump_in p) fits)))
+    (all_filled anew old p.images.items s p.live.items (record { vnodes = refl; times = refl }) (subst (λ (os : List (Option Image)). ImagesAreGood p.live.items os) (sym same) (dump_good (dump_in p) fits)))
 
 pub volume_is : (id : ℕ) (head : VolumeHead) (old : Table Image) (p : Parts) (xs : List Image) → IsList p.live.items → AreMade p.live.items xs →
     AreAll (is_other_family id (taking.stored_with head old) (dump_in p)) (Some xs) (restored_vnodes p.live.items p.images.items (taking.stored_with head old)) →

@@ -3,10 +3,10 @@ use Rattle.std.proofs.Common.{◌≡◌, ℕ, zero, suc, ◌+◌, ◌-◌, ◌<�
 use Rattle.std.specs.Prelude.{Err}
 use Rattle.std.proofs.lemmas.List.{drop-drop}
 use Rattle.afs_xdr.specs.Reading.{Reading}
-use Rattle.afs_ideal.specs.Images.{Image}
-use Rattle.afs_dumps.specs.Feeding.{Stage, at_count, at_pair, at_image, at_contents, at_magic, at_end, after_words, stepped, with_next, words_at}
-use Rattle.afs_dumps.specs.Fields.{Taken, took, cut_at, bad_at, ◌>>=◌, mark}
-use Rattle.afs_dumps.specs.Streams.{acl_field, contents_field, count_field, end_magic, headers_field, image_made, image_words_field, next_at, pair_field, ImageWords}
+use Rattle.spec_ideal.specs.Images.{Image}
+use Rattle.spec_dumps.specs.Feeding.{Stage, at_count, at_pair, at_image, at_contents, at_magic, at_end, after_words, stepped, with_next, words_at}
+use Rattle.spec_dumps.specs.Fields.{FieldTaken, took, cut_at, bad_at, ◌>>=◌, mark}
+use Rattle.spec_dumps.specs.Streams.{acl_field, contents_field, count_field, end_magic, headers_field, image_made, image_words_field, next_at, pair_field, ImageWords}
 use Rattle.afs_restore.specs.Parts.{dump_in, IsAtFirst}
 use Rattle.afs_restore.specs.Reading.{headers_told, words_in, ReadsField}
 use Rattle.afs_restore.specs.Steps.{begun_in, past_pairs, pairs_step, stage_of, stepped_past, IsPlaceOf, IsStep}
@@ -20,16 +20,16 @@ use Rattle.afs_restore.proofs.Stepped.{found_here, found_nowhere, found_words, w
 -- ---- a field that isn't there
 
 -- the stage reads this field first
-abbrev pub Begins : {Y : Type 0} → Stage → (List ℕ → Taken Y) → Type 0
-Begins {Y} stage at = (f : Y × List ℕ → Taken Stage) × ((bytes : List ℕ) → stepped stage bytes ≡ (at bytes >>= f))
+abbrev pub Begins : {Y : Type 0} → Stage → (List ℕ → FieldTaken Y) → Type 0
+Begins {Y} stage at = (f : Y × List ℕ → FieldTaken Stage) × ((bytes : List ℕ) → stepped stage bytes ≡ (at bytes >>= f))
 
-past_stop : (stage : Stage) (bytes : List ℕ) (o : Taken Stage) → stepped stage bytes ≡ o → stepped_past stage bytes ≡ (o >>= λ s. took (past_pairs s.0) s.1)
+past_stop : (stage : Stage) (bytes : List ℕ) (o : FieldTaken Stage) → stepped stage bytes ≡ o → stepped_past stage bytes ≡ (o >>= λ s. took (past_pairs s.0) s.1)
 unfolding stepped_past
-past_stop stage bytes o e = ap (λ (t : Taken Stage). t >>= λ s. took (past_pairs s.0) s.1) e
+past_stop stage bytes o e = ap (λ (t : FieldTaken Stage). t >>= λ s. took (past_pairs s.0) s.1) e
 
-pub stops_at : {X Y Z : Type 0} (at : List ℕ → Taken Y) (view : X → Y) (later : Z → Stage) (stage : Stage) (e : Stop) (old new : Reading) → Begins stage at → ReadsField at view old new (Err e) → ReadsField (stepped_past stage) later old new (Err e)
-stops_at {X} {Y} {Z} at view later stage stops.Cut old new begins h = past_stop stage old.left (cut_at new.left) (begins.1 old.left ∙ ap (λ (t : Taken Y). t >>= begins.0) h)
-stops_at {X} {Y} {Z} at view later stage stops.Bad old new begins h = past_stop stage old.left (bad_at new.left) (begins.1 old.left ∙ ap (λ (t : Taken Y). t >>= begins.0) h)
+pub stops_at : {X Y Z : Type 0} (at : List ℕ → FieldTaken Y) (view : X → Y) (later : Z → Stage) (stage : Stage) (e : Stop) (old new : Reading) → Begins stage at → ReadsField at view old new (Err e) → ReadsField (stepped_past stage) later old new (Err e)
+stops_at {X} {Y} {Z} at view later stage stops.Cut old new begins h = past_stop stage old.left (cut_at new.left) (begins.1 old.left ∙ ap (λ (t : FieldTaken Y). t >>= begins.0) h)
+stops_at {X} {Y} {Z} at view later stage stops.Bad old new begins h = past_stop stage old.left (bad_at new.left) (begins.1 old.left ∙ ap (λ (t : FieldTaken Y). t >>= begins.0) h)
 stops_at {X} {Y} {Z} at view later stage stops.OutOfMemory old new begins h = tt
 
 pub headers_first : (p : Parts) → Begins (stage_of steps.Headers p) headers_field.at
@@ -57,7 +57,7 @@ pub magic_first : (p : Parts) → Begins (stage_of steps.Magic p) (mark end_magi
 unfolding stage_of
 magic_first p = (λ u. took (at_end (dump_in p)) u.1, λ bytes. refl)
 
-first_of : (o : Taken (Option ℕ)) (place : ℕ) (p : Parts) →
+first_of : (o : FieldTaken (Option ℕ)) (place : ℕ) (p : Parts) →
     ((o >>= λ x. found_words (drop place p.live.items) x.0 x.1) >>= λ w. took (after_words (begun_in place p) w.0) w.1)
     ≡ (o >>= λ x. (found_words (drop place p.live.items) x.0 x.1 >>= λ w. took (after_words (begun_in place p) w.0) w.1))
 first_of (took o rest) place p = refl
@@ -68,13 +68,13 @@ pub image_first : (place : ℕ) (p : Parts) → Begins (stage_of (steps.Image pl
 unfolding stage_of
 image_first place p = (
   λ x. (found_words (drop place p.live.items) x.0 x.1 >>= λ w. took (after_words (begun_in place p) w.0) w.1),
-  λ bytes. ap (λ (t : Taken (Option (ImageWords × List (ℕ × ℕ)))). t >>= λ w. took (after_words (begun_in place p) w.0) w.1) (words_found (drop place p.live.items) bytes) ∙ first_of (next_at bytes) place p,
+  λ bytes. ap (λ (t : FieldTaken (Option (ImageWords × List (ℕ × ℕ)))). t >>= λ w. took (after_words (begun_in place p) w.0) w.1) (words_found (drop place p.live.items) bytes) ∙ first_of (next_at bytes) place p,
 )
 
 -- ---- a field that was read
 
 -- the stage after it, past the pairs
-past : {Y : Type 0} → (Y × List ℕ → Taken Stage) → Taken Y → Taken Stage
+past : {Y : Type 0} → (Y × List ℕ → FieldTaken Stage) → FieldTaken Y → FieldTaken Stage
 past {Y} f o = (o >>= f) >>= λ s. took (past_pairs s.0) s.1
 
 pub headers_taken : (p q : Parts) (left rest : List ℕ) → headers_field.at left ≡ took (headers_told q.headers) rest → stepped_past (stage_of steps.Headers p) left ≡ took (stage_of steps.Count q) rest
@@ -116,7 +116,7 @@ pub contents_taken : (place : ℕ) (p q : Parts) (contents left rest : List ℕ)
     (contents_field p.next.kind).at left ≡ took contents rest → stepped_past (stage_of (steps.Contents place) p) left ≡ took (stage_of (steps.Image place) q) rest
 unfolding stage_of stepped_past past
 contents_taken place p q contents left rest heads live images e =
-    let made : read.Headers → List (ℕ × ℕ) → List Image → Taken Stage = λ h ps is. took (at_image (record { headers = headers_told h; live = ps; left = drop place ps; images = is })) rest in
+    let made : read.Headers → List (ℕ × ℕ) → List Image → FieldTaken Stage = λ h ps is. took (at_image (record { headers = headers_told h; live = ps; left = drop place ps; images = is })) rest in
     ap (past (λ c. took (at_image (with_next (image_made (words_in p.next, (p.next.acl, c.0))) (begun_in place p))) c.1)) e
     ∙ (ap (λ (is : List Image). made p.headers p.live.items is) (sym images)
     ∙ (ap (λ (ps : List (ℕ × ℕ)). made p.headers ps q.images.items) (sym live) ∙ ap (λ (h : read.Headers). made h q.live.items q.images.items) (sym heads)))
@@ -127,13 +127,13 @@ magic_taken p left rest e = ap (past (λ u. took (at_end (dump_in p)) u.1)) e
 
 -- ---- an image, whose vnode was looked for in what is left of the list
 
-image_met : (place : ℕ) (p : Parts) (left : List ℕ) (o : Taken (Option (ImageWords × List (ℕ × ℕ)))) → words_at (drop place p.live.items) left ≡ o →
+image_met : (place : ℕ) (p : Parts) (left : List ℕ) (o : FieldTaken (Option (ImageWords × List (ℕ × ℕ)))) → words_at (drop place p.live.items) left ≡ o →
     stepped_past (stage_of (steps.Image place) p) left ≡ past (λ w. took (after_words (begun_in place p) w.0) w.1) o
 unfolding stage_of stepped_past past
 image_met place p left o e = ap (past (λ w. took (after_words (begun_in place p) w.0) w.1)) e
 
-next_met : (place : ℕ) (p : Parts) (left : List ℕ) (o : Taken (Option ℕ)) → next_at left ≡ o → words_at (drop place p.live.items) left ≡ (o >>= λ x. found_words (drop place p.live.items) x.0 x.1)
-next_met place p left o e = words_found (drop place p.live.items) left ∙ ap (λ (t : Taken (Option ℕ)). t >>= λ x. found_words (drop place p.live.items) x.0 x.1) e
+next_met : (place : ℕ) (p : Parts) (left : List ℕ) (o : FieldTaken (Option ℕ)) → next_at left ≡ o → words_at (drop place p.live.items) left ≡ (o >>= λ x. found_words (drop place p.live.items) x.0 x.1)
+next_met place p left o e = words_found (drop place p.live.items) left ∙ ap (λ (t : FieldTaken (Option ℕ)). t >>= λ x. found_words (drop place p.live.items) x.0 x.1) e
 
 pub end_taken : (place : ℕ) (p : Parts) (left rest : List ℕ) → next_at left ≡ took None rest → stepped_past (stage_of (steps.Image place) p) left ≡ took (stage_of steps.Magic p) rest
 unfolding stage_of past
@@ -142,7 +142,7 @@ end_taken place p left rest tag =
     ∙ ap (λ (is : List Image). took (at_magic (record { headers = headers_told p.headers; live = p.live.items; images = is })) rest) (append-nil p.images.items)
 
 -- the words of the next image, where its vnode stands so far behind a place of the list
-words_on : (place k m : ℕ) (pair : ℕ × ℕ) (p : Parts) (list : List (ℕ × ℕ)) (left next : List ℕ) (o : Taken ImageWords) → list ≡ drop place p.live.items → next_at left ≡ took (Some m) next → slice_get list k ≡ Some pair →
+words_on : (place k m : ℕ) (pair : ℕ × ℕ) (p : Parts) (list : List (ℕ × ℕ)) (left next : List ℕ) (o : FieldTaken ImageWords) → list ≡ drop place p.live.items → next_at left ≡ took (Some m) next → slice_get list k ≡ Some pair →
     IsPlaceOf list m (Some k) → (image_words_field pair).at next ≡ o → words_at (drop place p.live.items) left ≡ (o >>= λ w. took (Some (w.0, drop (place + k + 1) p.live.items)) w.1)
 words_on place k m pair p list left next o is tag at_list found_list words =
     let live : List (ℕ × ℕ) = p.live.items in
@@ -151,7 +151,7 @@ words_on place k m pair p list left next o is tag at_list found_list words =
     let after : drop (k + 1) (drop place live) ≡ drop (place + k + 1) live = drop-drop (k + 1) place live ∙ ap (λ (n : ℕ). drop n live) (let z : place + (k + 1) ≡ place + k + 1 = omega arith in z) in
     next_met place p left (took (Some m) next) tag
     ∙ (found_here (drop place live) k m pair next here (found.1.0 pair here) (λ j q lt e. found.1.1 j q lt e)
-    ∙ (ap (λ (t : Taken ImageWords). t >>= λ w. took (Some (w.0, drop (k + 1) (drop place live))) w.1) words
+    ∙ (ap (λ (t : FieldTaken ImageWords). t >>= λ w. took (Some (w.0, drop (k + 1) (drop place live))) w.1) words
     ∙ ap (λ (qs : List (ℕ × ℕ)). o >>= λ w. took (Some (w.0, qs)) w.1) after))
 
 pub image_taken : (place k m : ℕ) (pair : ℕ × ℕ) (x : Image) (p q : Parts) (list : List (ℕ × ℕ)) (left mid rest : List ℕ) → list ≡ drop place p.live.items → next_at left ≡ took (Some m) mid → slice_get list k ≡ Some pair → IsPlaceOf list m (Some k) →

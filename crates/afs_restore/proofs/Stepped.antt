@@ -1,22 +1,22 @@
 -- The words of the next image: its vnode is looked for in the list.
 use Rattle.std.proofs.Common.{◌≡◌, ℕ, zero, suc, ◌+◌, ◌<◌, true, false, cond, List, [], ◌∷◌, drop, slice_get, Option, Some, None, nat_eq, refl, ap, subst, ◌∙◌, arith}
-use Rattle.afs_dumps.specs.Feeding.{words_at}
-use Rattle.afs_dumps.specs.Fields.{Taken, took, cut_at, bad_at, ◌>>=◌}
-use Rattle.afs_dumps.specs.Streams.{by_next, image_words_field, next_at, only_end, ImageWords}
+use Rattle.spec_dumps.specs.Feeding.{words_at}
+use Rattle.spec_dumps.specs.Fields.{FieldTaken, took, cut_at, bad_at, ◌>>=◌}
+use Rattle.spec_dumps.specs.Streams.{by_next, image_words_field, next_at, only_end, ImageWords}
 
-abbrev pub found_words : List (ℕ × ℕ) → Option ℕ → List ℕ → Taken (Option (ImageWords × List (ℕ × ℕ)))
+abbrev pub found_words : List (ℕ × ℕ) → Option ℕ → List ℕ → FieldTaken (Option (ImageWords × List (ℕ × ℕ)))
 found_words ps None rest = took None rest
 found_words [] (Some m) rest = bad_at rest
 found_words (p ∷ ps) (Some m) rest = cond (nat_eq m p.0) ((image_words_field p).at rest >>= λ w. took (Some (w.0, ps)) w.1) (found_words ps (Some m) rest)
 
-looked : (p : ℕ × ℕ) (ps : List (ℕ × ℕ)) (next : Taken (Option ℕ)) (other : Taken (Option (ImageWords × List (ℕ × ℕ)))) → other ≡ (next >>= λ o. found_words ps o.0 o.1) →
+looked : (p : ℕ × ℕ) (ps : List (ℕ × ℕ)) (next : FieldTaken (Option ℕ)) (other : FieldTaken (Option (ImageWords × List (ℕ × ℕ)))) → other ≡ (next >>= λ o. found_words ps o.0 o.1) →
     (next >>= λ o. by_next p.0 o.0 o.1 None ((image_words_field p).at o.1 >>= λ w. took (Some (w.0, ps)) w.1) other) ≡ (next >>= λ o. found_words (p ∷ ps) o.0 o.1)
 looked p ps (took None rest) other is = refl
 looked p ps (took (Some m) rest) other is = ap (cond (nat_eq m p.0) ((image_words_field p).at rest >>= λ w. took (Some (w.0, ps)) w.1)) is
 looked p ps (cut_at left) other is = refl
 looked p ps (bad_at left) other is = refl
 
-end_looked : (next : Taken (Option ℕ)) → (next >>= λ o. only_end o.0 o.1 None) ≡ (next >>= λ o. found_words [] o.0 o.1)
+end_looked : (next : FieldTaken (Option ℕ)) → (next >>= λ o. only_end o.0 o.1 None) ≡ (next >>= λ o. found_words [] o.0 o.1)
 end_looked (took None rest) = refl
 end_looked (took (Some m) rest) = refl
 end_looked (cut_at left) = refl

@@ -1,11 +1,11 @@
 -- The vnodes that a dump and a volume give together, pair by pair of the list.
 use Rattle.std.specs.Prelude.{◌≡◌, ◌≤◌, length, ℕ, List, [], ◌∷◌, Bool, true, false, Option, Some, None, nat_eq, if◌then◌else◌}
 use Rattle.std.specs.Option.{option_map}
-use Rattle.afs_ideal.specs.Images.{Image}
-use Rattle.afs_ideal.specs.Tables.{Table, get, AscendsFrom}
-use Rattle.afs_ideal.specs.VnodeImage.{kind_fits, FitsImage}
-use Rattle.afs_ideal.specs.VnodeMaps.{most_vnodes}
-use Rattle.afs_dumps.specs.Streams.{are_good_contents, is_good_acl}
+use Rattle.spec_ideal.specs.Images.{Image}
+use Rattle.spec_ideal.specs.Tables.{Table, get, AscendsFrom}
+use Rattle.spec_ideal.specs.VnodeImage.{kind_fits, FitsImage}
+use Rattle.spec_ideal.specs.VnodeMaps.{most_vnodes}
+use Rattle.spec_dumps.specs.Streams.{are_good_contents, is_good_acl}
 use Rattle.afs_volume.specs.Seen.{IsReadable}
 
 -- ---- what the dump gives
@@ -21,7 +21,7 @@ given_in [] is = []
 given_in (p ∷ ps) is = (next_given p is).0 ∷ given_in ps (next_given p is).1
 
 -- An image has the number of its pair and a kind that fits, and its access list and contents are good.
-pub record IsGood (p : ℕ × ℕ) (i : Image) : Type 0 where
+pub record ImageIsGood (p : ℕ × ℕ) (i : Image) : Type 0 where
   pub number : i.vnode ≡ p.0
   pub kind : kind_fits i.vnode i.kind ≡ true
   pub acl : is_good_acl i.kind i.acl ≡ true
@@ -30,14 +30,14 @@ pub record IsGood (p : ℕ × ℕ) (i : Image) : Type 0 where
 
 abbrev pub IsGoodWhere : ℕ × ℕ → Option Image → Type 0
 IsGoodWhere p None = Unit {0}
-IsGoodWhere p (Some i) = IsGood p i
+IsGoodWhere p (Some i) = ImageIsGood p i
 
 -- one for each pair of a list, or none
-abbrev pub AreGood : List (ℕ × ℕ) → List (Option Image) → Type 0
-AreGood [] [] = Unit {0}
-AreGood [] (o ∷ os) = ⊥
-AreGood (p ∷ ps) [] = ⊥
-AreGood (p ∷ ps) (o ∷ os) = IsGoodWhere p o × AreGood ps os
+abbrev pub ImagesAreGood : List (ℕ × ℕ) → List (Option Image) → Type 0
+ImagesAreGood [] [] = Unit {0}
+ImagesAreGood [] (o ∷ os) = ⊥
+ImagesAreGood (p ∷ ps) [] = ⊥
+ImagesAreGood (p ∷ ps) (o ∷ os) = IsGoodWhere p o × ImagesAreGood ps os
 
 -- ---- what the volume gives besides
 

@@ -1,6 +1,6 @@
 -- What a reader of a dump keeps of what it read.
 use Rattle.std.specs.Prelude.{◌≡◌, [], length, take}
-use Rattle.afs_dumps.specs.Dumps.{Dump}
+use Rattle.spec_dumps.specs.Dumps.{Dump}
 use Rattle.afs_restore.specs.Reading.{headers_told}
 use Rattle.afs_restore.specs.declared.parts.Noted.{Noted}
 use Rattle.afs_restore.specs.declared.parts.Parts.{Parts}

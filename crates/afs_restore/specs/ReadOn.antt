@@ -1,15 +1,14 @@
 -- How far bytes are read on, and what a restorer was fed.
 use Rattle.std.specs.Prelude.{◌≡◌, ◌≤◌, ℕ, ◌+◌, ◌-◌, List, [], ◌++◌, drop, length, Option, Some, None}
 use Rattle.std.specs.List.{flat_map}
-use Rattle.afs_xdr.specs.Words.{word, opaque}
-use Rattle.afs_ideal.specs.DirectoryLaws.{IsBytes}
-use Rattle.afs_ideal.specs.Images.{Image}
-use Rattle.afs_dumps.specs.Dumps.{Headers}
-use Rattle.afs_dumps.specs.Feeding.{Begun, Stage, at_headers, at_count, at_pair, at_image, at_acl, at_contents, at_magic, at_end}
-use Rattle.afs_dumps.specs.Fields.{cut_at}
-use Rattle.afs_dumps.specs.Laws.{IsReading}
-use Rattle.afs_dumps.specs.Restores.{fed}
-use Rattle.afs_dumps.specs.Streams.{dump_at, end_magic, end_tag, headers_field, image_bytes, image_words_field, pair_bytes, vnode_tag, ImageWords}
+use Rattle.afs_xdr.specs.Words.{word, opaque, IsBytes}
+use Rattle.spec_ideal.specs.Images.{Image}
+use Rattle.spec_dumps.specs.Dumps.{Headers}
+use Rattle.spec_dumps.specs.Feeding.{Begun, Stage, at_headers, at_count, at_pair, at_image, at_acl, at_contents, at_magic, at_end}
+use Rattle.spec_dumps.specs.Fields.{cut_at}
+use Rattle.spec_dumps.specs.Laws.{IsReading}
+use Rattle.spec_dumps.specs.Restores.{fed}
+use Rattle.spec_dumps.specs.Streams.{dump_at, end_magic, end_tag, headers_field, image_bytes, image_words_field, pair_bytes, vnode_tag, ImageWords}
 use Rattle.afs_restore.specs.Steps.{stage_of, IsStep}
 use Rattle.afs_restore.specs.declared.parts.Parts.{Parts}
 use Rattle.afs_restore.specs.declared.reading.Read.{Read}
@@ -48,7 +47,7 @@ bytes_read step p pending = bytes_before (stage_of step p) ++ pending
 -- ---- reading on
 
 -- A reader of these bytes is where this step comes next.
-pub record Stands (step : Step) (p : Parts) (pending : List ℕ) : Type 0 where
+pub record ReaderStands (step : Step) (p : Parts) (pending : List ℕ) : Type 0 where
   pub may : IsStep step p
   pub reading : IsReading (bytes_read step p pending) (stage_of step p) pending
 
@@ -61,7 +60,7 @@ Waits step bytes pending short = (left : List ℕ) × ((dump_at bytes ≡ cut_at
 pub record Reaches (from : Step) (before : Parts) (bytes : List ℕ) (step : Step) (after : Parts) (left : ℕ) : Type 0 where
   pub within : left ≤ length bytes
   pub same : bytes_read step after (drop (length bytes - left) bytes) ≡ bytes_read from before bytes
-  pub stands : Stands step after (drop (length bytes - left) bytes)
+  pub stands : ReaderStands step after (drop (length bytes - left) bytes)
 
 -- so many of the bytes are pending then
 abbrev pub left_of : Read → ℕ
@@ -82,7 +81,7 @@ ReadsOn from before bytes after (reads.Refused step left short) =
 
 -- These bytes came, so many, and they weren't refused.
 pub record IsFedSoFar (step : Step) (p : Parts) (pending : List ℕ) (count short : ℕ) : Type 0 where
-  pub stands : Stands step p pending
+  pub stands : ReaderStands step p pending
   pub fits : IsBytes (bytes_read step p pending)
   pub many : count ≡ length (bytes_read step p pending)
   pub waits : Waits step (bytes_read step p pending) pending short

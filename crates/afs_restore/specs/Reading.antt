@@ -1,10 +1,10 @@
 -- What a call that reads a field of a stream gives, in terms of the bytes that were left.
 use Rattle.std.specs.Prelude.{◌≡◌, ℕ, List, Result, Ok, Err}
-use Rattle.afs_ideal.specs.Images.{Image}
+use Rattle.spec_ideal.specs.Images.{Image}
 use Rattle.afs_xdr.specs.Reading.{Reading}
-use Rattle.afs_dumps.specs.Dumps.{DumpHeader, Headers, VolumeHeader}
-use Rattle.afs_dumps.specs.Fields.{Taken, took, cut_at, bad_at}
-use Rattle.afs_dumps.specs.Streams.{image_parts, ImageWords}
+use Rattle.spec_dumps.specs.Dumps.{DumpHeader, Headers, VolumeHeader}
+use Rattle.spec_dumps.specs.Fields.{FieldTaken, took, cut_at, bad_at}
+use Rattle.spec_dumps.specs.Streams.{image_parts, ImageWords}
 use Rattle.afs_restore.specs.declared.headers.Headers as read
 use Rattle.afs_restore.specs.declared.headers.Source.{Source}
 use Rattle.afs_restore.specs.declared.headers.Told.{Told}
@@ -13,7 +13,7 @@ use Rattle.afs_restore.specs.declared.stops.Stop.TheVariants as stops
 
 -- The result, seen by view, is what this reading gives, and what it leaves is left; a field that is cut or bad is left, to its
 -- first byte. Nothing is said where memory ran out.
-abbrev pub ReadsField : {X Y : Type 0} → (List ℕ → Taken Y) → (X → Y) → Reading → Reading → Result X Stop → Type 0
+abbrev pub ReadsField : {X Y : Type 0} → (List ℕ → FieldTaken Y) → (X → Y) → Reading → Reading → Result X Stop → Type 0
 ReadsField at view old new (Ok x) = at old.left ≡ took (view x) new.left
 ReadsField at view old new (Err stops.Cut) = at old.left ≡ cut_at new.left
 ReadsField at view old new (Err stops.Bad) = at old.left ≡ bad_at new.left

@@ -1,7 +1,7 @@
 -- What a call that makes a volume of a dump gives.
 use Rattle.std.specs.Prelude.{◌≡◌, Some, None, Result, Ok, Err}
-use Rattle.afs_dumps.specs.Dumps.{Dump}
-use Rattle.afs_dumps.specs.Restores.{restored}
+use Rattle.spec_dumps.specs.Dumps.{Dump}
+use Rattle.spec_dumps.specs.Restores.{restored}
 use Rattle.afs_volume.specs.Taking.{stored_of}
 use Rattle.afs_volume.specs.declared.faults.AssembleFault.{AssembleFault}
 use Rattle.afs_volume.specs.declared.faults.AssembleFault.TheVariants as faults

@@ -1,7 +1,7 @@
 -- A stream that is read as its bytes come: at which stage its reader is, and what a step makes of the bytes.
 use Rattle.std.specs.Prelude.{◌≡◌, ◌≤◌, ◌<◌, ℕ, zero, suc, List, [], drop, length, slice_get, Option, Some, None, Result, Err, nat_eq, false, true}
-use Rattle.afs_dumps.specs.Feeding.{Begun, Stage, at_headers, at_count, at_pair, at_image, at_acl, at_contents, at_magic, at_end, begun, stepped}
-use Rattle.afs_dumps.specs.Fields.{Taken, took, ◌>>=◌}
+use Rattle.spec_dumps.specs.Feeding.{Begun, Stage, at_headers, at_count, at_pair, at_image, at_acl, at_contents, at_magic, at_end, begun, stepped}
+use Rattle.spec_dumps.specs.Fields.{FieldTaken, took, ◌>>=◌}
 use Rattle.afs_restore.specs.Parts.{dump_in, IsAtFirst}
 use Rattle.afs_restore.specs.Reading.{headers_told, words_in}
 use Rattle.afs_restore.specs.declared.parts.Parts.{Parts}
@@ -42,7 +42,7 @@ abbrev pub past_pairs : Stage → Stage
 past_pairs (at_pair h zero least ps) = at_image (begun h ps)
 past_pairs stage = stage
 
-unfoldable pub stepped_past : Stage → List ℕ → Taken Stage
+unfoldable pub stepped_past : Stage → List ℕ → FieldTaken Stage
 stepped_past stage bytes = stepped stage bytes >>= λ s. took (past_pairs s.0) s.1
 
 -- what comes after the count of the list, or after a pair

@@ -1,11 +1,11 @@
 //! Fields of a stream. Each call reads one; where it is cut or no good, the reader stays at its first byte.
 
 ghost use Rattle.std.specs.Prelude.{◌≡◌, not, nat_eq, nat_lt, IfOk, OnErr};
-ghost use Rattle.afs_ideal.specs.DirectoryLaws.{IsBytes};
-ghost use Rattle.afs_ideal.specs.VnodeImage.{kind_fits};
-ghost use Rattle.afs_dumps.specs.Fields.{only, text_field, word_field};
-ghost use Rattle.afs_dumps.specs.Fields as fields;
-ghost use Rattle.afs_dumps.specs.Streams.{acl_field, are_good_contents, contents_field, count_field, is_good_acl, pair_field};
+ghost use Rattle.afs_xdr.specs.Words.{IsBytes};
+ghost use Rattle.spec_ideal.specs.VnodeImage.{kind_fits};
+ghost use Rattle.spec_dumps.specs.Fields.{only, text_field, word_field};
+ghost use Rattle.spec_dumps.specs.Fields as fields;
+ghost use Rattle.spec_dumps.specs.Streams.{acl_field, are_good_contents, contents_field, count_field, is_good_acl, pair_field};
 ghost use Rattle.afs_restore.specs.Reading.{ReadsField};
 
 use crate::stops::Stop;
@@ -108,7 +108,7 @@ pub fn pair(r: &mut Reader, least: u64) -> Result<(u32, u32), Stop>
 }
 
 /// Whether the kind is one, and fits the number: directories have odd numbers, files and links even ones.
-#[tactic(auto, unfolding(afs_ideal::specs::VnodeImage::kind_fits))]
+#[tactic(auto, unfolding(spec_ideal::specs::VnodeImage::kind_fits))]
 fn kind_fits(vnode: u32, kind: u32) -> bool
     ensures { result ≡ kind_fits vnode kind }
 {

@@ -1,7 +1,7 @@
 //! What stands in a dump before its list.
 
 ghost use Rattle.std.specs.Prelude.{◌≡◌, IfOk};
-ghost use Rattle.afs_dumps.specs.Streams.{dump_header_field, headers_field, volume_header_field};
+ghost use Rattle.spec_dumps.specs.Streams.{dump_header_field, headers_field, volume_header_field};
 ghost use Rattle.afs_restore.specs.Reading.{headers_told, source_told, volume_told, ReadsField};
 
 use crate::fields::{mark, text, word};
@@ -85,7 +85,7 @@ pub fn copy_headers(alloc: Global, headers: &Headers) -> Mem<Headers>
 }
 
 /// The dump header.
-#[tactic(auto, unfolding(afs_dumps::specs::Streams::dump_header_field))]
+#[tactic(auto, unfolding(spec_dumps::specs::Streams::dump_header_field))]
 fn dump_header(alloc: Global, r: &mut Reader) -> Result<Source, Stop>
     ensures { ReadsField dump_header_field.at source_told r.old r.new result }
 {
@@ -103,7 +103,7 @@ fn dump_header(alloc: Global, r: &mut Reader) -> Result<Source, Stop>
 }
 
 /// The volume header.
-#[tactic(auto, unfolding(afs_dumps::specs::Streams::volume_header_field))]
+#[tactic(auto, unfolding(spec_dumps::specs::Streams::volume_header_field))]
 fn volume_header(r: &mut Reader) -> Result<Told, Stop>
     ensures { ReadsField volume_header_field.at volume_told r.old r.new result }
 {

@@ -1,6 +1,6 @@
 //! The images of a dump.
 
-ghost use Rattle.afs_dumps.specs.Streams.{image_words_field, next_at};
+ghost use Rattle.spec_dumps.specs.Streams.{image_words_field, next_at};
 ghost use Rattle.afs_restore.specs.Reading.{words_in, ReadsField};
 
 use crate::fields::{kind, same_word, word};
@@ -17,7 +17,7 @@ const END_TAG: u32 = 4;
 
 /// The number of the vnode whose image comes next, or none at the end of the images. The number is still to be read with the
 /// image.
-#[tactic(auto, unfolding(afs_dumps::specs::Streams::next_at))]
+#[tactic(auto, unfolding(spec_dumps::specs::Streams::next_at))]
 pub fn next(r: &mut Reader) -> Result<Option<u32>, Stop>
     ensures { ReadsField next_at (λ n. n) r.old r.new result }
 {

@@ -2,7 +2,7 @@
 
 ghost use Rattle.std.specs.Prelude.{◌≡◌, ◌++◌, ◌-◌, ◌≤◌, drop, length, IfOk, OnErr};
 ghost use Rattle.afs_restore.specs.Parts.{AreSame, Keeps};
-ghost use Rattle.afs_restore.specs.ReadOn.{left_of, pending_of, ReadsOn, Stands};
+ghost use Rattle.afs_restore.specs.ReadOn.{left_of, pending_of, ReadsOn, ReaderStands};
 
 use crate::fields::are_bytes;
 use crate::parts::Parts;
@@ -22,7 +22,7 @@ pub enum Read {
 
 /// Reads on as far as the bytes go, where this step comes next.
 fn read_on(alloc: Global, bytes: &[u8], parts: &mut Parts, from: Step) -> Mem<Read>
-    requires { Stands from parts.old bytes.now }
+    requires { ReaderStands from parts.old bytes.now }
     ensures read { IfOk result (ReadsOn from parts.old bytes.now parts.new) }
     ensures kept { Keeps parts.old parts.new }
 {
@@ -59,7 +59,7 @@ fn left_of(read: Read) -> usize
 
 /// Reads on as far as the bytes go. Running out of memory leaves what was read as it was.
 fn read_or_go_back(alloc: Global, bytes: &[u8], parts: &mut Parts, from: Step) -> Mem<Read>
-    requires { Stands from parts.old bytes.now }
+    requires { ReaderStands from parts.old bytes.now }
     ensures read { IfOk result (ReadsOn from parts.old bytes.now parts.new) }
     ensures same { OnErr result (AreSame parts.old parts.new) }
 {
@@ -94,7 +94,7 @@ fn read_behind(
     parts: &mut Parts,
     from: Step,
 ) -> Mem<Read>
-    requires { Stands from parts.old (pending.old.items ++ piece.now) }
+    requires { ReaderStands from parts.old (pending.old.items ++ piece.now) }
     ensures read { IfOk result (ReadsOn from parts.old (pending.old.items ++ piece.now) parts.new) }
     ensures pending { IfOk result (λ read. pending.new.items ≡ pending_of read (pending.old.items ++ piece.now)) }
     ensures same { OnErr result (AreSame parts.old parts.new) }
@@ -125,7 +125,7 @@ fn last(alloc: Global, bytes: &[u8], left: usize) -> Mem<Vec<u8>>
 
 /// Reads on as far as the bytes go, and copies what is left.
 fn read_and_keep(alloc: Global, bytes: &[u8], parts: &mut Parts, from: Step) -> Mem<(Read, Vec<u8>)>
-    requires { Stands from parts.old bytes.now }
+    requires { ReaderStands from parts.old bytes.now }
     ensures read { IfOk result (λ r. ReadsOn from parts.old bytes.now parts.new r.0) }
     ensures pending { IfOk result (λ r. r.1.items ≡ pending_of r.0 bytes.now) }
     ensures kept { Keeps parts.old parts.new }
@@ -143,7 +143,7 @@ fn read_alone(
     parts: &mut Parts,
     from: Step,
 ) -> Mem<Read>
-    requires { Stands from parts.old piece.now }
+    requires { ReaderStands from parts.old piece.now }
     ensures read { IfOk result (ReadsOn from parts.old piece.now parts.new) }
     ensures pending { IfOk result (λ read. pending.new.items ≡ pending_of read piece.now) }
     ensures same { OnErr result (AreSame parts.old parts.new) }
@@ -170,7 +170,7 @@ pub fn read_more(
     parts: &mut Parts,
     from: Step,
 ) -> Mem<Read>
-    requires { Stands from parts.old (pending.old.items ++ piece.now) }
+    requires { ReaderStands from parts.old (pending.old.items ++ piece.now) }
     ensures read { IfOk result (ReadsOn from parts.old (pending.old.items ++ piece.now) parts.new) }
     ensures pending { IfOk result (λ read. pending.new.items ≡ pending_of read (pending.old.items ++ piece.now)) }
     ensures same { OnErr result (AreSame parts.old parts.new) }

@@ -1,7 +1,7 @@
 //! A dump that comes in pieces.
 
 ghost use Rattle.std.specs.Prelude.{◌≡◌, ◌++◌, ℕ, [], Err, IfOk, None, Ok, OnOk, Some};
-ghost use Rattle.afs_dumps.specs.Restores.{fed, finished};
+ghost use Rattle.spec_dumps.specs.Restores.{fed, restored_from};
 ghost use Rattle.afs_volume.specs.Taking.{stored_of};
 ghost use Rattle.afs_restore.specs.declared.faults.DumpFault.TheVariants.{Bad, OutOfMemory};
 
@@ -93,11 +93,11 @@ impl Restorer {
 
     /// The volume that the whole stream makes of `old`, under its number, as `old` is now. The restorer stays as it is: the volume
     /// shares its bytes with it.
-    #[tactic(auto, unfolding(afs_dumps::specs::Restores::finished))]
+    #[tactic(auto, unfolding(spec_dumps::specs::Restores::restored_from))]
     pub fn finish(&self, alloc: Global, old: &Volume) -> Result<Volume, DumpFault>
         ensures id { IfOk result (λ v. v.head.id ≡ old.now.head.id) }
-        ensures ok { IfOk result (λ v. finished old.now.head.id (stored_of old.now) self.now ≡ Ok (stored_of v)) }
-        ensures bad { (offset : ℕ) → result ≡ Err (Bad offset) → finished old.now.head.id (stored_of old.now) self.now ≡ Err offset }
+        ensures ok { IfOk result (λ v. restored_from old.now.head.id (stored_of old.now) self.now ≡ Ok (stored_of v)) }
+        ensures bad { (offset : ℕ) → result ≡ Err (Bad offset) → restored_from old.now.head.id (stored_of old.now) self.now ≡ Err offset }
     {
         if let Some(offset) = self.refused {
             return Err(DumpFault::Bad(offset));
@@ -119,8 +119,8 @@ impl Restorer {
 /// that of the end's tag where the dump makes no sound volume.
 pub fn restore(alloc: Global, bytes: &[u8], old: &Volume) -> Result<Volume, DumpFault>
     ensures id { IfOk result (λ v. v.head.id ≡ old.now.head.id) }
-    ensures ok { IfOk result (λ v. finished old.now.head.id (stored_of old.now) bytes.now ≡ Ok (stored_of v)) }
-    ensures bad { (offset : ℕ) → result ≡ Err (Bad offset) → finished old.now.head.id (stored_of old.now) bytes.now ≡ Err offset }
+    ensures ok { IfOk result (λ v. restored_from old.now.head.id (stored_of old.now) bytes.now ≡ Ok (stored_of v)) }
+    ensures bad { (offset : ℕ) → result ≡ Err (Bad offset) → restored_from old.now.head.id (stored_of old.now) bytes.now ≡ Err offset }
 {
     let mut restorer = Restorer::new(alloc);
     restorer.feed(alloc, bytes)?;

@@ -2,12 +2,12 @@
 
 ghost use Rattle.std.specs.Prelude.{◌≡◌, ◌&&◌, nat_eq, not, Some, Err, false, IfOk, IfSome};
 ghost use Rattle.std.specs.Option.{option_copied, option_map};
-ghost use Rattle.afs_dumps.specs.Streams.{FitsDump};
+ghost use Rattle.spec_dumps.specs.Streams.{FitsDump};
 ghost use Rattle.afs_vnode.specs.Stores.{table_of};
 ghost use Rattle.afs_volume.specs.Assembling.{make_volume};
 ghost use Rattle.afs_volume.specs.Seen.{AreReadable, FitsHead};
 ghost use Rattle.afs_volume.specs.declared.faults.AssembleFault.TheVariants.{NotSound};
-ghost use Rattle.afs_restore.specs.Filling.{filled, given_in, image_indexed, kept, next_given, or_kept, AreGood, AreMade, IsGiven, IsGood, IsList, IsMade};
+ghost use Rattle.afs_restore.specs.Filling.{filled, given_in, image_indexed, kept, next_given, or_kept, ImagesAreGood, AreMade, IsGiven, ImageIsGood, IsList, IsMade};
 ghost use Rattle.afs_restore.specs.Parts.{dump_in};
 ghost use Rattle.afs_restore.specs.Restoring.{MakesVolume};
 
@@ -36,7 +36,7 @@ fn next_given(images: &[Vnode], pair: (u32, u32)) -> (Option<&Vnode>, &[Vnode])
 
 /// A copy of an image that the dump gives.
 fn given_copy(alloc: Global, x: &Vnode, pair: (u32, u32)) -> Mem<Vnode>
-    requires { IsGood pair x.now }
+    requires { ImageIsGood pair x.now }
     ensures value { IfOk result (λ y. y ≡ x.now) }
     ensures made { IfOk result (IsMade pair) }
 {
@@ -68,7 +68,7 @@ fn given_or_kept(
     pair: (u32, u32),
 ) -> Mem<Option<Vnode>>
     requires readable { AreReadable old.now.table }
-    requires good { IfSome given (λ x. IsGood pair x.now) }
+    requires good { IfSome given (λ x. ImageIsGood pair x.now) }
     ensures value { IfOk result (λ o. o ≡ or_kept (option_copied given.entry) (kept old.now.table pair)) }
     ensures given { IfOk result (λ o. IsGiven pair o) }
 {
@@ -101,7 +101,7 @@ fn filled(
     anew: bool,
 ) -> Mem<Option<Vnodes>>
     requires readable { AreReadable old.now.table }
-    requires good { AreGood live.now (given_in live.now images.now) }
+    requires good { ImagesAreGood live.now (given_in live.now images.now) }
     ensures value { IfOk result (λ o. o ≡ filled anew old.now.table live.now (given_in live.now images.now)) }
     ensures made { IfOk result (λ o. IfSome o (AreMade live.now)) }
 {

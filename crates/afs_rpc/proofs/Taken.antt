@@ -1,16 +1,16 @@
 -- A message that is taken while it is read, behind what stands before it.
 use Rattle.std.proofs.Common.{◌≡◌, ℕ, Bool, true, List, Option, Some, Result, Ok, Err, refl, sym, subst}
 use Rattle.afs_xdr.specs.Words.{opaque_at}
-use Rattle.afs_shape.specs.declared.faults.ShapeFault.{ShapeFault}
-use Rattle.afs_shape.specs.declared.faults.ShapeFault.TheVariants as faults
-use Rattle.afs_shape.specs.declared.kinds.Kind.{Kind}
-use Rattle.afs_shape.specs.Reading.{in_place, GivesShape}
-use Rattle.afs_shape.specs.Rows.{MessageTable, message_of}
-use Rattle.afs_shape.specs.Bodies.{row_at, body_at}
-use Rattle.afs_shape.specs.Taken.{row_fields_at, TakesRead}
+use Rattle.spec_shape.specs.declared.faults.ShapeFault.{ShapeFault}
+use Rattle.spec_shape.specs.declared.faults.ShapeFault.TheVariants as faults
+use Rattle.spec_shape.specs.declared.kinds.Kind.{Kind}
+use Rattle.spec_shape.specs.Reading.{in_place, GivesShape}
+use Rattle.spec_shape.specs.Rows.{MessageTable, message_of}
+use Rattle.spec_shape.specs.Bodies.{row_at, body_at}
+use Rattle.spec_shape.specs.Taken.{row_fields_at, TakesRead}
 use Rattle.afs_fields.proofs.TakenLaws.{is_body}
-use Rattle.afs_model.specs.Heads.{user_limit}
-use Rattle.afs_model.specs.Rpc.{asked_at, answer_at}
+use Rattle.spec_model.specs.Heads.{user_limit}
+use Rattle.spec_model.specs.Rpc.{asked_at, answer_at}
 
 abbrev Asked : {X : Type 0} → MessageTable X → ℕ → List ℕ → Result (List ℕ × X) ShapeFault → Type 0
 Asked table opcode bytes r = GivesShape (λ c. c) (asked_at table opcode bytes) r

@@ -4,19 +4,19 @@ ghost use Rattle.std.specs.Prelude.{◌≡◌, ◌≤◌, length, List, ℕ, IfO
 ghost use Rattle.afs_num.specs.declared.types.Half.TheVariants as halves;
 ghost use Rattle.afs_num.specs.declared.types.Head.{Head};
 ghost use Rattle.afs_xdr.specs.Words.{opaque_at, AreWords};
-ghost use Rattle.afs_shape.specs.Reading.{in_place, ReadsShape, GivesShape};
-ghost use Rattle.afs_shape.specs.Tables.{AreInRange};
-ghost use Rattle.afs_shape.specs.Rows.{IsWithin};
-ghost use Rattle.afs_model.specs.Heads.{user_limit, head_words};
-ghost use Rattle.afs_model.specs.Rpc.{asked_at, call_at, spelled_call, SpellsCall, ReadsCall, IsValueOrNoMemory, IsHeadFor};
+ghost use Rattle.spec_shape.specs.Reading.{in_place, ReadsShape, GivesShape};
+ghost use Rattle.spec_shape.specs.Tables.{AreInRange};
+ghost use Rattle.spec_shape.specs.Rows.{IsWithin};
+ghost use Rattle.spec_model.specs.Heads.{user_limit, head_words};
+ghost use Rattle.spec_model.specs.Rpc.{asked_at, call_at, spelled_call, SpellsCall, ReadsCall, IsValueOrNoMemory, IsHeadFor};
 
 use crate::heads::{head_of_half, write_head};
 use afs_fields::messages::Messages;
 use afs_num::sequences::Octets;
 use afs_num::types::{Half, Head, Mem};
-use afs_shape::faults::ShapeFault;
 use afs_xdr::reading::Reader;
 use afs_xdr::writing::Writer;
+use spec_shape::faults::ShapeFault;
 use std::alloc::Global;
 
 /// A user's name, in bytes.
@@ -37,7 +37,7 @@ fn read_user(alloc: Global, r: &mut Reader) -> Result<Octets, ShapeFault>
 
 /// Reads a call of this opcode behind its header: its user and its fields. `NoRow` where the opcode has none, then
 /// `Field` with the first bad one.
-#[tactic(auto, unfolding(afs_model::specs::Rpc::asked_at))]
+#[tactic(auto, unfolding(spec_model::specs::Rpc::asked_at))]
 pub fn read_asked<M: Messages>(
     alloc: Global,
     opcode: u32,
@@ -52,7 +52,7 @@ pub fn read_asked<M: Messages>(
 }
 
 /// The call of these bytes, as it is read.
-#[tactic(auto, unfolding(afs_model::specs::Rpc::call_at))]
+#[tactic(auto, unfolding(spec_model::specs::Rpc::call_at))]
 fn read_call<M: Messages>(
     alloc: Global,
     bytes: &[u8],

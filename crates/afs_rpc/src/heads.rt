@@ -3,15 +3,15 @@
 ghost use Rattle.std.specs.Prelude.{◌≡◌, ◌++◌, Ok, Err, OnOk, OnErr};
 ghost use Rattle.afs_xdr.specs.Reading.{Reads, Gives, KeepsEnd};
 ghost use Rattle.afs_xdr.specs.Words.{words, AreWords};
-ghost use Rattle.afs_model.specs.Heads.{half_number, half_of, half_at, node_at, head_at, head_words};
-ghost use Rattle.afs_shape.specs.Reading.{ReadsShape};
-ghost use Rattle.afs_model.specs.Rpc.{first_of, same_half, half_head_at};
+ghost use Rattle.spec_model.specs.Heads.{half_number, half_of, half_at, node_at, head_at, head_words};
+ghost use Rattle.spec_shape.specs.Reading.{ReadsShape};
+ghost use Rattle.spec_model.specs.Rpc.{first_of, same_half, half_head_at};
 
 use afs_num::types::{Half, Head, Mem, Node};
-use afs_shape::faults::ShapeFault;
 use afs_xdr::faults::XdrFault;
 use afs_xdr::reading::Reader;
 use afs_xdr::writing::Writer;
+use spec_shape::faults::ShapeFault;
 
 fn half_of_word(n: u32) -> Option<Half>
     ensures { result ≡ half_of n }
@@ -34,7 +34,7 @@ fn word_of_half(half: Half) -> u32
     }
 }
 
-#[tactic(auto, unfolding(afs_model::specs::Heads::half_at))]
+#[tactic(auto, unfolding(spec_model::specs::Heads::half_at))]
 fn read_half(r: &mut Reader) -> Result<Half, XdrFault>
     ensures value { Reads half_at (λ x. x) r.old r.new result }
     ensures end { KeepsEnd r.old r.new }
@@ -46,7 +46,7 @@ fn read_half(r: &mut Reader) -> Result<Half, XdrFault>
     }
 }
 
-#[tactic(auto, unfolding(afs_model::specs::Heads::node_at))]
+#[tactic(auto, unfolding(spec_model::specs::Heads::node_at))]
 fn read_node(r: &mut Reader) -> Result<Node, XdrFault>
     ensures value { Reads node_at (λ x. x) r.old r.new result }
     ensures end { KeepsEnd r.old r.new }
@@ -59,7 +59,7 @@ fn read_node(r: &mut Reader) -> Result<Node, XdrFault>
 }
 
 /// Reads a header: `BadHead` at an unknown half or node, `Short` where the bytes end in it.
-#[tactic(auto, unfolding(afs_model::specs::Heads::head_at))]
+#[tactic(auto, unfolding(spec_model::specs::Heads::head_at))]
 pub fn head_of(r: &mut Reader) -> Result<Head, XdrFault>
     ensures value { Reads head_at (λ x. x) r.old r.new result }
     ensures end { KeepsEnd r.old r.new }
@@ -96,7 +96,7 @@ fn is_half(a: Half, b: Half) -> bool
 }
 
 /// Reads a header of this half.
-#[tactic(auto, unfolding(afs_model::specs::Rpc::half_head_at))]
+#[tactic(auto, unfolding(spec_model::specs::Rpc::half_head_at))]
 pub fn head_of_half(r: &mut Reader, half: Half) -> Result<Head, ShapeFault>
     ensures { ReadsShape (half_head_at half) (λ h. h) r.old r.new result }
 {

@@ -7,20 +7,20 @@ ghost use Rattle.std.specs.Option.{option_copied};
 ghost use Rattle.afs_num.specs.declared.types.Half.TheVariants as halves;
 ghost use Rattle.afs_num.specs.declared.types.Head.{Head};
 ghost use Rattle.afs_xdr.specs.Words.{AreWords};
-ghost use Rattle.afs_shape.specs.Spelling.{fields_spelled, IsSpellable};
-ghost use Rattle.afs_shape.specs.Reading.{in_place, signed_at, fields_to_end_at, ReadsShape, GivesShape};
-ghost use Rattle.afs_shape.specs.Tables.{AreInRange};
-ghost use Rattle.afs_model.specs.Heads.{is_zero, head_words};
-ghost use Rattle.afs_model.specs.Rpc.{answer_at, replied_at, reply_at, answer_fields, spelled_reply, SpellsReply, ReadsReply, IsValueOrNoMemory, CanAnswer, IsHeadFor, IsOpcodeOf};
+ghost use Rattle.spec_shape.specs.Spelling.{fields_spelled, IsSpellable};
+ghost use Rattle.spec_shape.specs.Reading.{in_place, signed_at, fields_to_end_at, ReadsShape, GivesShape};
+ghost use Rattle.spec_shape.specs.Tables.{AreInRange};
+ghost use Rattle.spec_model.specs.Heads.{is_zero, head_words};
+ghost use Rattle.spec_model.specs.Rpc.{answer_at, replied_at, reply_at, answer_fields, spelled_reply, SpellsReply, ReadsReply, IsValueOrNoMemory, CanAnswer, IsHeadFor, IsOpcodeOf};
 
 use crate::heads::{head_of_half, write_head};
 use afs_fields::messages::Messages;
 use afs_num::sequences::Octets;
 use afs_num::types::{Code, Half, Head, Mem};
-use afs_shape::faults::ShapeFault;
-use afs_shape::kinds::Fields;
 use afs_xdr::reading::Reader;
 use afs_xdr::writing::Writer;
+use spec_shape::faults::ShapeFault;
+use spec_shape::kinds::Fields;
 use std::alloc::Global;
 
 fn is_done(code: Code) -> bool
@@ -30,7 +30,7 @@ fn is_done(code: Code) -> bool
 }
 
 /// Reads the code of a reply, which stands in place 0.
-#[tactic(auto, unfolding(afs_shape::specs::Reading::signed_at))]
+#[tactic(auto, unfolding(spec_shape::specs::Reading::signed_at))]
 fn read_code(r: &mut Reader) -> Result<Code, ShapeFault>
     ensures { ReadsShape (λ bytes. in_place 0 (signed_at bytes)) (λ z. z.0) r.old r.new result }
 {
@@ -41,7 +41,7 @@ fn read_code(r: &mut Reader) -> Result<Code, ShapeFault>
 }
 
 /// No fields, up to the last byte.
-#[tactic(auto, unfolding(afs_shape::specs::Reading::fields_to_end_at, afs_shape::specs::Reading::fields_at))]
+#[tactic(auto, unfolding(spec_shape::specs::Reading::fields_to_end_at, spec_shape::specs::Reading::fields_at))]
 pub fn no_fields(alloc: Global, r: &Reader) -> Result<Fields, ShapeFault>
     ensures { GivesShape (λ fs. fs) (fields_to_end_at [] r.now.left) result }
 {
@@ -52,7 +52,7 @@ pub fn no_fields(alloc: Global, r: &Reader) -> Result<Fields, ShapeFault>
 }
 
 /// What stands behind a code: the reply to a call of this opcode, or nothing.
-#[tactic(auto, unfolding(afs_model::specs::Rpc::answer_at))]
+#[tactic(auto, unfolding(spec_model::specs::Rpc::answer_at))]
 fn read_answer<M: Messages>(
     alloc: Global,
     opcode: u32,
@@ -72,7 +72,7 @@ fn read_answer<M: Messages>(
 }
 
 /// Reads the reply to a call of this opcode behind its header: its code and, where that is 0, its fields.
-#[tactic(auto, unfolding(afs_model::specs::Rpc::replied_at))]
+#[tactic(auto, unfolding(spec_model::specs::Rpc::replied_at))]
 pub fn read_replied<M: Messages>(
     alloc: Global,
     opcode: u32,
@@ -86,7 +86,7 @@ pub fn read_replied<M: Messages>(
 }
 
 /// The reply of these bytes, as it is read.
-#[tactic(auto, unfolding(afs_model::specs::Rpc::reply_at))]
+#[tactic(auto, unfolding(spec_model::specs::Rpc::reply_at))]
 fn read_reply<M: Messages>(
     alloc: Global,
     bytes: &[u8],

@@ -6,13 +6,13 @@ use Rattle.std.proofs.lemmas.List.{map-append}
 use Rattle.afs_num.specs.Nodes.{node_number, node_of, same_node}
 use Rattle.afs_num.specs.declared.types.Key.{Key}
 use Rattle.afs_num.specs.declared.types.Node.{Node}
-use Rattle.afs_ideal.specs.Tables.{AscendsFrom, Table}
-use Rattle.afs_model.specs.Calls.{call_seat, other_seats}
-use Rattle.afs_model.proofs.Basics.{node_apart}
-use Rattle.afs_records.specs.Durable.{Kept}
-use Rattle.afs_rows.specs.States.{Seat}
+use Rattle.spec_ideal.specs.Tables.{AscendsFrom, Table}
+use Rattle.spec_model.specs.Calls.{call_seat, other_seats}
+use Rattle.spec_model.proofs.Basics.{node_apart}
+use Rattle.spec_records.specs.Durable.{Kept}
+use Rattle.spec_rows.specs.States.{Seat}
 use Rattle.afs_saving.specs.Kept.{kept_found, or_loc, seat_kept, seats_after, AreToNodes, CanFollow, IsToNode}
-use Rattle.afs_records.proofs.Callers.{numbered}
+use Rattle.spec_records.proofs.Callers.{numbered}
 
 -- ---- numbers of nodes
 

@@ -3,11 +3,11 @@ use Rattle.std.proofs.Common.{◌≡◌, ℕ, Bool, true, false, List, [], ◌�
 use Rattle.std.specs.Prelude.{nat_eq, nat_lt}
 use Rattle.afs_num.specs.Nodes.{node_number, node_of, same_node, IsNode}
 use Rattle.afs_num.specs.declared.types.Node.{Node}
-use Rattle.afs_ideal.specs.Tables.{set, Table}
-use Rattle.afs_model.proofs.Basics.{same_node-refl, same_node-true}
-use Rattle.afs_records.specs.Durable.{Kept}
-use Rattle.afs_rows.specs.ServerRow.{seat_placed}
-use Rattle.afs_rows.specs.States.{Seat}
+use Rattle.spec_ideal.specs.Tables.{set, Table}
+use Rattle.spec_model.proofs.Basics.{same_node-refl, same_node-true}
+use Rattle.spec_records.specs.Durable.{Kept}
+use Rattle.spec_rows.specs.ServerRow.{seat_placed}
+use Rattle.spec_rows.specs.States.{Seat}
 use Rattle.afs_saving.specs.Kept.{or_loc, seat_kept, AreToNodes, IsToNode}
 use Rattle.afs_saving.proofs.Kept.{caller_number}
 

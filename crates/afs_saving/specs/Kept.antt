@@ -5,10 +5,10 @@ use Rattle.afs_num.specs.Nodes.{node_number, node_of}
 use Rattle.afs_num.specs.declared.types.Key.{Key}
 use Rattle.afs_num.specs.declared.types.Node.{Node}
 use Rattle.afs_num.specs.declared.types.Node.TheVariants.{Loc}
-use Rattle.afs_ideal.specs.Tables.{Table}
-use Rattle.afs_model.specs.Calls.{call_seat}
-use Rattle.afs_records.specs.Durable.{Kept}
-use Rattle.afs_rows.specs.States.{Seat}
+use Rattle.spec_ideal.specs.Tables.{Table}
+use Rattle.spec_model.specs.Calls.{call_seat}
+use Rattle.spec_records.specs.Durable.{Kept}
+use Rattle.spec_rows.specs.States.{Seat}
 use Rattle.afs_message.specs.Spelled.{reply_in}
 
 abbrev pub or_loc : Option Node → Node

@@ -2,7 +2,7 @@
 
 ghost use Rattle.std.specs.Prelude.{◌≡◌, ◌∷◌, ◌++◌, [], None, IsSome, OnOk};
 ghost use Rattle.afs_num.specs.Nodes.{node_number, node_of};
-ghost use Rattle.afs_model.specs.Calls.{call_seat};
+ghost use Rattle.spec_model.specs.Calls.{call_seat};
 ghost use Rattle.afs_saving.specs.Kept.{or_loc, seat_kept, seats_after, CanFollow};
 
 use afs_num::types::{Key, Mem, Node};

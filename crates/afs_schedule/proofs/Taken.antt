@@ -1,7 +1,7 @@
 -- What is taken from a schedule.
 use Rattle.std.proofs.Common.{refl, subst, ◌≡◌, ℕ, List, Bool, false, Option, Some}
 use Rattle.std.specs.List.{list_any}
-use Rattle.afs_history.specs.declared.scripts.Event.{Event}
+use Rattle.spec_history.specs.declared.scripts.Event.{Event}
 use Rattle.afs_schedule.specs.Named.{IsNamed}
 use Rattle.afs_schedule.specs.Delivers.{is_deliver}
 use Rattle.afs_schedule.specs.Schedules.{named_by}

@@ -1,27 +1,28 @@
 -- How a schedule is played: which input an event is.
-use Rattle.std.specs.Prelude.{◌≡◌, ◌≤◌, ℕ, zero, suc, ◌+◌, List, [], ◌∷◌, length, drop, Bool, true, false, not, ◌&&◌, Option, Some, None, nat_eq, slice_get, if◌then◌else◌}
+use Rattle.spec_rows.specs.Hosts.{IsLuck}
+use Rattle.std.specs.Prelude.{◌≡◌, ℕ, zero, suc, ◌+◌, List, [], ◌∷◌, length, drop, Bool, true, false, not, ◌&&◌, Option, Some, None, nat_eq, slice_get, if◌then◌else◌}
 use Rattle.std.specs.List.{list_any}
 use Rattle.afs_num.specs.Nodes.{same_node}
 use Rattle.afs_num.specs.declared.types.Node.{Node}
 use Rattle.afs_num.specs.declared.types.Node.TheVariants.{Loc, Server, Client, Admin}
-use Rattle.afs_history.specs.declared.acts.Act.{Act}
-use Rattle.afs_history.specs.declared.scripts.AdminAct.{AdminAct}
-use Rattle.afs_history.specs.declared.scripts.Event.{Event}
-use Rattle.afs_history.specs.declared.scripts.Event.TheVariants as events
-use Rattle.afs_history.specs.declared.scripts.Script.{Script}
-use Rattle.afs_history.specs.declared.scripts.Task.{Task}
-use Rattle.afs_history.specs.declared.scripts.Task.TheVariants as tasks
-use Rattle.afs_rows.specs.Callbacks.{put_at}
-use Rattle.afs_rows.specs.ClientRow.{act_of}
-use Rattle.afs_rows.specs.Going.{ClientState, Going}
-use Rattle.afs_rows.specs.Runs.{begins, client_starts, client_stops, gives, gives_out, nothing, server_waits, sets_fail, sets_stop, starts_again, steady, stops, ticks, waits, wakes, Fall, Input, Luck, MayBegin, Outcome}
-use Rattle.afs_adminrows.specs.AdminRow.{waiting_on, AdminState}
-use Rattle.afs_adminrows.specs.declared.turns.Running.{Running}
-use Rattle.afs_runs.specs.NodeRuns.{admin_begins, admin_starts, admin_stops, admin_waits, is_away, is_gone, node_moved, node_start, usual, CellInput, NodeCell}
+use Rattle.spec_history.specs.declared.acts.Act.{Act}
+use Rattle.spec_history.specs.declared.scripts.AdminAct.{AdminAct}
+use Rattle.spec_history.specs.declared.scripts.Event.{Event}
+use Rattle.spec_history.specs.declared.scripts.Event.TheVariants as events
+use Rattle.spec_history.specs.declared.scripts.Script.{Script}
+use Rattle.spec_history.specs.declared.scripts.Task.{Task}
+use Rattle.spec_history.specs.declared.scripts.Task.TheVariants as tasks
+use Rattle.spec_rows.specs.Callbacks.{put_at}
+use Rattle.spec_rows.specs.ClientRow.{act_of}
+use Rattle.spec_rows.specs.Going.{ClientState, Going}
+use Rattle.spec_rows.specs.Runs.{begins, client_starts, client_stops, gives, nothing, server_waits, sets_fail, sets_stop, starts_again, stops, ticks, waits, wakes, Fall, Input, Luck, MayBegin, Outcome}
+use Rattle.spec_adminrows.specs.AdminRow.{waiting_on, AdminState}
+use Rattle.spec_adminrows.specs.declared.turns.Running.{Running}
+use Rattle.spec_runs.specs.NodeRuns.{admin_begins, admin_starts, admin_stops, admin_waits, is_away, is_gone, node_moved, node_start, usual, CellInput, NodeCell}
 
 -- ---- a schedule under way: the cell, what each client and each administrator has not begun, and the places that a deliver named
 
-pub record Turn : Type 0 where
+pub record ScheduleState : Type 0 where
   pub cell : NodeCell
   pub left : Node → List Task
   pub named : List ℕ
@@ -48,7 +49,7 @@ admin_act None = None
 admin_act (Some (tasks.Client n act)) = None
 admin_act (Some (tasks.Admin n act)) = Some act
 
-abbrev pub first_turn : Script → Turn
+abbrev pub first_turn : Script → ScheduleState
 first_turn s = record { cell = node_start s; left = λ n. tasks_of n s.tasks; named = [] }
 
 -- ---- drains
@@ -59,7 +60,7 @@ lowest zero place named = None
 lowest (suc more) place named = if list_any (nat_eq place) named then lowest more (place + 1) named else Some place
 
 -- the lowest place of a message that was sent and never named
-abbrev pub waiting : Turn → Option ℕ
+abbrev pub waiting : ScheduleState → Option ℕ
 waiting t = lowest (length t.cell.sent) 1 t.named
 
 -- the first event, and those behind it
@@ -106,16 +107,11 @@ is_waiting_on callee (Some node) = same_node node callee
 abbrev pub admin_timeout_input : AdminState → ℕ → Node → CellInput
 admin_timeout_input a n callee = if is_waiting_on callee (waiting_on a) then admin_waits n else usual nothing
 
--- the disk fails by itself at no call, or at one of the step's, from the first on
-abbrev pub IsLuck : Luck → Type 0
-IsLuck steady = Unit {0}
-IsLuck (gives_out call) = 1 ≤ call
-
 -- Servers are numbered from 1; number 0 of the inputs that stop a node with a disk, let it begin again or set its disk is the location
 -- database, which has a name of its own in events. So an event that names server 0, which no cell has, is nothing.
-abbrev pub at_server : ℕ → Input → Input
-at_server zero x = nothing
-at_server (suc i) x = x
+abbrev pub server_input : ℕ → Input → Input
+server_input zero x = nothing
+server_input (suc i) x = x
 
 -- how a node with a disk begins again: before the interrupted step or after it
 abbrev pub IsRestart : Option Fall → (Bool → Outcome → CellInput) → CellInput → Type 0
@@ -124,7 +120,7 @@ IsRestart down begun x = (after : Bool) × ((outcome : Outcome) × (MayBegin dow
 -- What each event is. A delivery leaves open whether the disk fails by itself. So does a restart of a node with a disk: it begins before
 -- the interrupted step or after it as the blow tells that ended it, where the disk was set to that, and this is open where it failed by
 -- itself.
-abbrev pub IsInput : Turn → Event → CellInput → Type 0
+abbrev pub IsInput : ScheduleState → Event → CellInput → Type 0
 IsInput t (events.Act (Client n)) x = x ≡ usual (act_input t.cell n (client_act (slice_get (t.left (Client n)) 0)))
 IsInput t (events.Act (Admin n)) x = x ≡ admin_act_input t.cell n (admin_act (slice_get (t.left (Admin n)) 0))
 IsInput t (events.Act node) x = x ≡ usual nothing
@@ -139,17 +135,17 @@ IsInput t (events.Tick n) x = x ≡ usual (ticks n)
 IsInput t (events.Crash (Client n)) x = x ≡ usual (client_stops n)
 IsInput t (events.Crash (Admin n)) x = x ≡ admin_stops n
 IsInput t (events.Crash node) x = x ≡ usual nothing
-IsInput t (events.CrashDisk (Server i) pick) x = x ≡ usual (at_server i (stops i))
+IsInput t (events.CrashDisk (Server i) pick) x = x ≡ usual (server_input i (stops i))
 IsInput t (events.CrashDisk Loc pick) x = x ≡ usual (stops 0)
 IsInput t (events.CrashDisk node pick) x = x ≡ usual nothing
 IsInput t (events.Restart (Client n)) x = x ≡ usual (client_starts n)
 IsInput t (events.Restart (Admin n)) x = x ≡ admin_starts n
-IsInput t (events.Restart (Server i)) x = IsRestart (t.cell.hosts i).down (λ (after : Bool) (outcome : Outcome). usual (at_server i (starts_again i after outcome))) x
+IsInput t (events.Restart (Server i)) x = IsRestart (t.cell.hosts i).down (λ (after : Bool) (outcome : Outcome). usual (server_input i (starts_again i after outcome))) x
 IsInput t (events.Restart Loc) x = IsRestart t.cell.loc.down (λ (after : Bool) (outcome : Outcome). usual (starts_again 0 after outcome)) x
-IsInput t (events.Stop (Server i) calls pick) x = x ≡ usual (at_server i (sets_stop i calls pick))
+IsInput t (events.Stop (Server i) calls pick) x = x ≡ usual (server_input i (sets_stop i calls pick))
 IsInput t (events.Stop Loc calls pick) x = x ≡ usual (sets_stop 0 calls pick)
 IsInput t (events.Stop node calls pick) x = x ≡ usual nothing
-IsInput t (events.Fail (Server i) call) x = x ≡ usual (at_server i (sets_fail i call))
+IsInput t (events.Fail (Server i) call) x = x ≡ usual (server_input i (sets_fail i call))
 IsInput t (events.Fail Loc call) x = x ≡ usual (sets_fail 0 call)
 IsInput t (events.Fail node call) x = x ≡ usual nothing
 
@@ -166,21 +162,21 @@ abbrev pub named_by : Event → List ℕ → List ℕ
 named_by (events.Deliver place) named = place ∷ named
 named_by e named = named
 
-abbrev pub turned : Turn → Event → CellInput → Turn
-turned t e x = record { cell = (node_moved t.cell x).cell; left = left_by x t.left; named = named_by e t.named }
+abbrev pub schedule_behind : ScheduleState → Event → CellInput → ScheduleState
+schedule_behind t e x = record { cell = (node_moved t.cell x).cell; left = left_by x t.left; named = named_by e t.named }
 
 -- an input is the event that comes next, and the rest goes on behind it
-abbrev pub IsNext : Turn → Option (Event × List Event) → CellInput → (Turn → List Event → Type 0) → Type 0
+abbrev pub IsNext : ScheduleState → Option (Event × List Event) → CellInput → (ScheduleState → List Event → Type 0) → Type 0
 IsNext t None x rest = ⊥
-IsNext t (Some e) x rest = IsInput t e.0 x × rest (turned t e.0 x) e.1
+IsNext t (Some e) x rest = IsInput t e.0 x × rest (schedule_behind t e.0 x) e.1
 
 -- these inputs are the events, one for one, with each drain as its deliveries, and none is left
-abbrev pub AreInputs : Turn → List Event → List CellInput → Type 0
+abbrev pub AreInputs : ScheduleState → List Event → List CellInput → Type 0
 AreInputs t es [] = next_event (waiting t) es ≡ None
 AreInputs t es (x ∷ xs) = IsNext t (next_event (waiting t) es) x (λ u more. AreInputs u more xs)
 
 -- they are the first of them, and an event is left
-abbrev pub AreFirst : Turn → List Event → List CellInput → Type 0
+abbrev pub AreFirst : ScheduleState → List Event → List CellInput → Type 0
 AreFirst t es [] = next_event (waiting t) es ≡ None → ⊥
 AreFirst t es (x ∷ xs) = IsNext t (next_event (waiting t) es) x (λ u more. AreFirst u more xs)
 

@@ -1,7 +1,7 @@
 -- What is left of a schedule, and what is taken from it.
 use Rattle.std.specs.Prelude.{◌≡◌, ℕ, List, false, Option, Some, None}
 use Rattle.std.specs.List.{list_any}
-use Rattle.afs_history.specs.declared.scripts.Event.{Event}
+use Rattle.spec_history.specs.declared.scripts.Event.{Event}
 use Rattle.afs_schedule.specs.Named.{IsNamed}
 use Rattle.afs_schedule.specs.Delivers.{is_deliver}
 use Rattle.afs_schedule.specs.Schedules.{lowest, named_by, next_event}

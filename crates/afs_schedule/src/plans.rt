@@ -4,9 +4,9 @@ ghost use Rattle.std.specs.Prelude.{◌≡◌, drop, length, map, slice_get, IfO
 ghost use Rattle.std.specs.Option.{option_copied};
 ghost use Rattle.afs_schedule.specs.Schedules.{admin_act, client_act, doer, tasks_of};
 
-use afs_history::acts::Act;
-use afs_history::scripts::{AdminAct, Task};
 use afs_num::types::{Mem, Node};
+use spec_history::acts::Act;
+use spec_history::scripts::{AdminAct, Task};
 use std::alloc::Global;
 use std::marker::Model;
 
@@ -19,7 +19,7 @@ pub struct Plan<'a> {
 
 impl<'a> Model for Plan<'a> {
     ghost use Rattle.std.specs.Prelude.{List, ◌≤◌, drop, length, map};
-    ghost use Rattle.afs_history.specs.declared.scripts.Task.{Task};
+    ghost use Rattle.spec_history.specs.declared.scripts.Task.{Task};
 
     ghost Value = { List Task };
 

@@ -3,14 +3,14 @@
 ghost use Rattle.std.specs.Prelude.{◌≡◌, ◌≤◌, ◌<◌, ℕ, List, [], ◌∷◌, Option, None, IfNone, IfOk, IfSome, OnErr, OnOk};
 ghost use Rattle.std.specs.List.{list_any};
 ghost use Rattle.std.specs.Option.{option_map};
-ghost use Rattle.afs_history.specs.declared.scripts.Event.TheVariants as event;
+ghost use Rattle.spec_history.specs.declared.scripts.Event.TheVariants as event;
 ghost use Rattle.afs_schedule.specs.Schedules.{first_of, lowest, named_by, next_event};
 ghost use Rattle.afs_schedule.specs.Named.{has, IsClosed, IsNamed};
-ghost use Rattle.afs_schedule.specs.Settled.{is_deliver, settled, IsBehind};
+ghost use Rattle.afs_schedule.specs.Settled.{is_deliver, places_settled, IsBehind};
 ghost use Rattle.afs_schedule.specs.Taking.{IsLeft, Takes};
 
-use afs_history::scripts::Event;
 use afs_num::types::Mem;
+use spec_history::scripts::Event;
 use std::alloc::Global;
 use std::collections::BTreeSet;
 
@@ -166,7 +166,7 @@ impl<'a> Schedule<'a> {
 
     /// So many places, from the first on, were named, and no event that is left names one of them.
     pub fn settled(&self) -> u64
-        ensures { result ≡ settled self.now }
+        ensures { result ≡ places_settled self.now }
     {
         if self.names_again {
             return 0;

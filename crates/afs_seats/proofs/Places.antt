@@ -4,9 +4,9 @@ use Rattle.std.specs.List.{insert, remove}
 use Rattle.std.specs.Option.{option_map}
 use Rattle.std.specs.List.Sorted.{IsPartitionedBy, IsPartitionPoint}
 use Rattle.std.proofs.lemmas.Bool.Decides.{nat_tests}
-use Rattle.afs_ideal.specs.Tables.{Table, get, unset, AscendsFrom}
-use Rattle.afs_ideal.specs.Tables as tables
-use Rattle.afs_ideal.proofs.Tables.{ascends_lower, ascends_set, ascends_unset, get_below}
+use Rattle.spec_ideal.specs.Tables.{Table, get, unset, AscendsFrom}
+use Rattle.spec_ideal.specs.Tables as tables
+use Rattle.spec_ideal.proofs.Tables.{ascends_lower, ascends_set, ascends_unset, get_below}
 use Rattle.afs_seats.specs.Seated.{place_of, has_number, item_of, seen_as}
 
 found_from : {A : Type 0} (m k : ℕ) (t : Table A) → AscendsFrom m t → get k t ≡ (if has_number k (slice_get t (place_of k t)) then item_of (slice_get t (place_of k t)) else None)

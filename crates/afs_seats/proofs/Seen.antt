@@ -1,8 +1,8 @@
 -- How long a table is after an edit, and what is seen of one whose numbers ascend.
 use Rattle.std.proofs.Common.{◌≡◌, ℕ, suc, ◌+◌, [], ◌∷◌, length, is_some, if◌then◌else◌, refl, arith}
 use Rattle.std.proofs.lemmas.Bool.Decides.{nat_tests}
-use Rattle.afs_ideal.specs.Tables.{Table, get, set, AscendsFrom}
-use Rattle.afs_ideal.proofs.Tables.{get_below}
+use Rattle.spec_ideal.specs.Tables.{Table, get, set, AscendsFrom}
+use Rattle.spec_ideal.proofs.Tables.{get_below}
 use Rattle.afs_seats.specs.Seated.{seen_as}
 
 pub set_length : {A : Type 0} (m n : ℕ) (x : A) (t : Table A) → AscendsFrom m t → length (set n x t) ≡ (if is_some (get n t) then length t else suc (length t))

@@ -1,7 +1,7 @@
 -- Items by ascending numbers, in memory.
 use Rattle.std.specs.Prelude.{ℕ, Bool, Option, Some, None, false, nat_eq, nat_lt, map}
 use Rattle.std.specs.List.{prefix_len}
-use Rattle.afs_ideal.specs.Tables.{Table}
+use Rattle.spec_ideal.specs.Tables.{Table}
 
 -- the items, and for how many more memory is there
 pub record Seated (A : Type 0) : Type 0 where

@@ -3,7 +3,7 @@
 ghost use Rattle.std.specs.Prelude.{◌≡◌, ◌≤◌, ◌<◌, ◌+◌, ℕ, Some, None, [], true, false, length, is_some, slice_get, OnOk, OnErr, IfNone, IsOk, IsSome};
 ghost use Rattle.std.specs.Vec.{vec_capacity};
 ghost use Rattle.std.specs.Option.{option_copied, option_map};
-ghost use Rattle.afs_ideal.specs.Tables.{get, set, unset, AscendsFrom};
+ghost use Rattle.spec_ideal.specs.Tables.{get, set, unset, AscendsFrom};
 ghost use Rattle.afs_seats.specs.Seated.{has_number, item_of, place_of};
 
 use afs_num::types::Mem;
@@ -20,7 +20,7 @@ pub struct Seats<T> {
 impl<T> Model for Seats<T> {
     ghost use Rattle.std.specs.Prelude.{◌-◌, length};
     ghost use Rattle.std.specs.Vec.{vec_capacity};
-    ghost use Rattle.afs_ideal.specs.Tables.{AscendsFrom};
+    ghost use Rattle.spec_ideal.specs.Tables.{AscendsFrom};
     ghost use Rattle.afs_seats.specs.Seated.{Seated};
 
     ghost Value = { Seated T };

@@ -7,11 +7,11 @@ use Rattle.std.proofs.lemmas.List.{drop-drop, length-take, length-take-le}
 use Rattle.afs_num.specs.Nodes.{IsNode}
 use Rattle.afs_num.specs.declared.types.Head.{Head}
 use Rattle.afs_num.specs.declared.types.Node.{Node}
-use Rattle.afs_model.specs.Messages.{HasSpelling}
-use Rattle.afs_dumps.specs.Streams.{piece_at}
-use Rattle.afs_volrows.specs.VolRow.{most_piece}
-use Rattle.afs_volrows.specs.VolStates.{Sending}
-use Rattle.afs_volrows.specs.VolSteps.{moved_on, piece_message}
+use Rattle.spec_model.specs.Messages.{HasSpelling}
+use Rattle.spec_dumps.specs.Streams.{piece_at}
+use Rattle.spec_volrows.specs.VolRow.{most_piece}
+use Rattle.spec_volrows.specs.VolStates.{Sending}
+use Rattle.spec_volrows.specs.VolSteps.{piece_gone, piece_message}
 
 piece_short : (bytes : List ℕ) → length (piece_at most_piece 0 bytes) ≤ most_piece
 piece_short bytes = rw (length-take most_piece bytes) (min-le_left most_piece (length bytes))
@@ -29,7 +29,7 @@ not_false false e = absurd cc
 
 -- a piece that isn't the last has as many bytes as may be
 pub went : (head : Head) (family target at : ℕ) (bytes : List ℕ) → not (nat_lt most_piece (length (drop at bytes))) ≡ false →
-    ◌≡◌ {A = Sending} (record { head = head; family = family; target = target; at = at + most_piece; left = drop (at + most_piece) bytes }) (moved_on (record { head = head; family = family; target = target; at = at; left = drop at bytes }))
+    ◌≡◌ {A = Sending} (record { head = head; family = family; target = target; at = at + most_piece; left = drop (at + most_piece) bytes }) (piece_gone (record { head = head; family = family; target = target; at = at; left = drop at bytes }))
 went head family target at bytes more =
     let long = ltb-true most_piece (length (drop at bytes)) (not_false (nat_lt most_piece (length (drop at bytes))) more) in
     let whole : length (piece_at most_piece 0 (drop at bytes)) ≡ most_piece = length-take-le most_piece (drop at bytes) (omega (arith, long)) in

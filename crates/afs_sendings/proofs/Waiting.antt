@@ -6,9 +6,9 @@ use Rattle.afs_num.specs.declared.messages.Message.{Message}
 use Rattle.afs_num.specs.declared.messages.Received.{Received}
 use Rattle.afs_num.specs.declared.types.Head.{Head}
 use Rattle.afs_num.specs.declared.types.Parcel.{Parcel}
-use Rattle.afs_model.specs.Messages.{messages_spelled, parcels_read, received}
-use Rattle.afs_rows.specs.Callbacks.{replies_of}
-use Rattle.afs_rows.specs.States.{Held}
+use Rattle.spec_model.specs.Messages.{messages_spelled, parcels_read, received}
+use Rattle.spec_rows.specs.Callbacks.{replies_of}
+use Rattle.spec_rows.specs.States.{Held}
 
 -- parcels one behind the other are read so
 pub read_behind : (ps qs : List Parcel) → parcels_read (ps ++ qs) ≡ parcels_read ps ++ parcels_read qs

@@ -6,15 +6,14 @@ use Rattle.afs_num.specs.declared.messages.Message.{Message}
 use Rattle.afs_num.specs.declared.types.Head.{Head}
 use Rattle.afs_num.specs.declared.types.Node.{Node}
 use Rattle.afs_num.specs.declared.types.Node.TheVariants.{Server}
-use Rattle.afs_history.specs.declared.lines.Line.{Line}
-use Rattle.afs_model.specs.Calls.{finished}
-use Rattle.afs_model.proofs.Basics.{same_node-refl, same_node-true}
-use Rattle.afs_rows.specs.Callbacks.{put_at}
-use Rattle.afs_rows.specs.ServerRow.{key_of}
-use Rattle.afs_rows.specs.States.{Backs, Lasting}
-use Rattle.afs_volrows.specs.VolRow.{Dispatch}
-use Rattle.afs_volrows.specs.VolStates.{PieceCall, Sending, VolState}
-use Rattle.afs_volrows.specs.VolSteps.{dispatched, ends_sending, forward_reply, goes_on, in_progress, moved_on, next_by, next_piece, piece_message, sending_of, vol_renews, VolTurn}
+use Rattle.spec_history.specs.declared.lines.Line.{Line}
+use Rattle.spec_model.specs.Calls.{finished, key_of}
+use Rattle.spec_model.proofs.Basics.{same_node-refl, same_node-true}
+use Rattle.spec_rows.specs.Callbacks.{put_at}
+use Rattle.spec_rows.specs.States.{Backs, Lasting}
+use Rattle.spec_volrows.specs.VolRow.{Dispatch}
+use Rattle.spec_volrows.specs.VolStates.{PieceCall, Sending, VolState}
+use Rattle.spec_volrows.specs.VolSteps.{dispatched, ends_sending, forward_reply, sending_goes_on, in_progress, piece_gone, next_by, next_piece, piece_message, sending_of, vol_renews, VolTurn}
 use Rattle.afs_sendings.specs.Pieces.{adds, adds_by, call_or_none, call_seen, calls_in, dumps_of, ends, first_call, renews, retries, sendings_in, starts, AreTo, IsToOrNone, Piece, Way}
 
 fun_ext : {A B : Type 0} (f g : A → B) → ((x : A) → f x ≡ g x) → f ≡ g
@@ -94,10 +93,10 @@ ended me l v b ls n calls known xs x code =
     ∙ started me l (record v { seats = finished (key_of x.head) (forward_reply l.boot x.head code) v.seats }) b ls n xs calls known (forward_reply l.boot x.head code ∷ [])
 
 pub went_on : (me : Node) (l : Lasting) (v : VolState) (b : Backs) (n : Node) (calls : Node → Option Piece) (known : Node → ℕ) (xs : List Sending) (x : Sending) →
-    goes_on me l (with_calls calls known v) b n xs x ≡ turned_by l v b [] (starts me l.boot n (moved_on x ∷ xs) (first_way calls known b))
+    sending_goes_on me l (with_calls calls known v) b n xs x ≡ turned_by l v b [] (starts me l.boot n (piece_gone x ∷ xs) (first_way calls known b))
 went_on me l v b n calls known xs x =
-    next_at me l.boot n _ (moved_on x ∷ xs) None (put_here n (moved_on x ∷ xs) (sendings_in calls)) (put_here n None (calls_in calls))
-    ∙ started me l v b [] n (moved_on x ∷ xs) calls known []
+    next_at me l.boot n _ (piece_gone x ∷ xs) None (put_here n (piece_gone x ∷ xs) (sendings_in calls)) (put_here n None (calls_in calls))
+    ∙ started me l v b [] n (piece_gone x ∷ xs) calls known []
 
 -- ---- a server told its boot number, or its call has waited too long
 

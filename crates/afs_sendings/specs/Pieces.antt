@@ -4,12 +4,12 @@ use Rattle.afs_num.specs.Nodes.{IsNode}
 use Rattle.afs_num.specs.declared.messages.Message.{Message}
 use Rattle.afs_num.specs.declared.types.Node.{Node}
 use Rattle.afs_num.specs.declared.types.Node.TheVariants.{Server}
-use Rattle.afs_ideal.specs.Operations.{is_number}
-use Rattle.afs_rows.specs.Callbacks.{put_at}
-use Rattle.afs_rows.specs.States.{Unanswered}
+use Rattle.spec_ideal.specs.Operations.{is_number}
+use Rattle.spec_rows.specs.Callbacks.{put_at}
+use Rattle.spec_rows.specs.States.{Unanswered}
 use Rattle.afs_callees.specs.Called.{call_to, known_to}
-use Rattle.afs_volrows.specs.VolStates.{PieceCall, Sending}
-use Rattle.afs_volrows.specs.VolSteps.{piece_message, sent_whole}
+use Rattle.spec_volrows.specs.VolStates.{PieceCall, Sending}
+use Rattle.spec_volrows.specs.VolSteps.{piece_message, sent_whole}
 use Rattle.afs_sendings.specs.declared.pieces.Pieces.{Pieces}
 
 -- a server's unanswered call carries the next piece of the first of the dumps that go to it

@@ -1,6 +1,6 @@
 -- Dumps that are sent to other servers.
 use Rattle.std.specs.Prelude.{List, [], ◌∷◌, Option, Some, None}
-use Rattle.afs_volrows.specs.VolStates.{Sending}
+use Rattle.spec_volrows.specs.VolStates.{Sending}
 
 abbrev pub first_of : List Sending → Option Sending
 first_of [] = None

@@ -3,9 +3,9 @@
 ghost use Rattle.std.specs.Prelude.{◌≡◌, ◌≤◌, ◌<◌, ◌+◌, ◌++◌, ◌∷◌, [], filter, length, OnOk};
 ghost use Rattle.std.specs.Vec.{vec_capacity};
 ghost use Rattle.std.specs.List.{list_any};
-ghost use Rattle.afs_model.specs.Messages.{messages_spelled, parcels_read};
-ghost use Rattle.afs_rows.specs.Callbacks.{is_ready, replies_of, waits_none};
-ghost use Rattle.afs_volrows.specs.VolSteps.{is_waiting};
+ghost use Rattle.spec_model.specs.Messages.{messages_spelled, parcels_read};
+ghost use Rattle.spec_rows.specs.Callbacks.{is_ready, replies_of, waits_none};
+ghost use Rattle.spec_volrows.specs.VolSteps.{waits_for_breaks};
 
 use afs_num::types::{Mem, Parcel, Parcels};
 use afs_promise::OwedList;
@@ -91,7 +91,7 @@ fn send_or_hold(out: &mut Vec<Parcel>, on: &mut Vec<HeldReply>, one: HeldReply, 
     requires out { length out.old.items < vec_capacity out.old }
     requires on { length on.old.items < vec_capacity on.old }
     ensures sent { parcels_read out.new.items ≡ parcels_read out.old.items ++ messages_spelled (replies_of (filter (is_ready owed.now.breaks) (one ∷ []))) }
-    ensures held { on.new.items ≡ on.old.items ++ filter (is_waiting owed.now.breaks) (one ∷ []) }
+    ensures held { on.new.items ≡ on.old.items ++ filter (waits_for_breaks owed.now.breaks) (one ∷ []) }
     ensures out_room { (length out.new.items ≤ length out.old.items + 1) × (vec_capacity out.old ≤ vec_capacity out.new) }
     ensures on_room { (length on.new.items ≤ length on.old.items + 1) × (vec_capacity on.old ≤ vec_capacity on.new) }
 {
@@ -112,7 +112,7 @@ fn part_ready(
     requires out { length out.old.items + length replies.items ≤ vec_capacity out.old }
     requires on { length on.old.items + length replies.items ≤ vec_capacity on.old }
     ensures sent { parcels_read out.new.items ≡ parcels_read out.old.items ++ messages_spelled (replies_of (filter (is_ready owed.now.breaks) replies.items)) }
-    ensures held { on.new.items ≡ on.old.items ++ filter (is_waiting owed.now.breaks) replies.items }
+    ensures held { on.new.items ≡ on.old.items ++ filter (waits_for_breaks owed.now.breaks) replies.items }
 {
     for one in replies {
         send_or_hold(out, on, one, owed);
@@ -169,7 +169,7 @@ impl HeldReplies {
         requires out { length self.old.held ≤ self.old.out }
         requires on { length self.old.held ≤ self.old.on }
         ensures sent { parcels_read result ≡ messages_spelled (replies_of (filter (is_ready owed.now.breaks) self.old.held)) }
-        ensures held { self.new.held ≡ filter (is_waiting owed.now.breaks) self.old.held }
+        ensures held { self.new.held ≡ filter (waits_for_breaks owed.now.breaks) self.old.held }
     {
         let alloc = *self.replies.allocator();
         if !any_ready(&self.replies, owed) {

@@ -4,7 +4,7 @@ ghost use Rattle.std.specs.Prelude.{◌≡◌, ◌≤◌, ◌+◌, ◌++◌, ◌
 ghost use Rattle.std.specs.Option.{option_map};
 ghost use Rattle.afs_num.specs.Nodes.{IsNode};
 ghost use Rattle.afs_callees.specs.Called.{call_to, known_to};
-ghost use Rattle.afs_volrows.specs.VolSteps.{moved_on, sent_whole};
+ghost use Rattle.spec_volrows.specs.VolSteps.{piece_gone, sent_whole};
 ghost use Rattle.afs_sendings.specs.Pieces.{adds, ends, renews, retries, sends, starts, way_of, AreTo, IsServerNode, Piece};
 ghost use Rattle.afs_sendings.specs.Sendings.{first_of, rest_of};
 
@@ -162,7 +162,7 @@ impl Pieces {
         requires callee { IsServerNode node }
         requires whole { sent_whole first.now ≡ false }
         requires first { first_of call.now.content ≡ Some first.now }
-        ensures way { OnOk result (way_of self.new ≡ starts stand.node stand.boot node (moved_on first.now ∷ rest_of call.now.content) (way_of self.old)) }
+        ensures way { OnOk result (way_of self.new ≡ starts stand.node stand.boot node (piece_gone first.now ∷ rest_of call.now.content) (way_of self.old)) }
         ensures to { OnOk result (AreTo (call_to self.old.callees.items) → AreTo (call_to self.new.callees.items)) }
         ensures drawn { OnOk result (self.old.last ≤ self.new.last) }
     {

@@ -4,9 +4,9 @@ ghost use Rattle.std.specs.Prelude.{◌≡◌, ◌≤◌, ◌<◌, ◌+◌, ◌-
 ghost use Rattle.std.specs.Option.{option_copied};
 ghost use Rattle.afs_num.specs.Nodes.{IsNode};
 ghost use Rattle.afs_num.specs.declared.volume_calls.VolCall.TheVariants as calls;
-ghost use Rattle.afs_volrows.specs.VolRow.{last_word, most_piece};
-ghost use Rattle.afs_volrows.specs.VolSteps.{moved_on, piece_message, sent_whole};
-ghost use Rattle.afs_dumps.specs.Streams.{piece_at};
+ghost use Rattle.spec_volrows.specs.VolRow.{last_word, most_piece};
+ghost use Rattle.spec_volrows.specs.VolSteps.{piece_gone, piece_message, sent_whole};
+ghost use Rattle.spec_dumps.specs.Streams.{piece_at};
 ghost use Rattle.afs_sendings.specs.Sendings.{first_of, rest_of};
 
 use afs_callees::callees::{BackCall, Callee, Copies};
@@ -36,7 +36,7 @@ pub struct Sending {
 
 impl Model for Sending {
     ghost use Rattle.std.specs.Prelude.{◌≤◌, drop, length};
-    ghost use Rattle.afs_volrows.specs.VolStates.{Sending};
+    ghost use Rattle.spec_volrows.specs.VolStates.{Sending};
 
     ghost Value = { Sending };
 
@@ -96,7 +96,7 @@ impl Sending {
     /// The same dump, of which the next piece went. One of so many bytes that a word can't count them wants memory.
     fn moved_on(&self, alloc: Global) -> Mem<Sending>
         requires { sent_whole self.now ≡ false }
-        ensures { IfOk result (λ s. s ≡ moved_on self.now) }
+        ensures { IfOk result (λ s. s ≡ piece_gone self.now) }
     {
         let Some(at) = self.at.checked_add(MOST_PIECE as u32) else {
             return Err(AllocError);
@@ -178,7 +178,7 @@ pub struct Queue {
 
 impl Model for Queue {
     ghost use Rattle.std.specs.Prelude.{List};
-    ghost use Rattle.afs_volrows.specs.VolStates.{Sending};
+    ghost use Rattle.spec_volrows.specs.VolStates.{Sending};
 
     ghost Value = { List Sending };
 
@@ -266,7 +266,7 @@ impl Queue {
     pub fn moved_on(&self, alloc: Global, first: &Sending) -> Mem<Queue>
         requires whole { sent_whole first.now ≡ false }
         requires first { first_of self.now ≡ Some first.now }
-        ensures { IfOk result (λ q. q ≡ moved_on first.now ∷ rest_of self.now) }
+        ensures { IfOk result (λ q. q ≡ piece_gone first.now ∷ rest_of self.now) }
     {
         let first = first.moved_on(alloc)?;
         let rest = self.rest(alloc)?;

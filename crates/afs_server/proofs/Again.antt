@@ -6,14 +6,14 @@ use Rattle.afs_num.specs.declared.messages.Message.{Message}
 use Rattle.afs_num.specs.declared.messages.Received.{Received}
 use Rattle.afs_num.specs.declared.messages.Received.TheVariants.{Nothing, Unserved, Unreadable, Whole}
 use Rattle.afs_num.specs.declared.types.Node.{Node}
-use Rattle.afs_ideal.specs.Tables.{AscendsFrom, Table}
-use Rattle.afs_model.specs.Calls.{call_seat}
-use Rattle.afs_model.specs.Messages.{received, spelled}
-use Rattle.afs_model.specs.SpellingLaws.{IsBytes}
-use Rattle.afs_model.proofs.Basics.{node_apart, same_node-refl, same_node-true}
-use Rattle.afs_model.proofs.Spellings.{read_spelled}
-use Rattle.afs_records.specs.Durable.{Durable, Kept}
-use Rattle.afs_rows.specs.States.{kept_by_number, kept_of, reply_bytes, Seat}
+use Rattle.spec_ideal.specs.Tables.{AscendsFrom, Table}
+use Rattle.spec_model.specs.Calls.{call_seat}
+use Rattle.spec_model.specs.Messages.{received, spelled}
+use Rattle.afs_xdr.specs.Words.{IsBytes}
+use Rattle.spec_model.proofs.Basics.{node_apart, same_node-refl, same_node-true}
+use Rattle.spec_model.proofs.Spellings.{read_spelled}
+use Rattle.spec_records.specs.Durable.{Durable, Kept}
+use Rattle.spec_rows.specs.States.{kept_by_number, kept_of, kept_reply_bytes, Seat}
 use Rattle.afs_server.specs.Again.{AreReplied, KeptAgain, KeptAreSpelled}
 use Rattle.afs_message.specs.Spelled.{message_in, reply_in}
 use Rattle.afs_saving.specs.Kept.{or_loc, seat_kept, AreToNodes, IsToNode}
@@ -34,7 +34,7 @@ put_again seat = (node_number seat.caller, kept_of seat)
 
 seat_again : (p : ℕ × Kept) → IsToNode p → IsBytes p.1.reply → (m : Message) → (seat_kept p).reply ≡ Some m → put_again (seat_kept p) ≡ p
 seat_again p to are m e =
-    let bytes : reply_bytes (seat_kept p).reply ≡ p.1.reply = ap reply_bytes e ∙ sym (kept_are_spelled p.1.reply m are e) in
+    let bytes : kept_reply_bytes (seat_kept p).reply ≡ p.1.reply = ap kept_reply_bytes e ∙ sym (kept_are_spelled p.1.reply m are e) in
     let number : node_number (or_loc (node_of p.0)) ≡ p.0 = caller_number p to in
     ap (λ (n : ℕ). (n, kept_of (seat_kept p))) number ∙ ap (λ (reply : List ℕ). (p.0, record { epoch = p.1.epoch; number = p.1.number; reply = reply })) bytes
 

@@ -4,14 +4,14 @@ use Rattle.std.specs.Prelude.{nat_lt}
 use Rattle.std.specs.List.{All}
 use Rattle.afs_num.specs.declared.types.Node.{Node}
 use Rattle.afs_num.specs.declared.types.Node.TheVariants.{Client}
-use Rattle.afs_history.specs.declared.lines.Line.{Line}
-use Rattle.afs_history.specs.declared.lines.Outs.{Outs}
-use Rattle.afs_breaks.specs.Promises.{expired, no_lists, owes_all, Lists}
-use Rattle.afs_breaks.specs.declared.types.OwedBreak.{OwedBreak}
-use Rattle.afs_rows.specs.Callbacks as row
-use Rattle.afs_rows.specs.Callbacks.{ends_all, owed_to_clients, timed}
-use Rattle.afs_rows.specs.ServerSteps.{stepped}
-use Rattle.afs_rows.specs.States.{BackCall, Backs, ServerState}
+use Rattle.spec_history.specs.declared.lines.Line.{Line}
+use Rattle.spec_history.specs.declared.lines.Outs.{Outs}
+use Rattle.spec_breaks.specs.Promises.{expired, no_lists, owes_all, Lists}
+use Rattle.spec_breaks.specs.declared.types.OwedBreak.{OwedBreak}
+use Rattle.spec_rows.specs.Callbacks as row
+use Rattle.spec_rows.specs.Callbacks.{ends_all, owed_to_clients, call_timed_out}
+use Rattle.spec_rows.specs.ServerSteps.{stepped}
+use Rattle.spec_rows.specs.States.{BackCall, Backs, ServerState}
 use Rattle.afs_server_parts.specs.Turning.{IsBreakToNode}
 use Rattle.afs_volstore.specs.Stores.{Store}
 use Rattle.afs_callbacks.specs.Waiting.{lists_timed}
@@ -23,11 +23,11 @@ use Rattle.afs_callbacks.proofs.Timed.{timed_last, timed_lists}
 use Rattle.afs_sharing.proofs.Drawn.{breaks_drawn, expired_draws}
 
 -- the lists after a step
-pub lists_after : {D : Type 0} (me : Node) (state : ServerState) (ls before : List Line) (t : row.Turn) (m : Memory) (s : Store D) (outs : Outs) → Makes (stepped me state ls t) before m s outs → m.lists ≡ t.backs.lists
+pub lists_after : {D : Type 0} (me : Node) (state : ServerState) (ls before : List Line) (t : row.CallbackStep) (m : Memory) (s : Store D) (outs : Outs) → Makes (stepped me state ls t) before m s outs → m.lists ≡ t.backs.lists
 lists_after {D} me state ls before t m s outs made = ap (λ (x : ServerState). x.backs.lists) made.state ∙ pumped_lists me state.lasting.boot t
 
 -- and the last number of a call
-pub drawn_after : {D : Type 0} (me : Node) (state : ServerState) (ls before : List Line) (t : row.Turn) (m : Memory) (s : Store D) (outs : Outs) → Makes (stepped me state ls t) before m s outs →
+pub drawn_after : {D : Type 0} (me : Node) (state : ServerState) (ls before : List Line) (t : row.CallbackStep) (m : Memory) (s : Store D) (outs : Outs) → Makes (stepped me state ls t) before m s outs →
     All IsBreakToNode t.backs.lists.owed → s.drawn ≤ t.backs.last_call + 29
 drawn_after {D} me state ls before t m s outs made to =
     let drawn = ap (λ (x : ServerState). x.backs.last_call) made.state in
@@ -56,18 +56,18 @@ timed_draws c now l =
 
 -- ---- a timeout
 
-module _ {D : Type 0} (me n : Node) (boot now : ℕ) (c : BackCall) (b : Backs) (state : ServerState) (ls before : List Line) (m : Memory) (s : Store D) (outs : Outs) (made : Makes (stepped me state ls (timed me boot n c (row.expired now b))) before m s outs) where
+module _ {D : Type 0} (me n : Node) (boot now : ℕ) (c : BackCall) (b : Backs) (state : ServerState) (ls before : List Line) (m : Memory) (s : Store D) (outs : Outs) (made : Makes (stepped me state ls (call_timed_out me boot n c (row.expired now b))) before m s outs) where
   pub timed_draws_calls : All IsBreakToNode b.lists.owed → s.drawn ≤ b.last_call + 29
   timed_draws_calls to =
       let lists = timed_lists me boot n c (row.expired now b) in
       let last = timed_last me boot n c (row.expired now b) in
       let owed = subst (λ (l : Lists). All IsBreakToNode l.owed) (sym lists) (timed_to_nodes c (expired now b.lists) (lasting_to_nodes now b.lists.owed to)) in
-      let drawn = drawn_after me state ls before (timed me boot n c (row.expired now b)) m s outs made owed in
+      let drawn = drawn_after me state ls before (call_timed_out me boot n c (row.expired now b)) m s outs made owed in
       omega (arith, drawn, last)
 
   pub timed_draws_breaks : breaks_drawn m.lists ≤ breaks_drawn b.lists
   timed_draws_breaks =
-      let lists = lists_after me state ls before (timed me boot n c (row.expired now b)) m s outs made ∙ timed_lists me boot n c (row.expired now b) in
+      let lists = lists_after me state ls before (call_timed_out me boot n c (row.expired now b)) m s outs made ∙ timed_lists me boot n c (row.expired now b) in
       subst (λ (l : Lists). breaks_drawn l ≤ breaks_drawn b.lists) (sym lists) (timed_draws c now b.lists)
 
 -- ---- a restart draws one break for each client

@@ -1,4 +1,5 @@
 -- What a disk keeps with the record of a change is what the row leaves on it.
+use Rattle.spec_model.specs.Calls.{key_of}
 use Rattle.std.proofs.Common.{◌+◌, ◌≡◌, ℕ, List, Option, Some, refl, sym, ap, subst, ◌∙◌}
 use Rattle.afs_num.specs.Nodes.{node_number, IsNode}
 use Rattle.afs_num.specs.declared.calls.FsReply.{FsReply}
@@ -6,12 +7,12 @@ use Rattle.afs_num.specs.declared.messages.Message.{Message}
 use Rattle.afs_num.specs.declared.records.RecordBody.TheVariants as bodies
 use Rattle.afs_num.specs.declared.types.Head.{Head}
 use Rattle.afs_num.specs.declared.volumes.Change as made
-use Rattle.afs_ideal.specs.Tables.{get, set}
-use Rattle.afs_records.specs.Changes.{keeping}
-use Rattle.afs_records.specs.Durable as disk
-use Rattle.afs_records.specs.Durable.{changed_stored, place_length, placing, with_journal, Durable, Stored}
-use Rattle.afs_fold.specs.Fold.{folded}
-use Rattle.afs_rows.specs.ServerRow.{carried_by, change_reply_to, key_of, lasting_after, promise_ticks, record_of, replied, seat_for, stored_by, Change}
+use Rattle.spec_ideal.specs.Tables.{get, set}
+use Rattle.spec_records.specs.Changes.{keeping}
+use Rattle.spec_records.specs.Durable as disk
+use Rattle.spec_records.specs.Durable.{changed_stored, place_length, placing, with_journal, Durable, Stored}
+use Rattle.spec_fold.specs.Fold.{folded}
+use Rattle.spec_rows.specs.ServerRow.{carried_by, change_reply_to, lasting_after, promise_ticks, record_of, replied, seat_for, stored_by, Change}
 use Rattle.afs_message.specs.Spelled.{message_in, Spells}
 use Rattle.afs_decisions.specs.Deciding.{IsMade}
 use Rattle.afs_callbacks.specs.Answering.{reply_told}

@@ -13,15 +13,15 @@ use Rattle.afs_num.specs.declared.messages.Received.TheVariants.{Nothing, Unserv
 use Rattle.afs_num.specs.declared.types.Fid.{Fid}
 use Rattle.afs_num.specs.declared.types.Head.{Head}
 use Rattle.afs_num.specs.declared.types.Node.{Node}
-use Rattle.afs_ideal.specs.Operations.{Found}
-use Rattle.afs_ideal.specs.Volumes.{Volume}
-use Rattle.afs_model.specs.Calls.{call_seat}
-use Rattle.afs_breaks.specs.Promises.{gives_up, is_hit, is_promise, withdraws, with_promise, with_promises, without_promise, Lists}
-use Rattle.afs_breaks.specs.declared.types.Promise.{Promise}
-use Rattle.afs_rows.specs.Callbacks as row
-use Rattle.afs_rows.specs.Callbacks.{fids_found, gives_up_all, grants_found, held_under, is_back_awaited, is_seat_of, key_answered, no_turn, renews_by, settles_by, turn_for, turned_by, turned_in, withdraws_all}
-use Rattle.afs_rows.specs.ServerRow.{drops, granted_in, granted_new, made, promise_ticks, refuses, repeats, result, saves, shows, tells_boot, Decision}
-use Rattle.afs_rows.specs.States.{BackCall, Backs, ServerState}
+use Rattle.spec_ideal.specs.Operations.{Found}
+use Rattle.spec_ideal.specs.Volumes.{Volume}
+use Rattle.spec_model.specs.Calls.{call_seat}
+use Rattle.spec_breaks.specs.Promises.{gives_up, is_hit, is_promise, withdraws, with_promise, with_promises, without_promise, Lists}
+use Rattle.spec_breaks.specs.declared.types.Promise.{Promise}
+use Rattle.spec_rows.specs.Callbacks as row
+use Rattle.spec_rows.specs.Callbacks.{fids_found, gives_up_all, grants_found, held_under, is_back_awaited, is_seat_of, key_answered, no_turn, renews_by, settles_by, turn_for, turned_by, turned_in, withdraws_all}
+use Rattle.spec_rows.specs.ServerRow.{drops, granted_in, granted_new, versions_made, promise_ticks, refuses, repeats, result, saves, shows, tells_boot, Decision}
+use Rattle.spec_rows.specs.States.{BackCall, Backs, ServerState}
 use Rattle.afs_server.proofs.Drawn.{ended_draws}
 use Rattle.afs_callbacks.proofs.Turned.{repeated_backs}
 use Rattle.afs_sharing.proofs.Drawn.{breaks_drawn, filter_shorter}
@@ -83,11 +83,11 @@ GrantsFew (shows head r) = length r.granted ≤ 50
 GrantsFew d = Unit {0}
 
 -- it draws no number of a call before its end, and of few breaks
-pub record DrawsFew (b : Backs) (t : row.Turn) : Type 0 where
+pub record DrawsFew (b : Backs) (t : row.CallbackStep) : Type 0 where
   pub last : t.backs.last_call ≡ b.last_call
   pub breaks : breaks_drawn t.backs.lists ≤ breaks_drawn b.lists + 50
 
-same_draws : (b : Backs) (t : row.Turn) → t.backs ≡ b → DrawsFew b t
+same_draws : (b : Backs) (t : row.CallbackStep) → t.backs ≡ b → DrawsFew b t
 same_draws b t same = let lists = ap (λ (x : Backs). breaks_drawn x.lists) same in record { last = ap (λ (x : Backs). x.last_call) same; breaks = omega (arith, lists) }
 
 for_draws : (me : Node) (s : ServerState) (clock : ℕ) (b : Backs) (d : Decision) → GrantsFew d → DrawsFew b (turn_for me s clock b d)
@@ -100,14 +100,14 @@ for_draws me s clock b (shows head r) few =
     let granted = granted_draws head.from (clock + promise_ticks) r.granted (gives_up_all head.from r.given_up b.lists) in
     record { last = refl; breaks = omega (arith, few, up, granted) }
 for_draws me s clock b (saves head c) few =
-    let gone = withdrawn_all_draw head.from (made c) b.lists in
-    let granted = granted_draws head.from (clock + promise_ticks) (granted_in c) (withdraws_all head.from (made c) b.lists) in
+    let gone = withdrawn_all_draw head.from (versions_made c) b.lists in
+    let granted = granted_draws head.from (clock + promise_ticks) (granted_in c) (withdraws_all head.from (versions_made c) b.lists) in
     let one = one_new c.id (result c) c.shown c.call in
     record { last = refl; breaks = omega (arith, gone, granted, one) }
 
 -- ---- and on a message
 
-if_draws : (t : Bool) (b : Backs) (u : row.Turn) → DrawsFew b u → DrawsFew b (cond t u (no_turn b))
+if_draws : (t : Bool) (b : Backs) (u : row.CallbackStep) → DrawsFew b u → DrawsFew b (cond t u (no_turn b))
 if_draws true b u few = few
 if_draws false b u few = same_draws b (no_turn b) refl
 

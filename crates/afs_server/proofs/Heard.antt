@@ -3,8 +3,8 @@ use Rattle.std.proofs.Common.{◌≡◌, ℕ, Bool, true, false, cond, ◌&&◌,
 use Rattle.afs_num.specs.Nodes.{same_node}
 use Rattle.afs_num.specs.declared.types.Head.{Head}
 use Rattle.afs_num.specs.declared.types.Node.{Node}
-use Rattle.afs_rows.specs.Callbacks.{is_back_awaited, no_turn, renews, settles}
-use Rattle.afs_rows.specs.States.{BackCall, Backs}
+use Rattle.spec_rows.specs.Callbacks.{is_back_awaited, no_turn, renews, settles}
+use Rattle.spec_rows.specs.States.{BackCall, Backs}
 use Rattle.afs_callees.specs.Called.{IsGoodOrNone}
 use Rattle.afs_server.specs.Hearing.{answered_turn, noticed_turn, renewed_turn, settled_turn}
 use Rattle.afs_callbacks.specs.Hearing.{heard_by, is_heard}

@@ -2,8 +2,8 @@
 use Rattle.std.specs.Prelude.{◌≡◌, ℕ, Bool, true, false, Option, Some, None, nat_eq, if◌then◌else◌}
 use Rattle.std.proofs.Common.{refl, ap, sym, subst}
 use Rattle.std.proofs.lemmas.Bool.{eqb-true}
-use Rattle.afs_records.specs.Durable.{or_zero}
-use Rattle.afs_volrows.specs.FileRow.{held_code}
+use Rattle.spec_records.specs.Durable.{or_zero}
+use Rattle.spec_volrows.specs.FileRow.{held_code}
 use Rattle.afs_server.specs.Closing.{code_held}
 
 -- by whether the word is 0

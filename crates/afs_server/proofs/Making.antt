@@ -3,14 +3,14 @@ use Rattle.std.proofs.Common.{◌≡◌, ℕ, List, [], ◌++◌, sym, ap, subst
 use Rattle.std.specs.List.{All}
 use Rattle.afs_num.specs.Nodes.{IsNode}
 use Rattle.afs_num.specs.declared.types.Node.{Node}
-use Rattle.afs_history.specs.declared.lines.Line.{Line}
-use Rattle.afs_history.specs.declared.lines.Outs.{Outs}
-use Rattle.afs_records.specs.Durable.{Durable}
-use Rattle.afs_breaks.specs.Promises.{Lists}
-use Rattle.afs_rows.specs.Callbacks as row
-use Rattle.afs_rows.specs.Callbacks.{pumped}
-use Rattle.afs_rows.specs.States.{Lasting, Seat, ServerState}
-use Rattle.afs_rows.specs.ServerSteps.{stepped}
+use Rattle.spec_history.specs.declared.lines.Line.{Line}
+use Rattle.spec_history.specs.declared.lines.Outs.{Outs}
+use Rattle.spec_records.specs.Durable.{Durable}
+use Rattle.spec_breaks.specs.Promises.{Lists}
+use Rattle.spec_rows.specs.Callbacks as row
+use Rattle.spec_rows.specs.Callbacks.{pumped}
+use Rattle.spec_rows.specs.States.{Lasting, Seat, ServerState}
+use Rattle.spec_rows.specs.ServerSteps.{stepped}
 use Rattle.afs_callees.specs.Called.{call_to, known_to, AreGoodCalls}
 use Rattle.afs_server_parts.specs.Ending.{backs_left, Ends, IsPlan}
 use Rattle.afs_server_parts.specs.Turning.{IsBreakToNode}
@@ -31,7 +31,7 @@ pub record Leaves {D : Type 0} (old : ServerState) (e : Ended) (m : Memory) (s :
   pub held : m.held ≡ e.held
   pub drawn : s.drawn ≡ e.last
 
-pub makes_stepped : {D : Type 0} (me : Node) (old : ServerState) (before ls : List Line) (t : row.Turn) (e : Ended) (m : Memory) (s : Store D) →
+pub makes_stepped : {D : Type 0} (me : Node) (old : ServerState) (before ls : List Line) (t : row.CallbackStep) (e : Ended) (m : Memory) (s : Store D) →
     Leaves old e m s → Ends m.lists (pumped me old.lasting.boot t) e → before ++ e.outs.lines ≡ ls → Makes (stepped me old ls t) before m s e.outs
 makes_stepped me old before ls t e m s left ends lines =
     let seen : backs_seen m s.drawn ≡ backs_left m.lists e = λ i. record { lists = m.lists; last_call = left.drawn i; calls = call_to (left.callees i); known = known_to (left.callees i); held = left.held i } in
@@ -43,7 +43,7 @@ makes_stepped me old before ls t e m s left ends lines =
     }
 
 -- a step that leaves what is on the disk as it is
-pub steps : {D : Type 0} (state : ServerState) (ls : List Line) (t : row.Turn) (old new : Memory) (s u : Store D) (e : Ended) (outs : Outs) →
+pub steps : {D : Type 0} (state : ServerState) (ls : List Line) (t : row.CallbackStep) (old new : Memory) (s u : Store D) (e : Ended) (outs : Outs) →
     state.lasting ≡ lasting_of s.durable → new ≡ record old { seats = state.seats; lists = t.backs.lists; callees = e.callees.items; held = e.held } → u ≡ record s { drawn = e.last } → outs ≡ e.outs →
     IsPlan (stand_of s) t ls e → Serves s.node old s.durable → All IsPromiseToNode t.backs.lists.promises →
     Makes (stepped s.node state ls t) [] new u outs × (Serves u.node new u.durable × (u ≡ record s { drawn = u.drawn }))
@@ -76,10 +76,10 @@ steps {D} state ls t old new s u e outs lasting memory store given plan serves p
     )
 
 -- one in which no call runs, as the same turn
-pub turned_as : {D : Type 0} (t u : row.Turn) (old new : Memory) (s v : Store D) (outs : Outs) → t ≡ u →
+pub turned_as : {D : Type 0} (t u : row.CallbackStep) (old new : Memory) (s v : Store D) (outs : Outs) → t ≡ u →
     Makes (stepped s.node (server_seen old s) t.lines t) [] new v outs × (Serves v.node new v.durable × (v ≡ record s { drawn = v.drawn })) →
     Makes (stepped s.node (server_seen old s) u.lines u) [] new v outs × (Serves v.node new v.durable × (v ≡ record s { drawn = v.drawn }))
-turned_as {D} t u old new s v outs same made = (subst (λ (x : row.Turn). Makes (stepped s.node (server_seen old s) x.lines x) [] new v outs) same made.0, made.1)
+turned_as {D} t u old new s v outs same made = (subst (λ (x : row.CallbackStep). Makes (stepped s.node (server_seen old s) x.lines x) [] new v outs) same made.0, made.1)
 
 -- ---- what a step asked its store, and what it left in memory
 

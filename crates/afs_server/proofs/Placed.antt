@@ -1,13 +1,13 @@
 -- A step of a message stands behind the line of its place.
 use Rattle.std.proofs.Common.{◌≡◌, ℕ, List, [], ◌∷◌, refl, sym, ap, subst, ◌∙◌}
 use Rattle.afs_num.specs.declared.types.Node.{Node}
-use Rattle.afs_history.specs.declared.lines.Line.{Line}
-use Rattle.afs_history.specs.declared.lines.Line.TheVariants as lines
-use Rattle.afs_history.specs.declared.lines.Outs.{Outs}
-use Rattle.afs_rows.specs.Callbacks as row
-use Rattle.afs_rows.specs.ServerRow.{does, drops, tells_boot, repeats, refuses, shows, saves, Decision}
-use Rattle.afs_rows.specs.ServerSteps.{done, stepped}
-use Rattle.afs_rows.specs.States.{ServerState}
+use Rattle.spec_history.specs.declared.lines.Line.{Line}
+use Rattle.spec_history.specs.declared.lines.Line.TheVariants as lines
+use Rattle.spec_history.specs.declared.lines.Outs.{Outs}
+use Rattle.spec_rows.specs.Callbacks as row
+use Rattle.spec_rows.specs.ServerRow.{does, drops, tells_boot, repeats, refuses, shows, saves, Decision}
+use Rattle.spec_rows.specs.ServerSteps.{done, stepped}
+use Rattle.spec_rows.specs.States.{ServerState}
 use Rattle.afs_volstore.specs.Stores.{Store}
 use Rattle.afs_server.specs.Handling.{lines_behind, Makes}
 use Rattle.afs_server.specs.Seen.{Memory}
@@ -29,7 +29,7 @@ does_state me s clock place (shows head r) = refl
 does_state me s clock place (saves head c) = refl
 
 -- what is done on a decision, as the step of the message of any place
-pub given_at : {D : Type 0} (me : Node) (before : ServerState) (clock place : ℕ) (d : Decision) (t : row.Turn) (m : Memory) (s : Store D) (outs : Outs) →
+pub given_at : {D : Type 0} (me : Node) (before : ServerState) (clock place : ℕ) (d : Decision) (t : row.CallbackStep) (m : Memory) (s : Store D) (outs : Outs) →
     Makes (stepped me (does me before clock 0 d []).state (lines_behind (does me before clock 0 d t.lines).lines) t) [] m s outs → Makes (done me before clock place d t) (lines.Given place ∷ []) m s outs
 given_at {D} me before clock place d t m s outs made =
     subst (λ (x : ServerState). Makes (stepped me x (does me before clock place d t.lines).lines t) (lines.Given place ∷ []) m s outs) (sym (does_state me before clock place d))

@@ -6,10 +6,10 @@ use Rattle.afs_disk.specs.declared.disk.Disk.{Ghosts}
 use Rattle.afs_num.specs.declared.records.StoreRecord.{StoreRecord}
 use Rattle.afs_num.specs.declared.types.Head.{Head}
 use Rattle.afs_num.specs.declared.volumes.Change as made_of
-use Rattle.afs_history.specs.declared.lines.Outs.{Outs}
-use Rattle.afs_records.specs.Durable.{has_room, Durable}
-use Rattle.afs_rows.specs.Callbacks as row
-use Rattle.afs_rows.specs.ServerRow.{refusal, roomed, Change}
+use Rattle.spec_history.specs.declared.lines.Outs.{Outs}
+use Rattle.spec_records.specs.Durable.{has_room, Durable}
+use Rattle.spec_rows.specs.Callbacks as row
+use Rattle.spec_rows.specs.ServerRow.{refusal, roomed, Change}
 use Rattle.afs_volstore.specs.Stores.{Store}
 use Rattle.afs_decisions.specs.Deciding.{IsMade}
 use Rattle.afs_server.specs.Handling.{record_decided, server_seen, Answers}

@@ -1,4 +1,5 @@
 -- A change that is planned, put on the disk and taken is the step of its row.
+use Rattle.spec_model.specs.Calls.{key_of}
 use Rattle.std.proofs.Common.{◌≡◌, ◌≤◌, ◌+◌, ℕ, List, [], ◌∷◌, ◌++◌, map, length, false, true, Option, Some, refl, sym, ap, subst, ◌∙◌, arith, lt-ltb}
 use Rattle.std.specs.Prelude.{nat_lt}
 use Rattle.std.specs.List.{All}
@@ -9,21 +10,21 @@ use Rattle.afs_num.specs.declared.records.StoreRecord.{StoreRecord}
 use Rattle.afs_num.specs.declared.types.Head.{Head}
 use Rattle.afs_num.specs.declared.types.Node.{Node}
 use Rattle.afs_num.specs.declared.volumes.Change as made_of
-use Rattle.afs_history.specs.declared.lines.Line.{Line}
-use Rattle.afs_history.specs.declared.lines.Line.TheVariants as lines
-use Rattle.afs_history.specs.declared.lines.Outs.{Outs}
-use Rattle.afs_breaks.specs.Promises.{expired, grants_all, lasting, lasting_breaks, Lists}
-use Rattle.afs_breaks.specs.declared.types.OwedBreak.{OwedBreak}
-use Rattle.afs_ideal.specs.Operations.{Found}
-use Rattle.afs_ideal.specs.Tables.{get}
-use Rattle.afs_records.specs.Durable.{time_in, Durable}
-use Rattle.afs_fold.specs.Fold.{folded}
-use Rattle.afs_records.specs.Records.{FitsRecord}
-use Rattle.afs_rows.specs.Callbacks as row
-use Rattle.afs_rows.specs.Callbacks.{alls, fids_found, grants_found, new_owes, numbers, owe_line, pumped, turn_for, withdraws_all}
-use Rattle.afs_rows.specs.ServerRow.{change_reply_to, granted, granted_in, key_of, made, result, saved, saves, stored_by, versioned, Change}
-use Rattle.afs_rows.specs.ServerSteps.{stepped}
-use Rattle.afs_rows.specs.States.{Lasting, ServerState}
+use Rattle.spec_history.specs.declared.lines.Line.{Line}
+use Rattle.spec_history.specs.declared.lines.Line.TheVariants as lines
+use Rattle.spec_history.specs.declared.lines.Outs.{Outs}
+use Rattle.spec_breaks.specs.Promises.{expired, grants_all, lasting, lasting_breaks, Lists}
+use Rattle.spec_breaks.specs.declared.types.OwedBreak.{OwedBreak}
+use Rattle.spec_ideal.specs.Operations.{Found}
+use Rattle.spec_ideal.specs.Tables.{get}
+use Rattle.spec_records.specs.Durable.{time_in, Durable}
+use Rattle.spec_fold.specs.Fold.{folded}
+use Rattle.spec_records.specs.Records.{FitsRecord}
+use Rattle.spec_rows.specs.Callbacks as row
+use Rattle.spec_rows.specs.Callbacks.{alls, fids_found, grants_found, new_owes, break_numbers, owe_line, pumped, turn_for, withdraws_all}
+use Rattle.spec_rows.specs.ServerRow.{change_reply_to, granted, granted_in, versions_made, result, saved, saves, stored_by, versioned, Change}
+use Rattle.spec_rows.specs.ServerSteps.{stepped}
+use Rattle.spec_rows.specs.States.{Lasting, ServerState}
 use Rattle.afs_callees.specs.Called.{AreGoodCalls}
 use Rattle.afs_message.specs.Spelled.{Spells}
 use Rattle.afs_callees.specs.Telling.{grant_line}
@@ -75,36 +76,36 @@ lines_are me head expiry x vs fs os versions grants =
 module _ {D : Type 0} (clock id : ℕ) (head : Head) (c : Change) (x : made_of.Change) (old new : Memory) (s t : Store D) (p : Planned) where
   -- the promises after the step, and the breaks that it owes
   abbrev lists_after : Lists
-  lists_after = grants_found head.from (clock + 7200) (granted_in c) (withdraws_all head.from (made c) (expired clock old.lists))
+  lists_after = grants_found head.from (clock + 7200) (granted_in c) (withdraws_all head.from (versions_made c) (expired clock old.lists))
 
   abbrev owes : List OwedBreak
-  owes = new_owes head.from (made c) (expired clock old.lists)
+  owes = new_owes head.from (versions_made c) (expired clock old.lists)
 
   new_lists : clock ≤ 1000000000 → IsMade clock id c x → IsPlanned (stand_of s) clock head id x (callbacks_of old) p → IsTaken head clock p old new → new.lists ≡ lists_after
   new_lists small is plan taken =
-      let fids : p.changed ≡ fids_changed (made c) = plan.changed ∙ ap fids_changed is.versions in
+      let fids : p.changed ≡ fids_changed (versions_made c) = plan.changed ∙ ap fids_changed is.versions in
       let grants : p.granted ≡ fids_found (granted_in c) = plan.granted ∙ granted_fids c.id c.caller (time_in (stored_by clock c)) (result c) c.shown c.call x.reply is.reply in
       let late : nat_lt clock (clock + 7200) ≡ true = lt-ltb clock (clock + 7200) (omega arith) in
-      let same : grants_all head.from (clock + 7200) p.granted (withdraws_each head.from p.changed (expired clock old.lists)) ≡ grants_all head.from (clock + 7200) (fids_found (granted_in c)) (withdraws_each head.from (fids_changed (made c)) (expired clock old.lists)) =
+      let same : grants_all head.from (clock + 7200) p.granted (withdraws_each head.from p.changed (expired clock old.lists)) ≡ grants_all head.from (clock + 7200) (fids_found (granted_in c)) (withdraws_each head.from (fids_changed (versions_made c)) (expired clock old.lists)) =
       λ i. grants_all head.from (clock + 7200) (grants i) (withdraws_each head.from (fids i) (expired clock old.lists)) in
       taken.lists
       ∙ (granted_first clock head.from (clock + 7200) p.changed p.granted old.lists late
-      ∙ (same ∙ ap (grants_all head.from (clock + 7200) (fids_found (granted_in c))) (sym (withdraws_are head.from (made c) (expired clock old.lists)))))
+      ∙ (same ∙ ap (grants_all head.from (clock + 7200) (fids_found (granted_in c))) (sym (withdraws_are head.from (versions_made c) (expired clock old.lists)))))
 
   breaks_are : IsMade clock id c x → breaks_new head.from (fids_changed x.versions) clock old.lists ≡ owes
-  breaks_are is = ap (λ (vs : List Version). breaks_new head.from (fids_changed vs) clock old.lists) is.versions ∙ sym (new_owes_are head.from (made c) (expired clock old.lists))
+  breaks_are is = ap (λ (vs : List Version). breaks_new head.from (fids_changed vs) clock old.lists) is.versions ∙ sym (new_owes_are head.from (versions_made c) (expired clock old.lists))
 
   owed_after : lists_after.owed ≡ lasting_breaks clock old.lists.owed ++ owes
   owed_after =
-      ap (λ (l : Lists). l.owed) (withdraws_are head.from (made c) (expired clock old.lists))
-      ∙ (withdrawn_owed head.from (fids_changed (made c)) (expired clock old.lists) ∙ ap (λ (os : List OwedBreak). lasting_breaks clock old.lists.owed ++ os) (sym (new_owes_are head.from (made c) (expired clock old.lists))))
+      ap (λ (l : Lists). l.owed) (withdraws_are head.from (versions_made c) (expired clock old.lists))
+      ∙ (withdrawn_owed head.from (fids_changed (versions_made c)) (expired clock old.lists) ∙ ap (λ (os : List OwedBreak). lasting_breaks clock old.lists.owed ++ os) (sym (new_owes_are head.from (versions_made c) (expired clock old.lists))))
 
   spells_reply : IsMade clock id c x → IsPlanned (stand_of s) clock head id x (callbacks_of old) p → Spells (change_reply_to s.durable.boot head clock c) p.kept
   spells_reply is plan = subst (λ (m : Message). Spells m p.kept) (sym (reply_is s.durable.boot clock id head c x is)) plan.replied.kept
 
   -- the lines of the step
   abbrev told_lines : List Line
-  told_lines = lines.Change s.node (key_of head) (length (made c)) ∷ versioned (made c) (granted s.node head.from (clock + 7200) (granted_in c) (map (owe_line s.node) owes))
+  told_lines = lines.Change s.node (key_of head) (length (versions_made c)) ∷ versioned (versions_made c) (granted s.node head.from (clock + 7200) (granted_in c) (map (owe_line s.node) owes))
 
   plan_as : IsMade clock id c x → IsPlanned (stand_of s) clock head id x (callbacks_of old) p → IsPlan (stand_of s) (turn_for s.node (server_seen old s) clock (row.expired clock (server_seen old s).backs) (saves head c)) told_lines p.ended
   plan_as is plan =
@@ -112,11 +113,11 @@ module _ {D : Type 0} (clock id : ℕ) (head : Head) (c : Change) (x : made_of.C
       let all = alls (lasting_breaks clock old.lists.owed) in
       let told = reply_told s.durable.boot head (clock + 7200) x.reply in
       let first = plan.replied.answer lists_after (owed_after ∙ ap (λ (os : List OwedBreak). lasting_breaks clock old.lists.owed ++ os) (sym (breaks_are is))) in
-      let second = subst (λ (os : List OwedBreak). IsPlan (stand_of s) (answer_turn told (numbers os ++ all) false b) (change_lines s.node head (clock + 7200) x os) p.ended) (breaks_are is) first in
-      let third = subst (λ (m : Message). IsPlan (stand_of s) (answer_turn m (numbers owes ++ all) false b) (change_lines s.node head (clock + 7200) x owes) p.ended) (sym (reply_is s.durable.boot clock id head c x is)) second in
+      let second = subst (λ (os : List OwedBreak). IsPlan (stand_of s) (answer_turn told (break_numbers os ++ all) false b) (change_lines s.node head (clock + 7200) x os) p.ended) (breaks_are is) first in
+      let third = subst (λ (m : Message). IsPlan (stand_of s) (answer_turn m (break_numbers owes ++ all) false b) (change_lines s.node head (clock + 7200) x owes) p.ended) (sym (reply_is s.durable.boot clock id head c x is)) second in
       record {
         ends = record { backs = third.ends.backs; sent = third.ends.sent };
-        lines = third.lines ∙ lines_are s.node head (clock + 7200) x (made c) (granted_in c) owes is.versions (sym (change_grants c.id c.caller (time_in (stored_by clock c)) (result c) c.shown c.call x.reply is.reply));
+        lines = third.lines ∙ lines_are s.node head (clock + 7200) x (versions_made c) (granted_in c) owes is.versions (sym (change_grants c.id c.caller (time_in (stored_by clock c)) (result c) c.shown c.call x.reply is.reply));
         drawn = third.drawn;
         owed = third.owed;
         calls = third.calls;
@@ -136,15 +137,15 @@ module _ {D : Type 0} (clock id : ℕ) (head : Head) (c : Change) (x : made_of.C
       let lists = new_lists small is plan taken in
       let disk_as = lasting_as there is node serves plan put in
       let disk : durable_saved head id x p.kept (stored_by clock c) s.durable ≡ t.durable = some_is _ _ (sym (folds head id x p.kept c.before (stored_by clock c) s.durable there is.kept) ∙ folds_as plan put) in
-      let promised = left_to_nodes head.from (fids_changed (made c)) (expired clock old.lists) (lasting_promised clock old.lists.promises serves.promises) in
+      let promised = left_to_nodes head.from (fids_changed (versions_made c)) (expired clock old.lists) (lasting_promised clock old.lists.promises serves.promises) in
       record {
         node = subst IsNode (sym me) serves.node;
         boot = taken.boot ∙ (serves.boot ∙ sym (ap (λ (l : Lasting). l.boot) disk_as));
         kept = subst (λ (d : Durable). AreToNodes d.kept) disk (set_to_nodes head.from _ s.durable.kept node serves.kept);
         promises =
             subst (λ (l : Lists). All IsPromiseToNode l.promises) (sym lists)
-            (granted_to_nodes head.from (clock + 7200) (fids_found (granted_in c)) (withdraws_all head.from (made c) (expired clock old.lists)) node
-            (subst (λ (l : Lists). All IsPromiseToNode l.promises) (sym (withdraws_are head.from (made c) (expired clock old.lists))) promised));
+            (granted_to_nodes head.from (clock + 7200) (fids_found (granted_in c)) (withdraws_all head.from (versions_made c) (expired clock old.lists)) node
+            (subst (λ (l : Lists). All IsPromiseToNode l.promises) (sym (withdraws_are head.from (versions_made c) (expired clock old.lists))) promised));
         owed = subst (λ (l : Lists). All IsBreakToNode l.owed) (sym lists) (plan_as is plan).owed;
         calls = subst AreGoodCalls (sym taken.callees) (plan_as is plan).calls;
       }

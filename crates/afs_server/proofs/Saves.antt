@@ -6,14 +6,14 @@ use Rattle.afs_num.specs.declared.messages.Message.{Message}
 use Rattle.afs_num.specs.declared.records.StoreRecord.{StoreRecord}
 use Rattle.afs_num.specs.declared.types.Head.{Head}
 use Rattle.afs_num.specs.declared.volumes.Change as made_of
-use Rattle.afs_history.specs.declared.lines.Outs.{Outs}
-use Rattle.afs_ideal.specs.Tables.{get}
-use Rattle.afs_records.specs.Durable.{has_room, Durable}
-use Rattle.afs_fold.specs.Fold.{folded}
-use Rattle.afs_rows.specs.Callbacks as row
-use Rattle.afs_rows.specs.Callbacks.{turn_for}
-use Rattle.afs_rows.specs.ServerRow.{begun_after, no_room, record_of, refusal, refuses, roomed, saves, Change, Decision}
-use Rattle.afs_rows.specs.States.{durable_of}
+use Rattle.spec_history.specs.declared.lines.Outs.{Outs}
+use Rattle.spec_ideal.specs.Tables.{get}
+use Rattle.spec_records.specs.Durable.{has_room, Durable}
+use Rattle.spec_fold.specs.Fold.{folded}
+use Rattle.spec_rows.specs.Callbacks as row
+use Rattle.spec_rows.specs.Callbacks.{turn_for}
+use Rattle.spec_rows.specs.ServerRow.{begun_after, no_room, record_of, refusal, refuses, roomed, saves, Change, Decision}
+use Rattle.spec_rows.specs.States.{durable_of}
 use Rattle.afs_callbacks.specs.States.{CallbackState}
 use Rattle.afs_message.specs.Spelled.{Spells}
 use Rattle.afs_volstore.specs.Stores.{Store}
@@ -61,7 +61,7 @@ pub same_store : {D : Type 0} (s t : Store D) → t ≡ record s { disk = t.disk
 same_store {D} s t is = is ∙ (λ i. record s { disk = t.disk; prepared = sym (ap (λ (u : Store D). u.prepared) is) i })
 
 -- memory was wanting
-pub wanting : {D : Type 0} (clock : ℕ) (d : Decision) (turn : row.Turn) (old : Memory) (s t : Store D) (result : Result Outs NodeFault) → result ≡ Err faults.OutOfMemory → t ≡ record s { disk = t.disk } → DoesAll clock d turn old old s t result
+pub wanting : {D : Type 0} (clock : ℕ) (d : Decision) (turn : row.CallbackStep) (old : Memory) (s t : Store D) (result : Result Outs NodeFault) → result ≡ Err faults.OutOfMemory → t ≡ record s { disk = t.disk } → DoesAll clock d turn old old s t result
 wanting {D} clock d turn old s t result is same =
     let prepared = prepared_still {T = Outs} (record_decided s.durable.boot clock d) s.prepared t.prepared (Err faults.OutOfMemory) tt (ap (λ (u : Store D). u.prepared) same) in
     subst (λ (r : Result Outs NodeFault). DoesAll clock d turn old old s t r) (sym is) (refl, (same_store s t same, prepared))

@@ -6,20 +6,20 @@ use Rattle.std.proofs.lemmas.List.{length-map}
 use Rattle.afs_num.specs.declared.messages.Received.{Received}
 use Rattle.afs_num.specs.declared.records.StoreRecord.{StoreRecord}
 use Rattle.afs_num.specs.declared.types.Head.{Head}
-use Rattle.afs_history.specs.declared.lines.Line.{Line}
-use Rattle.afs_history.specs.declared.lines.Line.TheVariants as lines
-use Rattle.afs_history.specs.declared.lines.Outs.{Outs}
-use Rattle.afs_ideal.specs.Operations.{Found}
-use Rattle.afs_records.specs.Durable.{Durable}
-use Rattle.afs_fold.specs.Fold.{folded}
-use Rattle.afs_breaks.specs.Promises.{Lists}
-use Rattle.afs_rows.specs.Callbacks as row
-use Rattle.afs_rows.specs.Callbacks.{turned_in}
-use Rattle.afs_rows.specs.ServerRow as ServerRow
-use Rattle.afs_rows.specs.ServerRow.{begun_after, device_calls, does, drops, refuses, repeats, saves, shows, tells_boot, Decision}
-use Rattle.afs_rows.specs.ServerSteps.{done}
-use Rattle.afs_rows.specs.States.{ServerState}
-use Rattle.afs_volrows.specs.FileRow.{file_decides, file_row}
+use Rattle.spec_history.specs.declared.lines.Line.{Line}
+use Rattle.spec_history.specs.declared.lines.Line.TheVariants as lines
+use Rattle.spec_history.specs.declared.lines.Outs.{Outs}
+use Rattle.spec_ideal.specs.Operations.{Found}
+use Rattle.spec_records.specs.Durable.{Durable}
+use Rattle.spec_fold.specs.Fold.{folded}
+use Rattle.spec_breaks.specs.Promises.{Lists}
+use Rattle.spec_rows.specs.Callbacks as row
+use Rattle.spec_rows.specs.Callbacks.{turned_in}
+use Rattle.spec_rows.specs.ServerRow as ServerRow
+use Rattle.spec_rows.specs.ServerRow.{begun_after, device_calls, does, drops, refuses, repeats, saves, shows, tells_boot, Decision}
+use Rattle.spec_rows.specs.ServerSteps.{done}
+use Rattle.spec_rows.specs.States.{ServerState}
+use Rattle.spec_volrows.specs.FileRow.{file_decides, file_row}
 use Rattle.afs_server_parts.specs.Turning.{IsBreakToNode}
 use Rattle.afs_callees.specs.Telling.{grants_seen}
 use Rattle.afs_callees.specs.declared.telling.Grant.{Grant}
@@ -35,7 +35,7 @@ use Rattle.afs_server_parts.specs.declared.faults.NodeFault.TheVariants as fault
 use Rattle.afs_server.proofs.Drawn.{drawn_after, lists_after}
 use Rattle.afs_server.proofs.Handled.{in_draws, GrantsFew}
 use Rattle.afs_server.proofs.Placed.{given_at}
-use Rattle.afs_sharing.specs.Stores.{IsDone, LeavesPrepared}
+use Rattle.afs_sharing.specs.Stores.{IsKeptBehind, LeavesPrepared}
 use Rattle.afs_saving.specs.Saving.{IsWritten, calls_for, IsStill}
 use Rattle.afs_sharing.specs.Lasting.{lasting_of}
 use Rattle.afs_sharing.proofs.Drawn.{breaks_drawn, expired_draws}
@@ -79,7 +79,7 @@ few_decided s clock head d (decided.Changes id x) fits leaves is = absurd leaves
 
 -- ---- a step without a record
 
-module _ {D : Type 0} (clock : ℕ) (d : Decision) (turn : row.Turn) (old new : Memory) (s t : Store D) where
+module _ {D : Type 0} (clock : ℕ) (d : Decision) (turn : row.CallbackStep) (old new : Memory) (s t : Store D) where
   pub made_none : (outs : Outs) → record_decided s.durable.boot clock d ≡ None → IsFew d → Does {E = NodeFault} clock d turn old new s t (Ok outs) → IsMadeOf clock d turn old new s t outs
   made_none outs none few does =
       let is = does.1.1 in
@@ -91,7 +91,7 @@ module _ {D : Type 0} (clock : ℕ) (d : Decision) (turn : row.Turn) (old new : 
         makes = does.0;
         serves = does.1.0;
         store = is ∙ (λ i. record s { durable = sym durable i; disk = sym disk i; prepared = sym prepared i; count = sym count i; drawn = t.drawn });
-        done = subst (λ (r : Option StoreRecord). IsDone r s t) (sym none) (durable, count);
+        done = subst (λ (r : Option StoreRecord). IsKeptBehind r s t) (sym none) (durable, count);
         prepared = prepared_still {T = Outs} (record_decided s.durable.boot clock d) s.prepared t.prepared (Ok outs) none prepared;
         effects = λ r recorded. absurd (let z : ◌≡◌ {A = Option StoreRecord} None (Some r) = sym none ∙ recorded in cc);
         few = few;
@@ -99,7 +99,7 @@ module _ {D : Type 0} (clock : ℕ) (d : Decision) (turn : row.Turn) (old new : 
 
 -- ---- at any place
 
-pub handles_at : {D : Type 0} (clock place : ℕ) (d : Decision) (turn : row.Turn) (old new : Memory) (s t : Store D) (result : Result Outs NodeFault) → DoesAll clock d turn old new s t result →
+pub handles_at : {D : Type 0} (clock place : ℕ) (d : Decision) (turn : row.CallbackStep) (old new : Memory) (s t : Store D) (result : Result Outs NodeFault) → DoesAll clock d turn old new s t result →
     Handles (done s.node (server_seen old s) clock place d turn) (lines.Given place ∷ []) old new s t result
 handles_at {D} clock place d turn old new s t (Ok outs) is = given_at s.node (server_seen old s) clock place d turn new t outs is.makes
 handles_at {D} clock place d turn old new s t (Err faults.OutOfMemory) is = (is.0, is.1.0)
@@ -112,36 +112,36 @@ unfolding file_row
 step_at {D} clock place m old new s t result is =
     handles_at clock place (file_decides s.node (holds_seen s) (server_seen old s) clock m) (turned_in s.node (server_seen old s) clock (row.expired clock (server_seen old s).backs) (file_decides s.node (holds_seen s) (server_seen old s) clock m) m) old new s t result is
 
-pub serves_after : {D : Type 0} (clock : ℕ) (d : Decision) (turn : row.Turn) (old new : Memory) (s t : Store D) (result : Result Outs NodeFault) → DoesAll clock d turn old new s t result → OnOk result (Serves t.node new t.durable)
+pub serves_after : {D : Type 0} (clock : ℕ) (d : Decision) (turn : row.CallbackStep) (old new : Memory) (s t : Store D) (result : Result Outs NodeFault) → DoesAll clock d turn old new s t result → OnOk result (Serves t.node new t.durable)
 serves_after {D} clock d turn old new s t (Ok outs) is = is.serves
 serves_after {D} clock d turn old new s t (Err fault) is = tt
 
-pub store_after : {D : Type 0} (clock : ℕ) (d : Decision) (turn : row.Turn) (old new : Memory) (s t : Store D) (result : Result Outs NodeFault) → DoesAll clock d turn old new s t result →
+pub store_after : {D : Type 0} (clock : ℕ) (d : Decision) (turn : row.CallbackStep) (old new : Memory) (s t : Store D) (result : Result Outs NodeFault) → DoesAll clock d turn old new s t result →
     OnOk result (t ≡ record s { durable = t.durable; disk = t.disk; prepared = t.prepared; count = t.count; drawn = t.drawn })
 store_after {D} clock d turn old new s t (Ok outs) is = is.store
 store_after {D} clock d turn old new s t (Err fault) is = tt
 
-pub done_after : {D : Type 0} (clock : ℕ) (d : Decision) (turn : row.Turn) (old new : Memory) (s t : Store D) (result : Result Outs NodeFault) → DoesAll clock d turn old new s t result → OnOk result (IsDone (record_decided s.durable.boot clock d) s t)
+pub done_after : {D : Type 0} (clock : ℕ) (d : Decision) (turn : row.CallbackStep) (old new : Memory) (s t : Store D) (result : Result Outs NodeFault) → DoesAll clock d turn old new s t result → OnOk result (IsKeptBehind (record_decided s.durable.boot clock d) s t)
 done_after {D} clock d turn old new s t (Ok outs) is = is.done
 done_after {D} clock d turn old new s t (Err fault) is = tt
 
-pub prepared_after : {D : Type 0} (clock : ℕ) (d : Decision) (turn : row.Turn) (old new : Memory) (s t : Store D) (result : Result Outs NodeFault) → DoesAll clock d turn old new s t result → LeavesPrepared (record_decided s.durable.boot clock d) s t result
+pub prepared_after : {D : Type 0} (clock : ℕ) (d : Decision) (turn : row.CallbackStep) (old new : Memory) (s t : Store D) (result : Result Outs NodeFault) → DoesAll clock d turn old new s t result → LeavesPrepared (record_decided s.durable.boot clock d) s t result
 prepared_after {D} clock d turn old new s t (Ok outs) is = is.prepared
 prepared_after {D} clock d turn old new s t (Err faults.OutOfMemory) is = is.1.1
 prepared_after {D} clock d turn old new s t (Err faults.Down) is = none_prepared {T = Outs} (record_decided s.durable.boot clock d) s.prepared t.prepared (Err faults.Down) refl is.some (ap (λ (u : Store D). u.prepared) is.closed)
 
-pub some_down : {D : Type 0} (clock : ℕ) (d : Decision) (turn : row.Turn) (old new : Memory) (s t : Store D) (result : Result Outs NodeFault) → DoesAll clock d turn old new s t result → IsErrOf result faults.Down → record_decided s.durable.boot clock d ≡ None → ⊥
+pub some_down : {D : Type 0} (clock : ℕ) (d : Decision) (turn : row.CallbackStep) (old new : Memory) (s t : Store D) (result : Result Outs NodeFault) → DoesAll clock d turn old new s t result → IsErrOf result faults.Down → record_decided s.durable.boot clock d ≡ None → ⊥
 some_down {D} clock d turn old new s t (Ok outs) is down none = absurd cc
 some_down {D} clock d turn old new s t (Err faults.OutOfMemory) is down none = absurd cc
 some_down {D} clock d turn old new s t (Err faults.Down) is down none = is.some none
 
-pub left_down : {D : Type 0} (clock : ℕ) (d : Decision) (turn : row.Turn) (old new : Memory) (s t : Store D) (result : Result Outs NodeFault) → DoesAll clock d turn old new s t result → IsErrOf result faults.Down →
+pub left_down : {D : Type 0} (clock : ℕ) (d : Decision) (turn : row.CallbackStep) (old new : Memory) (s t : Store D) (result : Result Outs NodeFault) → DoesAll clock d turn old new s t result → IsErrOf result faults.Down →
     (r : StoreRecord) → record_decided s.durable.boot clock d ≡ Some r → (e : Durable) → folded r s.durable ≡ Some e → lasting_of e ≡ (begun_after s.node (server_seen old s) clock d).state.lasting
 left_down {D} clock d turn old new s t (Ok outs) is down r made e folds = absurd cc
 left_down {D} clock d turn old new s t (Err faults.OutOfMemory) is down r made e folds = absurd cc
 left_down {D} clock d turn old new s t (Err faults.Down) is down r made e folds = is.left r made e folds
 
-pub told_after : {D : Type 0} (clock : ℕ) (d : Decision) (turn : row.Turn) (old new : Memory) (s t : Store D) (result : Result Outs NodeFault) → DoesAll clock d turn old new s t result → (r : StoreRecord) → IsWritten r (record_decided s.durable.boot clock d) result →
+pub told_after : {D : Type 0} (clock : ℕ) (d : Decision) (turn : row.CallbackStep) (old new : Memory) (s t : Store D) (result : Result Outs NodeFault) → DoesAll clock d turn old new s t result → (r : StoreRecord) → IsWritten r (record_decided s.durable.boot clock d) result →
     IsToldAgain s.node (server_seen old s) clock d r s.durable
 told_after {D} clock d turn old new s t (Ok outs) is r written = is.effects r written
 told_after {D} clock d turn old new s t (Err faults.OutOfMemory) is r written = absurd written

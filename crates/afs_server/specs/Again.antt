@@ -3,12 +3,12 @@ use Rattle.std.specs.Prelude.{◌≡◌, ℕ, List, Option, Some}
 use Rattle.std.specs.List.{AllByRecursion}
 use Rattle.afs_num.specs.declared.types.Node.{Node}
 use Rattle.afs_num.specs.declared.messages.Message.{Message}
-use Rattle.afs_ideal.specs.Tables.{AscendsFrom}
-use Rattle.afs_model.specs.Calls.{call_seat}
-use Rattle.afs_model.specs.Messages.{spelled}
-use Rattle.afs_model.specs.SpellingLaws.{IsBytes}
-use Rattle.afs_records.specs.Durable.{Durable, Kept}
-use Rattle.afs_rows.specs.States.{durable_of, Seat}
+use Rattle.spec_ideal.specs.Tables.{AscendsFrom}
+use Rattle.spec_model.specs.Calls.{call_seat}
+use Rattle.spec_model.specs.Messages.{spelled}
+use Rattle.afs_xdr.specs.Words.{IsBytes}
+use Rattle.spec_records.specs.Durable.{Durable, Kept}
+use Rattle.spec_rows.specs.States.{durable_of, Seat}
 use Rattle.afs_message.specs.Spelled.{reply_in}
 use Rattle.afs_sharing.specs.Lasting.{lasting_of, KeepsForNodes}
 

@@ -2,15 +2,15 @@
 use Rattle.std.specs.Prelude.{◌≡◌, ℕ, List}
 use Rattle.afs_num.specs.declared.messages.Message.{Message}
 use Rattle.afs_num.specs.declared.types.Head.{Head}
-use Rattle.afs_rows.specs.Callbacks as row
-use Rattle.afs_rows.specs.Callbacks.{held_under, is_seat_of, key_answered, repeats_by}
-use Rattle.afs_rows.specs.ServerRow.{seat_for}
-use Rattle.afs_rows.specs.States.{Backs, Lasting, Seat}
-use Rattle.afs_model.specs.Calls.{call_seat, call_seated}
+use Rattle.spec_rows.specs.Callbacks as row
+use Rattle.spec_rows.specs.Callbacks.{held_under, is_seat_of, key_answered, repeats_by}
+use Rattle.spec_rows.specs.ServerRow.{seat_for}
+use Rattle.spec_rows.specs.States.{Backs, Lasting, Seat}
+use Rattle.spec_model.specs.Calls.{call_seat, call_seated}
 use Rattle.afs_message.specs.Spelled.{Spells}
 
 -- a kept reply is asked again
-abbrev pub repeated_turn : Message → Lasting → Backs → row.Turn
+abbrev pub repeated_turn : Message → Lasting → Backs → row.CallbackStep
 repeated_turn reply l b = repeats_by b reply (held_under (key_answered reply) b.held) (is_seat_of reply (call_seat reply.head.to l.kept))
 
 -- these bytes are kept as the reply to the call of this header

@@ -1,6 +1,6 @@
 -- With which code a file server refuses a call on a volume that it has, by the words that it finds.
 use Rattle.std.specs.Prelude.{ℕ, Option, Some, None, nat_eq, if◌then◌else◌}
-use Rattle.afs_volrows.specs.FileRow.{held_code, out_of_service}
+use Rattle.spec_volrows.specs.FileRow.{held_code, out_of_service}
 
 -- what holds it: 0 where nothing does
 abbrev pub code_held : ℕ → Option ℕ

@@ -1,25 +1,25 @@
 -- What a call of a server's node gives.
 use Rattle.std.specs.Prelude.{ℤ, false, ◌≡◌, ◌≤◌, ◌+◌, ℕ, List, [], ◌∷◌, ◌++◌, Option, Some, None, Result, Ok, Err}
-use Rattle.afs_history.specs.declared.lines.Line.{Line}
-use Rattle.afs_history.specs.declared.lines.Outs.{Outs}
+use Rattle.spec_history.specs.declared.lines.Line.{Line}
+use Rattle.spec_history.specs.declared.lines.Outs.{Outs}
 use Rattle.afs_server_parts.specs.declared.faults.NodeFault.{NodeFault}
 use Rattle.afs_server_parts.specs.declared.faults.NodeFault.TheVariants as faults
 use Rattle.afs_num.specs.declared.records.StoreRecord.{StoreRecord}
-use Rattle.afs_model.specs.Messages.{parcels_read, messages_spelled, received_by}
-use Rattle.afs_ideal.specs.Tables.{Table}
+use Rattle.spec_model.specs.Messages.{parcels_read, messages_spelled, received_by}
+use Rattle.spec_ideal.specs.Tables.{Table}
 use Rattle.afs_volstore.specs.Stores.{Store}
-use Rattle.afs_rows.specs.Callbacks as row
-use Rattle.afs_rows.specs.Callbacks.{turn_for, turned_in}
+use Rattle.spec_rows.specs.Callbacks as row
+use Rattle.spec_rows.specs.Callbacks.{turn_for, turned_in}
 use Rattle.afs_num.specs.declared.types.Head.{Head}
 use Rattle.afs_num.specs.declared.messages.Message.{Message}
 use Rattle.afs_num.specs.declared.messages.Received.{Received}
-use Rattle.afs_breaks.specs.Promises.{expired, Lists}
+use Rattle.spec_breaks.specs.Promises.{expired, Lists}
 use Rattle.afs_callbacks.specs.Answering.{with_lists}
-use Rattle.afs_rows.specs.ServerRow.{refusal, does, keeps, saves, record_of, Decision}
-use Rattle.afs_rows.specs.ServerSteps.{stepped}
-use Rattle.afs_rows.specs.States.{Backs, ServerState}
-use Rattle.afs_rows.specs.Steps.{Step}
-use Rattle.afs_volrows.specs.FileRow.{file_decides}
+use Rattle.spec_rows.specs.ServerRow.{refusal, does, keeps, saves, record_of, Decision}
+use Rattle.spec_rows.specs.ServerSteps.{stepped}
+use Rattle.spec_rows.specs.States.{Backs, ServerState}
+use Rattle.spec_rows.specs.Steps.{Step}
+use Rattle.spec_volrows.specs.FileRow.{file_decides}
 use Rattle.afs_server_parts.specs.Turning.{answer_turn}
 use Rattle.afs_server.specs.Seen.{backs_seen, Memory, state_seen, Serves, CanDraw}
 use Rattle.afs_sharing.specs.Stores.{IsClosed, SameStore}
@@ -52,10 +52,10 @@ abbrev pub backs_then : {D : Type 0} → Memory → Store D → ℕ → Backs
 backs_then {D} m s clock = row.expired clock (backs_seen m s.drawn)
 
 -- the turn of what is decided, and that of what a message does besides
-abbrev pub turn_then : {D : Type 0} → Memory → Store D → ℕ → Decision → row.Turn
+abbrev pub turn_then : {D : Type 0} → Memory → Store D → ℕ → Decision → row.CallbackStep
 turn_then {D} m s clock d = turn_for s.node (server_seen m s) clock (backs_then m s clock) d
 
-abbrev pub turned_then : {D : Type 0} → Memory → Store D → ℕ → Decision → Received → row.Turn
+abbrev pub turned_then : {D : Type 0} → Memory → Store D → ℕ → Decision → Received → row.CallbackStep
 turned_then {D} m s clock d received = turned_in s.node (server_seen m s) clock (backs_then m s clock) d received
 
 -- The step was made: the new state is its, and so is what was given out. Its lines are these and then the node's.
@@ -73,17 +73,17 @@ Handles {D} step before old new s t (Err faults.Down) = IsClosed s t
 
 -- A step was made that leaves what is on the disk as it is. Its callers are those of this state, these are its lines, and this
 -- turn is all that it does else; what a server and its store keep together stays so. Or memory was wanting, and all is as before.
-abbrev pub Steps : {D E : Type 0} → ServerState → List Line → row.Turn → Memory → Memory → Store D → Store D → Result Outs E → Type 0
+abbrev pub Steps : {D E : Type 0} → ServerState → List Line → row.CallbackStep → Memory → Memory → Store D → Store D → Result Outs E → Type 0
 Steps {D} {E} state ls turn old new s t (Ok outs) =
     Makes (stepped s.node state ls turn) [] new t outs × (Serves t.node new t.durable × (t ≡ record s { drawn = t.drawn }))
 Steps {D} {E} state ls turn old new s t (Err e) = (new ≡ old) × (t ≡ s)
 
 -- no call runs in it
-abbrev pub Turns : {D E : Type 0} → row.Turn → Memory → Memory → Store D → Store D → Result Outs E → Type 0
+abbrev pub Turns : {D E : Type 0} → row.CallbackStep → Memory → Memory → Store D → Store D → Result Outs E → Type 0
 Turns {D} {E} turn old new s t result = Steps (server_seen old s) turn.lines turn old new s t result
 
 -- a call runs in it, and this is its reply
-abbrev pub Answers : {D E : Type 0} → Head → Message → List Line → row.Turn → Memory → Memory → Store D → Store D → Result Outs E → Type 0
+abbrev pub Answers : {D E : Type 0} → Head → Message → List Line → row.CallbackStep → Memory → Memory → Store D → Store D → Result Outs E → Type 0
 Answers {D} {E} head reply ls turn old new s t result = Steps (keeps head reply (server_seen old s)) ls turn old new s t result
 
 -- the reply goes out at once, and these promises are left
@@ -100,7 +100,7 @@ lines_behind [] = []
 lines_behind (l ∷ ls) = ls
 
 -- what is decided is done, where that leaves the disk as it is
-abbrev pub Does : {D E : Type 0} → ℕ → Decision → row.Turn → Memory → Memory → Store D → Store D → Result Outs E → Type 0
+abbrev pub Does : {D E : Type 0} → ℕ → Decision → row.CallbackStep → Memory → Memory → Store D → Store D → Result Outs E → Type 0
 Does {D} {E} clock d turn old new s t result =
     Steps (does s.node (server_seen old s) clock 0 d []).state (lines_behind (does s.node (server_seen old s) clock 0 d turn.lines).lines) turn old new s t result
 

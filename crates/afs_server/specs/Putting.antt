@@ -1,16 +1,16 @@
 -- What a step does to its store: what is decided is done, with its record or without one.
 use Rattle.std.specs.Prelude.{◌≡◌, ◌≤◌, ◌+◌, ◌++◌, ℕ, List, [], Some, None, Result, Ok, Err, length, map}
-use Rattle.afs_history.specs.declared.lines.Line.{Line}
-use Rattle.afs_history.specs.declared.lines.Outs.{Outs}
+use Rattle.spec_history.specs.declared.lines.Line.{Line}
+use Rattle.spec_history.specs.declared.lines.Outs.{Outs}
 use Rattle.afs_num.specs.declared.records.StoreRecord.{StoreRecord}
 use Rattle.afs_num.specs.declared.types.Node.{Node}
-use Rattle.afs_records.specs.Durable.{Durable}
-use Rattle.afs_fold.specs.Effects.{effect_of}
-use Rattle.afs_fold.specs.Fold.{folded}
-use Rattle.afs_rows.specs.Callbacks as row
-use Rattle.afs_rows.specs.ServerRow.{begun_after, does, shows, Decision}
-use Rattle.afs_rows.specs.ServerSteps.{stepped}
-use Rattle.afs_rows.specs.States.{ServerState}
+use Rattle.spec_records.specs.Durable.{Durable}
+use Rattle.spec_fold.specs.Effects.{effect_of}
+use Rattle.spec_fold.specs.Fold.{folded}
+use Rattle.spec_rows.specs.Callbacks as row
+use Rattle.spec_rows.specs.ServerRow.{begun_after, does, shows, Decision}
+use Rattle.spec_rows.specs.ServerSteps.{stepped}
+use Rattle.spec_rows.specs.States.{ServerState}
 use Rattle.afs_volstore.specs.Stores.{Store}
 use Rattle.afs_memory.specs.Telling.{in_words}
 use Rattle.afs_server.specs.Handling.{lines_behind, record_decided, server_seen, Makes}
@@ -19,7 +19,7 @@ use Rattle.afs_server_parts.specs.declared.faults.NodeFault.{NodeFault}
 use Rattle.afs_server_parts.specs.declared.faults.NodeFault.TheVariants as faults
 use Rattle.afs_server_parts.specs.declared.faults.NodeFault.TheVariants.{Down}
 use Rattle.afs_disk.specs.declared.disk.Disk.{Ghosts}
-use Rattle.afs_sharing.specs.Stores.{IsClosed, IsDone, LeavesPrepared, OnDisk, SameStore}
+use Rattle.afs_sharing.specs.Stores.{IsClosed, IsKeptBehind, LeavesPrepared, OnDisk, SameStore}
 use Rattle.afs_sharing.specs.Lasting.{lasting_of}
 
 -- no more promises are granted than a message has room for
@@ -36,11 +36,11 @@ abbrev pub TellsAgain : {D : Type 0} → ℕ → Decision → Memory → Store D
 TellsAgain {D} clock d old s = (r : StoreRecord) → record_decided s.durable.boot clock d ≡ Some r → IsToldAgain s.node (server_seen old s) clock d r s.durable
 
 -- what is left of a step that was made
-pub record IsMadeOf {D : Type 0} (clock : ℕ) (d : Decision) (turn : row.Turn) (old new : Memory) (s t : Store D) (outs : Outs) : Type 0 where
+pub record IsMadeOf {D : Type 0} (clock : ℕ) (d : Decision) (turn : row.CallbackStep) (old new : Memory) (s t : Store D) (outs : Outs) : Type 0 where
   pub makes : Makes (stepped s.node (does s.node (server_seen old s) clock 0 d []).state (lines_behind (does s.node (server_seen old s) clock 0 d turn.lines).lines) turn) [] new t outs
   pub serves : Serves t.node new t.durable
   pub store : t ≡ record s { durable = t.durable; disk = t.disk; prepared = t.prepared; count = t.count; drawn = t.drawn }
-  pub done : IsDone (record_decided s.durable.boot clock d) s t
+  pub done : IsKeptBehind (record_decided s.durable.boot clock d) s t
   pub prepared : LeavesPrepared (record_decided s.durable.boot clock d) s t (Ok outs)
   pub effects : TellsAgain clock d old s
   pub few : IsFew d
@@ -53,12 +53,12 @@ pub record IsInterrupted {D : Type 0} (me : Node) (clock : ℕ) (d : Decision) (
   pub left : (r : StoreRecord) → record_decided s.durable.boot clock d ≡ Some r → (e : Durable) → folded r s.durable ≡ Some e → lasting_of e ≡ (begun_after me (server_seen old s) clock d).state.lasting
 
 -- what is decided is done, and then this; or memory was wanting, and all is as before; or the disk failed while the record was written
-abbrev pub DoesAll : {D : Type 0} → ℕ → Decision → row.Turn → Memory → Memory → Store D → Store D → Result Outs NodeFault → Type 0
+abbrev pub DoesAll : {D : Type 0} → ℕ → Decision → row.CallbackStep → Memory → Memory → Store D → Store D → Result Outs NodeFault → Type 0
 DoesAll {D} clock d turn old new s t (Ok outs) = IsMadeOf clock d turn old new s t outs
 DoesAll {D} clock d turn old new s t (Err faults.OutOfMemory) = (new ≡ old) × (SameStore s t × LeavesPrepared {T = Outs} (record_decided s.durable.boot clock d) s t (Err faults.OutOfMemory))
 DoesAll {D} clock d turn old new s t (Err faults.Down) = IsInterrupted s.node clock d old s t
 
 -- what a step that is decided so did, with this turn: to the server and its store, and to the disk
-pub record Took {D : Type 0} (w : Ghosts D) (clock : ℕ) (d : Decision) (turn : row.Turn) (old new : Memory) (s t : Store D) (result : Result Outs NodeFault) : Type 0 where
+pub record Took {D : Type 0} (w : Ghosts D) (clock : ℕ) (d : Decision) (turn : row.CallbackStep) (old new : Memory) (s t : Store D) (result : Result Outs NodeFault) : Type 0 where
   pub does : DoesAll clock d turn old new s t result
   pub disk : OnDisk w (record_decided s.durable.boot clock d) s.durable s.disk t.disk result

@@ -1,10 +1,10 @@
 -- What becomes of a change, in memory and in the store.
 use Rattle.std.specs.Prelude.{◌≡◌, ℕ, ◌+◌, None, Some, Result, Ok, Err, ◌≤◌, false, length}
 use Rattle.afs_num.specs.declared.types.Head.{Head}
-use Rattle.afs_history.specs.declared.lines.Outs.{Outs}
-use Rattle.afs_breaks.specs.Promises.{expired, grants_all, lasting}
-use Rattle.afs_fold.specs.Fold.{folded}
-use Rattle.afs_records.specs.Records.{FitsRecord}
+use Rattle.spec_history.specs.declared.lines.Outs.{Outs}
+use Rattle.spec_breaks.specs.Promises.{expired, grants_all, lasting}
+use Rattle.spec_fold.specs.Fold.{folded}
+use Rattle.spec_records.specs.Records.{FitsRecord}
 use Rattle.afs_callbacks.specs.Saving.{withdraws_each, hits_each}
 use Rattle.afs_volstore.specs.Stores.{Store}
 use Rattle.afs_server.specs.Answering.{KeepsReply}

@@ -5,13 +5,13 @@ use Rattle.std.specs.Option.{option_map}
 use Rattle.afs_num.specs.Nodes.{IsNode}
 use Rattle.afs_num.specs.declared.types.Key.{Key}
 use Rattle.afs_num.specs.declared.types.Node.{Node}
-use Rattle.afs_records.specs.Durable.{Durable}
-use Rattle.afs_breaks.specs.Promises.{Lists, no_lists}
-use Rattle.afs_breaks.specs.declared.types.OwedBreak.{OwedBreak}
-use Rattle.afs_rows.specs.Callbacks.{first_backs, risen_turn}
-use Rattle.afs_rows.specs.ServerSteps.{stepped}
-use Rattle.afs_rows.specs.Steps.{Step}
-use Rattle.afs_rows.specs.States.{BackCall, Backs, Held, Seat, ServerState}
+use Rattle.spec_records.specs.Durable.{Durable}
+use Rattle.spec_breaks.specs.Promises.{Lists, no_lists}
+use Rattle.spec_breaks.specs.declared.types.OwedBreak.{OwedBreak}
+use Rattle.spec_rows.specs.Callbacks.{first_backs, risen_turn}
+use Rattle.spec_rows.specs.ServerSteps.{stepped}
+use Rattle.spec_rows.specs.Steps.{Step}
+use Rattle.spec_rows.specs.States.{BackCall, Backs, Held, Seat, ServerState}
 use Rattle.afs_callees.specs.Called.{call_to, AreGoodCalls, Callee}
 use Rattle.afs_server_parts.specs.Turning.{IsBreakToNode}
 use Rattle.afs_callbacks.specs.States.{backs_at, CallbackState, IsPromiseToNode}

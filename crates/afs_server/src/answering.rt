@@ -2,11 +2,11 @@
 
 ghost use Rattle.std.specs.Prelude.{◌≡◌, ◌≤◌, [], false, OnErr, OnOk};
 ghost use Rattle.afs_num.specs.Nodes.{IsNode};
-ghost use Rattle.afs_model.specs.Calls.{runs};
-ghost use Rattle.afs_model.specs.Heads.{is_zero, IsSoundHead};
-ghost use Rattle.afs_breaks.specs.Promises.{expired};
-ghost use Rattle.afs_rows.specs.Callbacks.{gives_up_all};
-ghost use Rattle.afs_rows.specs.ServerRow.{boot_told, given_up_read, read_reply_to, replied};
+ghost use Rattle.spec_model.specs.Calls.{runs};
+ghost use Rattle.spec_model.specs.Heads.{is_zero, IsSoundHead};
+ghost use Rattle.spec_breaks.specs.Promises.{expired};
+ghost use Rattle.spec_rows.specs.Callbacks.{gives_up_all};
+ghost use Rattle.spec_rows.specs.ServerRow.{boot_told, given_up_read, read_reply_to, replied};
 ghost use Rattle.afs_message.specs.Spelled.{IsSpelling};
 ghost use Rattle.afs_server.specs.Answering.{repeated_turn, KeepsReply};
 ghost use Rattle.afs_server.specs.Handling.{backs_then, Turns, AnswersNow, RefusesNow, ServesOver};
@@ -18,7 +18,6 @@ use crate::server::FileServer;
 use afs_callbacks::answering::Replied;
 use afs_callees::replies::{key, reply};
 use afs_disk::Disk;
-use afs_history::lines::Outs;
 use afs_message::spelled::SpelledMessage;
 use afs_num::sequences::Octets;
 use afs_num::types::{Fid, Head, Key, Mem};
@@ -26,6 +25,7 @@ use afs_server_parts::callers::Callers;
 use afs_sharing::answering::is_last_change;
 use afs_sharing::drawing::stand;
 use afs_volstore::VolStore;
+use spec_history::lines::Outs;
 
 /// The reply to the call of this header, which ran, is kept. It takes no memory.
 pub fn keep_reply(callers: &mut Callers, head: &Head, reply: Octets)

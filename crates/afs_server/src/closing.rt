@@ -2,10 +2,10 @@
 
 ghost use Rattle.std.specs.Prelude.{◌≡◌, Bool, pos, false, IfSome};
 ghost use Rattle.std.specs.Option.{option_map};
-ghost use Rattle.afs_model.specs.Heads.{is_zero};
-ghost use Rattle.afs_ideal.specs.Tables.{get};
+ghost use Rattle.spec_model.specs.Heads.{is_zero};
+ghost use Rattle.spec_ideal.specs.Tables.{get};
 ghost use Rattle.afs_shelves.specs.Shelving.{stored_as};
-ghost use Rattle.afs_volrows.specs.FileRow.{closed_code, missing_code};
+ghost use Rattle.spec_volrows.specs.FileRow.{closed_code, missing_code};
 ghost use Rattle.afs_server.specs.Closing.{code_with};
 ghost use Rattle.afs_server.specs.Handling.{holds_seen};
 ghost use Rattle.afs_sharing.specs.Lasting.{lasting_of};

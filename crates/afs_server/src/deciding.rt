@@ -1,13 +1,13 @@
 //! What a server decides on a call.
 
 ghost use Rattle.std.specs.Prelude.{◌≡◌, false, IfOk, Some, None};
-ghost use Rattle.afs_ideal.specs.Tables.{get};
-ghost use Rattle.afs_model.specs.Calls.{admitted};
-ghost use Rattle.afs_model.specs.Messages.{IsSoundCarried};
-ghost use Rattle.afs_ideal.specs.Operations.{the_user, volume_called};
+ghost use Rattle.spec_ideal.specs.Tables.{get};
+ghost use Rattle.spec_model.specs.Calls.{admitted};
+ghost use Rattle.spec_model.specs.Messages.{IsSoundCarried};
+ghost use Rattle.spec_ideal.specs.Operations.{the_user, volume_called};
 ghost use Rattle.afs_call.specs.Admitting.{means};
-ghost use Rattle.afs_rows.specs.ServerRow.{code_of_unreadable, is_client, serves};
-ghost use Rattle.afs_volrows.specs.FileRow.{file_admits, file_called, file_carried, file_in, file_received, file_runs, file_serves, file_volume};
+ghost use Rattle.spec_rows.specs.ServerRow.{code_of_unreadable, is_client, serves};
+ghost use Rattle.spec_volrows.specs.FileRow.{file_admits, file_called, file_carried, file_in, file_received, file_runs, file_serves, file_volume};
 ghost use Rattle.afs_decisions.specs.Deciding.{is_on_volume, IsByClient, CanBeDone, IsDecision, IsCallUnder};
 ghost use Rattle.afs_server_parts.specs.Heard.{IsUnder};
 ghost use Rattle.afs_server.specs.Handling.{holds_seen, server_seen, ServesOver};

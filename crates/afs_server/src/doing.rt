@@ -1,18 +1,18 @@
 //! What is decided on a call is done.
 
 ghost use Rattle.std.specs.Prelude.{◌≡◌, ◌≤◌};
-ghost use Rattle.afs_model.specs.Calls.{call_seat, paired};
-ghost use Rattle.afs_model.specs.Heads.{IsSoundHead};
-ghost use Rattle.afs_rows.specs.ServerRow.{Decision};
+ghost use Rattle.spec_model.specs.Calls.{call_seat, paired};
+ghost use Rattle.spec_model.specs.Heads.{IsSoundHead};
+ghost use Rattle.spec_rows.specs.ServerRow.{Decision};
 ghost use Rattle.afs_decisions.specs.Deciding.{CanBeTold, Decides, LeavesDisk, Runs};
 ghost use Rattle.afs_server.specs.Handling.{server_seen, turn_then, Does, ServesOver};
 
 use crate::server::FileServer;
 use afs_decisions::decided::Decided;
 use afs_disk::Disk;
-use afs_history::lines::Outs;
 use afs_num::types::{Head, Mem};
 use afs_volstore::VolStore;
+use spec_history::lines::Outs;
 
 impl FileServer {
     /// What is decided on the call of this header is done, where that leaves the disk as it is.

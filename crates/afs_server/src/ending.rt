@@ -1,14 +1,14 @@
 //! The end of a step: what is left of it in memory.
 
 ghost use Rattle.std.specs.Prelude.{◌≡◌, ◌≤◌, ◌<◌};
-ghost use Rattle.afs_breaks.specs.Promises.{expired};
+ghost use Rattle.spec_breaks.specs.Promises.{expired};
 
 use crate::server::FileServer;
 use afs_disk::Disk;
-use afs_history::lines::Outs;
 use afs_server_parts::ending::Ended;
 use afs_sharing::drawing::draw;
 use afs_volstore::VolStore;
+use spec_history::lines::Outs;
 
 impl FileServer {
     /// What is left of a step in memory. It takes no memory.

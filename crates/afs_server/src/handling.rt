@@ -4,20 +4,20 @@ ghost use Rattle.std.specs.Prelude.{◌≡◌, ◌≤◌, ◌+◌, ◌++◌, ◌
 ghost use Rattle.afs_num.specs.declared.messages.Received.TheVariants as receives;
 ghost use Rattle.afs_num.specs.declared.records.StoreRecord as records;
 ghost use Rattle.afs_disk.specs.Words.{SameDiskBy, LeavesOnlyBy, TellsOn, CallsAtMost};
-ghost use Rattle.afs_history.specs.declared.lines.Line.{Line};
-ghost use Rattle.afs_history.specs.declared.lines.Line.TheVariants as lines;
+ghost use Rattle.spec_history.specs.declared.lines.Line.{Line};
+ghost use Rattle.spec_history.specs.declared.lines.Line.TheVariants as lines;
 ghost use Rattle.afs_journal.specs.Records.{whole_records};
 ghost use Rattle.afs_journal.specs.Words.{SameCountsBy, LeavesByPickOf, ReachesBy};
-ghost use Rattle.afs_model.specs.Calls.{call_seat, paired};
-ghost use Rattle.afs_model.specs.Heads.{IsSoundHead};
-ghost use Rattle.afs_model.specs.Messages.{received_by, HasSpelling, IsSoundReceived};
-ghost use Rattle.afs_records.specs.Durable.{Durable};
-ghost use Rattle.afs_fold.specs.Effects.{effect_of};
-ghost use Rattle.afs_fold.specs.Fold.{folded};
-ghost use Rattle.afs_records.specs.Records.{record_bytes, FitsRecord};
-ghost use Rattle.afs_rows.specs.Callbacks.{no_turn};
-ghost use Rattle.afs_rows.specs.ServerRow.{begun_after, device_calls, drops, Decision};
-ghost use Rattle.afs_volrows.specs.FileRow.{file_called, file_decides, file_row};
+ghost use Rattle.spec_model.specs.Calls.{call_seat, paired};
+ghost use Rattle.spec_model.specs.Heads.{IsSoundHead};
+ghost use Rattle.spec_model.specs.Messages.{received_by, HasSpelling, IsSoundReceived};
+ghost use Rattle.spec_records.specs.Durable.{Durable};
+ghost use Rattle.spec_fold.specs.Effects.{effect_of};
+ghost use Rattle.spec_fold.specs.Fold.{folded};
+ghost use Rattle.spec_records.specs.Records.{record_bytes, FitsRecord};
+ghost use Rattle.spec_rows.specs.Callbacks.{no_turn};
+ghost use Rattle.spec_rows.specs.ServerRow.{begun_after, device_calls, drops, Decision};
+ghost use Rattle.spec_volrows.specs.FileRow.{file_called, file_decides, file_row};
 ghost use Rattle.afs_volstore.specs.Stores.{LeftAround};
 ghost use Rattle.afs_memory.specs.Telling.{in_words};
 ghost use Rattle.afs_decisions.specs.Deciding.{leaves_disk, CanBeTold, Decides, FitsDecided, Runs, CanBeDone};
@@ -27,7 +27,7 @@ ghost use Rattle.afs_server.specs.Hearing.{answered_turn, noticed_turn};
 ghost use Rattle.afs_server.specs.Putting.{Took};
 ghost use Rattle.afs_server.specs.Seen.{CanDraw};
 ghost use Rattle.afs_server_parts.specs.declared.faults.NodeFault.TheVariants as faults;
-ghost use Rattle.afs_sharing.specs.Stores.{IsDone, LeavesPrepared};
+ghost use Rattle.afs_sharing.specs.Stores.{IsKeptBehind, LeavesPrepared};
 ghost use Rattle.afs_saving.specs.Saving.{IsQuiet, IsWritten, Ran};
 ghost use Rattle.afs_sharing.specs.Lasting.{lasting_of};
 
@@ -35,12 +35,12 @@ use crate::server::FileServer;
 use afs_decisions::decided::Decided;
 use afs_decisions::deciding::CALLS;
 use afs_disk::Disk;
-use afs_history::lines::Outs;
 use afs_message::messages::read_message;
 use afs_num::messages::{Carried, Message, Received};
 use afs_num::types::Head;
 use afs_server_parts::faults::NodeFault;
 use afs_volstore::VolStore;
+use spec_history::lines::Outs;
 
 /// Whether what is decided leaves the disk as it is.
 fn leaves_disk(decided: &Decided) -> bool
@@ -253,7 +253,7 @@ impl FileServer {
         ensures told { TellsOn D.Disk store.old.disk store.new.disk }
 
         ensures store { OnOk result (store.new ≡ record store.old { durable = store.new.durable; disk = store.new.disk; prepared = store.new.prepared; count = store.new.count; drawn = store.new.drawn }) }
-        ensures kept { OnOk result (IsDone (record_then self.old store.old now bytes.now) store.old store.new) }
+        ensures kept { OnOk result (IsKeptBehind (record_then self.old store.old now bytes.now) store.old store.new) }
 
         // It leaves no record prepared but what was there before: one that it writes is no more, and only want of memory may leave it.
         ensures prepared { LeavesPrepared (record_then self.old store.old now bytes.now) store.old store.new result }

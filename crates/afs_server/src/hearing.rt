@@ -1,16 +1,16 @@
 //! What a server does with replies and notices to its own calls.
-ghost use Rattle.afs_rows.specs.Callbacks.{renews, settles};
+ghost use Rattle.spec_rows.specs.Callbacks.{renews, settles};
 ghost use Rattle.afs_callees.specs.Called.{IsGoodCall, IsGoodOrNone};
 ghost use Rattle.afs_server.specs.Handling.{backs_then, Turns, ServesOver};
 ghost use Rattle.afs_server.specs.Hearing.{answered_turn, noticed_turn, renewed_turn, settled_turn};
 
 use crate::server::FileServer;
 use afs_disk::Disk;
-use afs_history::lines::Outs;
 use afs_num::types::{Head, Mem, Node};
 use afs_server_parts::calling::BreakCall;
 use afs_sharing::drawing::stand;
 use afs_volstore::VolStore;
+use spec_history::lines::Outs;
 
 impl FileServer {
     /// A node has answered this call: its breaks end.

@@ -3,8 +3,8 @@
 ghost use Rattle.std.specs.Prelude.{◌≡◌, ◌≤◌, ◌+◌, [], None, Some, length, IfOk, IsErrOf, IsSome, OnOk, OnErr};
 ghost use Rattle.afs_num.specs.Nodes.{IsNode};
 ghost use Rattle.afs_server_parts.specs.declared.faults.NodeFault.TheVariants as faults;
-ghost use Rattle.afs_rows.specs.ServerSteps.{back_timeout_row, wake_row};
-ghost use Rattle.afs_rows.specs.States as rows;
+ghost use Rattle.spec_rows.specs.ServerSteps.{back_timeout_row, wake_row};
+ghost use Rattle.spec_rows.specs.States as rows;
 ghost use Rattle.afs_callees.specs.Called.{call_to};
 ghost use Rattle.afs_server.specs.Handling.{server_seen, Handles, Makes, ServesOver};
 ghost use Rattle.afs_server.specs.Seen.{begun_step, waits_by, CanDraw, Serves};
@@ -13,13 +13,13 @@ use crate::server::FileServer;
 use afs_callbacks::Callbacks;
 use afs_callbacks::restoring::{owed_to_clients, rise};
 use afs_disk::Disk;
-use afs_history::lines::Outs;
 use afs_num::types::{Key, Mem, Node};
 use afs_server_parts::calling::BreakCall;
 use afs_server_parts::faults::NodeFault;
 use afs_sharing::drawing::stand;
 use afs_sharing::restoring::callers_kept;
 use afs_volstore::VolStore;
+use spec_history::lines::Outs;
 use std::alloc::Global;
 
 /// A promise lasts so many ticks.
@@ -38,7 +38,7 @@ impl FileServer {
     }
 
     /// Its unanswered call to this node has waited too long.
-    #[tactic(auto, unfolding(afs_rows::specs::ServerSteps::back_timeout_row))]
+    #[tactic(auto, unfolding(spec_rows::specs::ServerSteps::back_timeout_row))]
     pub fn timeout<D: Disk>(
         &mut self,
         store: &mut VolStore<D>,
@@ -61,7 +61,7 @@ impl FileServer {
     }
 
     /// Time has passed.
-    #[tactic(auto, unfolding(afs_rows::specs::ServerSteps::wake_row))]
+    #[tactic(auto, unfolding(spec_rows::specs::ServerSteps::wake_row))]
     pub fn wake<D: Disk>(&mut self, store: &mut VolStore<D>, now: u32) -> Result<Outs, NodeFault>
         requires serves { ServesOver self.old store.old }
         requires draws { CanDraw self.old store.old.drawn }

@@ -3,13 +3,13 @@
 ghost use Rattle.std.specs.Prelude.{◌≡◌, ◌<◌, ◌+◌, Some, false, true, pos, IfOk, IsErrOf, IsSome};
 ghost use Rattle.afs_disk.specs.Words.{SameDiskBy};
 ghost use Rattle.afs_journal.specs.Words.{SameCountsBy};
-ghost use Rattle.afs_ideal.specs.Tables.{get};
-ghost use Rattle.afs_model.specs.Heads.{IsSoundHead};
-ghost use Rattle.afs_records.specs.Durable.{has_room};
-ghost use Rattle.afs_fold.specs.Fold.{folded};
-ghost use Rattle.afs_records.specs.Records.{FitsRecord};
-ghost use Rattle.afs_rows.specs.ServerRow as rows;
-ghost use Rattle.afs_rows.specs.ServerRow.{is_client, roomed};
+ghost use Rattle.spec_ideal.specs.Tables.{get};
+ghost use Rattle.spec_model.specs.Heads.{IsSoundHead};
+ghost use Rattle.spec_records.specs.Durable.{has_room};
+ghost use Rattle.spec_fold.specs.Fold.{folded};
+ghost use Rattle.spec_records.specs.Records.{FitsRecord};
+ghost use Rattle.spec_rows.specs.ServerRow as rows;
+ghost use Rattle.spec_rows.specs.ServerRow.{is_client, roomed};
 ghost use Rattle.afs_memory.specs.Named.{IsNamed};
 ghost use Rattle.afs_decisions.specs.Deciding.{CanBeTold, IsMade};
 ghost use Rattle.afs_callbacks.specs.Saving.{CanBeWritten};
@@ -25,7 +25,6 @@ use crate::answering::keep_reply;
 use crate::server::FileServer;
 use afs_callbacks::saving::Planned;
 use afs_disk::Disk;
-use afs_history::lines::Outs;
 use afs_num::faults::StoreFault;
 use afs_num::records::StoreRecord;
 use afs_num::types::{Head, Mem};
@@ -34,6 +33,7 @@ use afs_sharing::committing::commit;
 use afs_sharing::drawing::stand;
 use afs_volstore::VolStore;
 use afs_volume::{ReadyChange, ReadyNames};
+use spec_history::lines::Outs;
 use std::alloc::AllocError;
 
 /// A promise lasts so many ticks.

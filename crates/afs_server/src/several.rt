@@ -1,10 +1,10 @@
 //! The statuses of several fids, each by the volume of its fid.
 
 ghost use Rattle.std.specs.Prelude.{◌≡◌, ◌≤◌, length, IfOk, Ok, Some};
-ghost use Rattle.afs_ideal.specs.Operations.{the_user};
-ghost use Rattle.afs_ideal.specs.Tables.{get};
-ghost use Rattle.afs_rows.specs.ServerRow.{several};
-ghost use Rattle.afs_volrows.specs.FileRow.{file_sight, file_sights};
+ghost use Rattle.spec_ideal.specs.Operations.{the_user};
+ghost use Rattle.spec_ideal.specs.Tables.{get};
+ghost use Rattle.spec_rows.specs.ServerRow.{several};
+ghost use Rattle.spec_volrows.specs.FileRow.{file_sight, file_sights};
 ghost use Rattle.afs_decisions.specs.Deciding.{IsDecision};
 ghost use Rattle.afs_server.specs.Handling.{holds_seen, server_seen};
 ghost use Rattle.afs_decisions.specs.Several.{Sees, SeesAll, TellsNext};

@@ -1,10 +1,10 @@
 //! What a server tells of its volumes, and what it promises with that.
 
 ghost use Rattle.std.specs.Prelude.{◌≡◌, ◌≤◌, ◌+◌, [], map, OnErr, OnOk};
-ghost use Rattle.afs_breaks.specs.Promises.{expired, grants_all};
-ghost use Rattle.afs_rows.specs.Callbacks.{gives_up_all, grants_found};
-ghost use Rattle.afs_rows.specs.ServerRow as row;
-ghost use Rattle.afs_rows.specs.ServerRow.{granted, read_reply_to, replied};
+ghost use Rattle.spec_breaks.specs.Promises.{expired, grants_all};
+ghost use Rattle.spec_rows.specs.Callbacks.{gives_up_all, grants_found};
+ghost use Rattle.spec_rows.specs.ServerRow as row;
+ghost use Rattle.spec_rows.specs.ServerRow.{granted, read_reply_to, replied};
 ghost use Rattle.afs_message.specs.Spelled.{IsSpelling};
 ghost use Rattle.afs_callees.specs.declared.telling.Grant as told;
 ghost use Rattle.afs_server.specs.Answering.{KeepsReply};
@@ -19,13 +19,13 @@ use afs_callbacks::Callbacks;
 use afs_callbacks::answering::Replied;
 use afs_callees::telling::Grant;
 use afs_disk::Disk;
-use afs_history::lines::Outs;
 use afs_num::calls::FsReply;
 use afs_num::sequences::Octets;
 use afs_num::types::{Head, Mem};
 use afs_server_parts::callers::Callers;
 use afs_sharing::drawing::stand;
 use afs_volstore::VolStore;
+use spec_history::lines::Outs;
 
 /// A promise lasts so many ticks.
 const PROMISE_TICKS: u32 = 7200;

@@ -1,15 +1,15 @@
 //! A server's own calls wait too long, and time passes.
-ghost use Rattle.afs_rows.specs.Callbacks.{no_turn, timed};
+ghost use Rattle.spec_rows.specs.Callbacks.{no_turn, call_timed_out};
 ghost use Rattle.afs_callees.specs.Called.{IsGoodCall};
 ghost use Rattle.afs_server.specs.Handling.{backs_then, Turns, ServesOver};
 
 use crate::server::FileServer;
 use afs_disk::Disk;
-use afs_history::lines::Outs;
 use afs_num::types::{Mem, Node};
 use afs_server_parts::calling::BreakCall;
 use afs_sharing::drawing::stand;
 use afs_volstore::VolStore;
+use spec_history::lines::Outs;
 
 impl FileServer {
     /// Nothing happens but that time has passed.
@@ -32,7 +32,7 @@ impl FileServer {
     ) -> Mem<Outs>
         requires serves { ServesOver self.old store.old }
         requires good { IsGoodCall callee call.now }
-        ensures { Turns (timed store.old.node store.old.durable.boot callee call.now (backs_then self.old store.old now)) self.old self.new store.old store.new result }
+        ensures { Turns (call_timed_out store.old.node store.old.durable.boot callee call.now (backs_then self.old store.old now)) self.old self.new store.old store.new result }
     {
         let ended = self
             .callbacks()

@@ -3,8 +3,8 @@ use Rattle.std.proofs.Common.{◌≡◌, Bool, true, false, List, [], ◌∷◌,
 use Rattle.std.specs.Prelude.{filter}
 use Rattle.std.proofs.lemmas.List.{append-nil}
 use Rattle.afs_num.specs.declared.messages.Message.{Message}
-use Rattle.afs_rows.specs.Callbacks.{replies_of}
-use Rattle.afs_rows.specs.States.{Held}
+use Rattle.spec_rows.specs.Callbacks.{replies_of}
+use Rattle.spec_rows.specs.States.{Held}
 
 pub sent_next : (ready : Held → Bool) (sent : List Message) (h : Held) (hs : List Held) → (sent ++ replies_of (filter ready (h ∷ []))) ++ replies_of (filter ready hs) ≡ sent ++ replies_of (filter ready (h ∷ hs))
 sent_next ready sent h hs = by (ready h)

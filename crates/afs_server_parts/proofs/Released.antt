@@ -2,7 +2,7 @@
 use Rattle.std.proofs.Common.{◌≡◌, Bool, true, false, cond, List, [], ◌∷◌, not, ◌||◌, refl, ap}
 use Rattle.std.specs.Prelude.{filter}
 use Rattle.std.specs.List.{list_any}
-use Rattle.afs_rows.specs.States.{Held}
+use Rattle.spec_rows.specs.States.{Held}
 
 none_by : (t : Bool) (ready : Held → Bool) (h : Held) (hs : List Held) → (t || list_any ready hs) ≡ false → (list_any ready hs ≡ false → filter ready hs ≡ []) → cond t (h ∷ filter ready hs) (filter ready hs) ≡ []
 none_by true ready h hs e rest = absurd cc

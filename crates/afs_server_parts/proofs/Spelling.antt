@@ -6,10 +6,10 @@ use Rattle.afs_num.specs.declared.types.Node.{Node}
 use Rattle.afs_num.specs.declared.types.Half.TheVariants.{Call}
 use Rattle.afs_num.specs.declared.messages.Call.TheVariants as ask
 use Rattle.afs_num.specs.declared.messages.Carried.TheVariants as carried
-use Rattle.afs_model.specs.Messages.{HasSpelling, IsSoundCarried}
-use Rattle.afs_breaks.specs.declared.types.OwedBreak.{OwedBreak}
-use Rattle.afs_rows.specs.Callbacks.{break_message, breaks_call, breaks_opcode, broken_until, call_for, fid_before, fids_of, opcode_for}
-use Rattle.afs_rows.specs.States.{BackCall}
+use Rattle.spec_model.specs.Messages.{HasSpelling, IsSoundCarried}
+use Rattle.spec_breaks.specs.declared.types.OwedBreak.{OwedBreak}
+use Rattle.spec_rows.specs.Callbacks.{break_message, breaks_call, breaks_opcode, broken_until, break_call, fid_before, fids_of, opcode_for}
+use Rattle.spec_rows.specs.States.{BackCall}
 
 before_few : (o : Option Fid) (fs : List Fid) (n : ℕ) → length fs ≤ n → length (fid_before o fs) ≤ suc n
 before_few None fs n le = omega (arith, le)
@@ -23,7 +23,7 @@ callbacks_few : (os : List OwedBreak) → length (map broken_until os) ≤ lengt
 callbacks_few [] = omega arith
 callbacks_few (o ∷ os) = let le = callbacks_few os in omega (arith, le)
 
-carried_by : (what : Option Fid) (os : List OwedBreak) → length os ≤ 50 → IsSoundCarried Call (opcode_for what) (carried.Call [] (ask.File (call_for what os)))
+carried_by : (what : Option Fid) (os : List OwedBreak) → length os ≤ 50 → IsSoundCarried Call (opcode_for what) (carried.Call [] (ask.File (break_call what os)))
 carried_by None os few = (refl, refl, omega arith, tt)
 carried_by (Some f) os few =
     let fids = fids_few os in

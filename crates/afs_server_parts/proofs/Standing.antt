@@ -8,11 +8,11 @@ use Rattle.afs_num.specs.declared.types.Half.{Half}
 use Rattle.afs_num.specs.declared.types.Half.TheVariants as halves
 use Rattle.afs_num.specs.declared.types.Head.{Head}
 use Rattle.afs_xdr.specs.declared.faults.XdrFault.{XdrFault}
-use Rattle.afs_shape.specs.Tables.{is_among}
-use Rattle.afs_model.specs.CellRows.{all_calls, cell_calls}
-use Rattle.afs_model.specs.Heads.{head_at}
-use Rattle.afs_model.specs.Messages.{called_at, read_behind_head, read_body, received, received_by, received_call}
-use Rattle.afs_model.specs.Rpc.{asked_at}
+use Rattle.spec_shape.specs.Tables.{is_among}
+use Rattle.spec_model.specs.CellRows.{all_calls, cell_calls}
+use Rattle.spec_model.specs.Heads.{head_at}
+use Rattle.spec_model.specs.Messages.{called_at, read_behind_head, read_body, received, received_by, received_call}
+use Rattle.spec_model.specs.Rpc.{asked_at}
 
 -- ---- calls that are all calls of the cell
 

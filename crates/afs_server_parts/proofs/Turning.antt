@@ -5,13 +5,13 @@ use Rattle.std.proofs.lemmas.List.{map-append}
 use Rattle.std.proofs.lemmas.List.Elements.{filter-append}
 use Rattle.afs_num.specs.declared.types.Node.{Node}
 use Rattle.afs_num.specs.declared.messages.Message.{Message}
-use Rattle.afs_model.specs.Calls.{is_sent_again}
-use Rattle.afs_history.specs.declared.lines.Line.{Line}
-use Rattle.afs_breaks.specs.Promises.{Lists, ends}
-use Rattle.afs_breaks.specs.declared.types.OwedBreak.{OwedBreak}
-use Rattle.afs_rows.specs.Callbacks as row
-use Rattle.afs_rows.specs.Callbacks.{ends_all, given_out, held_after, is_ready, replies_of, starts_by, no_turn, Started}
-use Rattle.afs_rows.specs.States.{BackCall, Backs, Held}
+use Rattle.spec_model.specs.Calls.{is_sent_again}
+use Rattle.spec_history.specs.declared.lines.Line.{Line}
+use Rattle.spec_breaks.specs.Promises.{Lists, break_ended}
+use Rattle.spec_breaks.specs.declared.types.OwedBreak.{OwedBreak}
+use Rattle.spec_rows.specs.Callbacks as row
+use Rattle.spec_rows.specs.Callbacks.{ends_all, given_out, held_after, is_ready, replies_of, starts_by, no_turn, Started}
+use Rattle.spec_rows.specs.States.{BackCall, Backs, Held}
 use Rattle.afs_callees.specs.Called.{call_to, known_to}
 use Rattle.afs_server_parts.specs.declared.turns.Calls.{Calls}
 use Rattle.afs_server_parts.specs.declared.turns.Turn.{Turn}
@@ -19,7 +19,7 @@ use Rattle.afs_server_parts.specs.Turning.{backs_with, breaks_left, started_with
 
 pub ends_owed : (bs : List OwedBreak) (l : Lists) → (ends_all bs l).owed ≡ breaks_left bs l.owed
 ends_owed [] l = refl
-ends_owed (b ∷ bs) l = ends_owed bs (ends b.number l)
+ends_owed (b ∷ bs) l = ends_owed bs (break_ended b.number l)
 
 -- part by part
 pub turn_is : (l : Lists) (t : Turn) (k : ℕ) (cs : Node → Option BackCall) (kn : Node → ℕ) (hs : List Held) (ls : List Line) (ms : List Message) (os : List Held) →
@@ -37,12 +37,12 @@ started_is l hs c k cs kn ms a b d e = λ i. record { backs = record { lists = l
 
 -- a plan in which nothing happens, as its parts
 pub fresh_of : (b : Backs) (t : Turn) → IsTurn (no_turn b) t → IsFresh t
-fresh_of b t is = record { lines = ap (λ (x : row.Turn). x.lines) is.same; sent = ap (λ (x : row.Turn). x.sent) is.same; outs = ap (λ (x : row.Turn). x.outs) is.same }
+fresh_of b t is = record { lines = ap (λ (x : row.CallbackStep). x.lines) is.same; sent = ap (λ (x : row.CallbackStep). x.sent) is.same; outs = ap (λ (x : row.CallbackStep). x.outs) is.same }
 
 pub backs_of : (b : Backs) (t : Turn) → IsTurn (no_turn b) t → backs_with b.lists t.held t.calls ≡ b
-backs_of b t is = ap (λ (x : row.Turn). x.backs) is.same
+backs_of b t is = ap (λ (x : row.CallbackStep). x.backs) is.same
 
-pub turned : (f : Backs → row.Turn) (b : Backs) (t u : Turn) → IsTurn (no_turn b) t → ((l : Lists) → l.owed ≡ t.owed.items → IsTurn (f (backs_with l t.held t.calls)) u) → IsTurn (f b) u
+pub turned : (f : Backs → row.CallbackStep) (b : Backs) (t u : Turn) → IsTurn (no_turn b) t → ((l : Lists) → l.owed ≡ t.owed.items → IsTurn (f (backs_with l t.held t.calls)) u) → IsTurn (f b) u
 turned f b t u is h = subst (λ (x : Backs). IsTurn (f x) u) (backs_of b t is) (h b.lists is.owed)
 
 -- ---- the replies that wait no more
@@ -88,12 +88,12 @@ asks_at b m None true w e = ap (row.asked_again b m) (numbers_of (row.alls b.lis
 asks_at b m None false w e = ap (row.asked_again b m) (numbers_of [] w e)
 
 pub asks_again : (t : Turn) (b : Backs) (os : List OwedBreak) (m : Message) (o : Option Held) (good : Bool) (w : List ℕ) → b.lists.owed ≡ os → waits_again os o good ≡ Some w → IsTurn (row.asked_again b m w) t → IsTurn (row.repeats_by b m o good) t
-asks_again t b os m o good w q e is = subst (λ (x : row.Turn). IsTurn x t) (sym (asks_at b m o good w (ap (λ (xs : List OwedBreak). waits_again xs o good) q ∙ e))) is
+asks_again t b os m o good w q e is = subst (λ (x : row.CallbackStep). IsTurn x t) (sym (asks_at b m o good w (ap (λ (xs : List OwedBreak). waits_again xs o good) q ∙ e))) is
 
 -- ---- a timeout that isn't the last, and the last
 
-pub timed_first : (me : Node) (boot : ℕ) (n : Node) (c : BackCall) (b : Backs) (t : Turn) → is_sent_again c.tries ≡ true → IsTurn (row.retries me boot n c b) t → IsTurn (row.timed me boot n c b) t
+pub timed_first : (me : Node) (boot : ℕ) (n : Node) (c : BackCall) (b : Backs) (t : Turn) → is_sent_again c.tries ≡ true → IsTurn (row.retries me boot n c b) t → IsTurn (row.call_timed_out me boot n c b) t
 timed_first me boot n c b t first is = subst (λ (x : Bool). IsTurn (cond x (row.retries me boot n c b) (row.quits me boot n c b)) t) (sym first) is
 
-pub timed_last : (me : Node) (boot : ℕ) (n : Node) (c : BackCall) (b : Backs) (t : Turn) → is_sent_again c.tries ≡ false → IsTurn (row.quits me boot n c b) t → IsTurn (row.timed me boot n c b) t
+pub timed_last : (me : Node) (boot : ℕ) (n : Node) (c : BackCall) (b : Backs) (t : Turn) → is_sent_again c.tries ≡ false → IsTurn (row.quits me boot n c b) t → IsTurn (row.call_timed_out me boot n c b) t
 timed_last me boot n c b t last is = subst (λ (x : Bool). IsTurn (cond x (row.retries me boot n c b) (row.quits me boot n c b)) t) (sym last) is

@@ -2,7 +2,7 @@
 use Rattle.afs_num.specs.declared.messages.Received.{Received}
 use Rattle.afs_num.specs.declared.messages.Received.TheVariants.{Whole}
 use Rattle.afs_num.specs.declared.types.Head.{Head}
-use Rattle.afs_model.specs.Messages.{IsSoundCarried}
+use Rattle.spec_model.specs.Messages.{IsSoundCarried}
 
 -- the header is that of what was received, and so of a call that has a spelling, where it was read whole
 abbrev pub IsUnder : Head → Received → Type 0

@@ -4,8 +4,8 @@ ghost use Rattle.std.specs.Prelude.{◌≡◌, IfNone, IfOk};
 ghost use Rattle.std.specs.List.{All};
 ghost use Rattle.std.specs.Option.{option_copied};
 ghost use Rattle.afs_num.specs.declared.types.Node.{Node};
-ghost use Rattle.afs_breaks.specs.Promises.{Lists};
-ghost use Rattle.afs_rows.specs.Callbacks.{alls, held_under, is_reply_to, key_answered, repeats_by};
+ghost use Rattle.spec_breaks.specs.Promises.{Lists};
+ghost use Rattle.spec_rows.specs.Callbacks.{alls, held_under, is_reply_to, key_answered, repeats_by};
 ghost use Rattle.afs_server_parts.specs.Turning.{waits_again, backs_with, IsFresh, IsReady, IsTurn, Goes, answer_turn, sent_turn, sent_turns};
 
 use crate::held::{HeldReply, copy_numbers};

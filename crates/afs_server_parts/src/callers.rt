@@ -2,8 +2,8 @@
 
 ghost use Rattle.std.specs.Prelude.{◌≡◌, Some, true, IfOk, OnOk, OnErr};
 ghost use Rattle.afs_num.specs.Keyed.{HasRoom};
-ghost use Rattle.afs_model.specs.Calls.{call_seat, call_seated, paired, runs};
-ghost use Rattle.afs_model.specs.Messages.{received};
+ghost use Rattle.spec_model.specs.Calls.{call_seat, call_seated, paired, runs};
+ghost use Rattle.spec_model.specs.Messages.{received};
 ghost use Rattle.afs_message.specs.Spelled.{is_whole, reply_in, IsSpelling};
 
 use afs_call::CallTable;

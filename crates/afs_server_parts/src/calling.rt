@@ -2,10 +2,9 @@
 
 ghost use Rattle.std.specs.Prelude.{◌≡◌, ◌≤◌, ◌++◌, ◌∷◌, [], filter, length, map, IfOk, OnOk};
 ghost use Rattle.afs_num.specs.Nodes.{IsNode};
-ghost use Rattle.afs_rows.specs.Callbacks.{break_message, breaks_call, breaks_opcode, broken_until, call_for, carries_for, fids_of, first_of, is_for, most_breaks, opcode_for};
+ghost use Rattle.spec_rows.specs.Callbacks.{break_message, breaks_call, breaks_opcode, broken_until, break_call, carries_for, fids_of, first_breaks, is_break_for, most_breaks, opcode_for};
 
 use crate::turns::Stand;
-use afs_breaks::types::OwedBreak;
 use afs_callees::callees::{BackCall, Callee};
 use afs_callees::few::Few;
 use afs_message::spelled::{Sent, SpelledMessage};
@@ -13,6 +12,7 @@ use afs_num::calls::{AfsCallBack, CallBacks, Fids, FsCall};
 use afs_num::messages::{Call, Carried, Message};
 use afs_num::sequences::{Octets, Sequence};
 use afs_num::types::{Fid, Half, Head, Mem, Node};
+use spec_breaks::types::OwedBreak;
 use std::alloc::Global;
 
 /// A call that brings breaks.
@@ -23,14 +23,14 @@ pub type BreakCallee = Callee<Few<OwedBreak>>;
 
 /// Whether it is a break on a fid for this node.
 fn is_for(owed: &OwedBreak, node: Node) -> bool
-    ensures { result ≡ is_for node owed.now }
+    ensures { result ≡ is_break_for node owed.now }
 {
     owed.client.is(&node) && owed.what.is_some()
 }
 
 /// The breaks on fids for this node.
 fn all_for(alloc: Global, node: Node, owed: &[OwedBreak]) -> Mem<Vec<OwedBreak>>
-    ensures { IfOk result (λ os. os.items ≡ filter (is_for node) owed.now) }
+    ensures { IfOk result (λ os. os.items ≡ filter (is_break_for node) owed.now) }
 {
     let mut breaks = Vec::new(alloc);
     for one in owed {
@@ -45,7 +45,7 @@ fn all_for(alloc: Global, node: Node, owed: &[OwedBreak]) -> Mem<Vec<OwedBreak>>
 #[tactic(auto, using(crate::proofs::First::first_taken))]
 fn first_for(alloc: Global, node: Node, owed: &[OwedBreak]) -> Mem<Sequence<OwedBreak>>
     ensures few { IfOk result (λ os. length os ≤ 50) }
-    ensures value { IfOk result (λ os. os ≡ first_of most_breaks (filter (is_for node) owed.now)) }
+    ensures value { IfOk result (λ os. os ≡ first_breaks most_breaks (filter (is_break_for node) owed.now)) }
 {
     let mut breaks = all_for(alloc, node, owed)?;
     breaks.truncate(50);
@@ -102,7 +102,7 @@ fn callbacks(alloc: Global, breaks: &[OwedBreak]) -> Mem<CallBacks>
 
 /// The call that carries these breaks, of which the first is on this fid, or on all.
 fn call_for(alloc: Global, what: Option<Fid>, breaks: &[OwedBreak]) -> Mem<FsCall>
-    ensures { IfOk result (λ c. c ≡ call_for what breaks.now) }
+    ensures { IfOk result (λ c. c ≡ break_call what breaks.now) }
 {
     match what {
         None => Ok(FsCall::InitCallBackState),

@@ -1,16 +1,16 @@
 //! The end of a step: what it gives out, and what is left in memory.
 
 ghost use Rattle.std.specs.Prelude.{IfOk};
-ghost use Rattle.afs_rows.specs.Callbacks as row;
+ghost use Rattle.spec_rows.specs.Callbacks as row;
 ghost use Rattle.afs_server_parts.specs.Ending.{IsPlanOf};
 ghost use Rattle.afs_server_parts.specs.Turning.{IsReady, IsTurn};
 
 use crate::calling::BreakCallee;
 use crate::held::HeldReply;
 use crate::turns::{Calls, Turn};
-use afs_history::lines::Outs;
 use afs_num::sequences::Sequence;
 use afs_num::types::Mem;
+use spec_history::lines::Outs;
 use std::alloc::Global;
 
 /// What a step gives out; the number of the node's last call, its callees, and the replies that wait.
@@ -26,7 +26,7 @@ impl Turn {
     /// Replies whose breaks have ended go out, and then calls for what is owed.
     pub fn end(self, alloc: Global) -> Mem<Ended>
         requires { IsReady self }
-        ensures { IfOk result (λ e. (t : row.Turn) → IsTurn t self → IsPlanOf self.stand t e) }
+        ensures { IfOk result (λ e. (t : row.CallbackStep) → IsTurn t self → IsPlanOf self.stand t e) }
     {
         let mut turn = self;
         turn.pump(alloc)?;

@@ -2,14 +2,14 @@
 
 ghost use Rattle.std.specs.Prelude.{◌≡◌, ◌++◌, [], ◌∷◌, filter, not, IfOk, OnOk};
 ghost use Rattle.std.specs.List.{list_any};
-ghost use Rattle.afs_rows.specs.Callbacks.{is_ready, replies_of, waits_none};
-ghost use Rattle.afs_rows.specs.States.{Held};
+ghost use Rattle.spec_rows.specs.Callbacks.{is_ready, replies_of, waits_none};
+ghost use Rattle.spec_rows.specs.States.{Held};
 
 use crate::owed::has_break;
-use afs_breaks::types::OwedBreak;
 use afs_message::spelled::{Sent, SpelledMessage};
 use afs_num::sequences::Sequence;
 use afs_num::types::Mem;
+use spec_breaks::types::OwedBreak;
 use std::alloc::Global;
 use std::marker::Model;
 
@@ -22,7 +22,7 @@ pub struct HeldReply {
 }
 
 impl Model for HeldReply {
-    ghost use Rattle.afs_rows.specs.States.{Held};
+    ghost use Rattle.spec_rows.specs.States.{Held};
 
     ghost Value = { Held };
 

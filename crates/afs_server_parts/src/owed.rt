@@ -2,13 +2,13 @@
 
 ghost use Rattle.std.specs.Prelude.{◌≡◌, filter, IfOk};
 ghost use Rattle.std.specs.List.{All};
-ghost use Rattle.afs_breaks.specs.Promises.{has_break, without_break};
-ghost use Rattle.afs_rows.specs.Callbacks.{alls};
+ghost use Rattle.spec_breaks.specs.Promises.{has_break, without_break};
+ghost use Rattle.spec_rows.specs.Callbacks.{alls};
 ghost use Rattle.afs_server_parts.specs.Turning.{breaks_left, IsBreakToNode};
 
-use afs_breaks::types::OwedBreak;
 use afs_num::sequences::Sequence;
 use afs_num::types::Mem;
+use spec_breaks::types::OwedBreak;
 use std::alloc::Global;
 
 /// Whether a break of this number is owed.

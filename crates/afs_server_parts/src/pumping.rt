@@ -4,19 +4,19 @@ ghost use Rattle.std.specs.Prelude.{◌≡◌, ◌≤◌, ◌+◌, ◌++◌, Lis
 ghost use Rattle.std.specs.List.{All};
 ghost use Rattle.afs_num.specs.Nodes.{IsNode};
 ghost use Rattle.afs_num.specs.declared.types.Node.{Node};
-ghost use Rattle.afs_breaks.specs.Promises.{Lists};
-ghost use Rattle.afs_rows.specs.Callbacks.{given_out, held_after, is_ready, pumped, replies_of, starts, starts_by};
-ghost use Rattle.afs_rows.specs.States.{Held};
+ghost use Rattle.spec_breaks.specs.Promises.{Lists};
+ghost use Rattle.spec_rows.specs.Callbacks.{given_out, held_after, is_ready, pumped, replies_of, starts, starts_by};
+ghost use Rattle.spec_rows.specs.States.{Held};
 ghost use Rattle.afs_callees.specs.Called.{call_to, AreGoodCalls};
 ghost use Rattle.afs_server_parts.specs.Turning.{started_with, turn_with, IsBreakToNode, IsReady};
 
 use crate::calling::{carried, send_call};
 use crate::held::{any_ready, hold_all, part_ready};
 use crate::turns::{Calls, Stand, Turn};
-use afs_breaks::types::OwedBreak;
 use afs_callees::callees::{BackCall, is_waiting, known, set_call};
 use afs_num::sequences::Sequence;
 use afs_num::types::Mem;
+use spec_breaks::types::OwedBreak;
 use std::alloc::{AllocError, Global};
 use std::mem::replace;
 

@@ -3,21 +3,21 @@
 ghost use Rattle.std.specs.Prelude.{◌≡◌, ◌+◌, Some, IfOk};
 ghost use Rattle.afs_num.specs.Nodes.{IsNode};
 ghost use Rattle.afs_num.specs.declared.types.Node.{Node};
-ghost use Rattle.afs_rows.specs.Callbacks.{quits, renews, retries, settles, timed};
+ghost use Rattle.spec_rows.specs.Callbacks.{quits, renews, retries, settles, call_timed_out};
 ghost use Rattle.afs_callees.specs.Called.{IsGoodCall};
 ghost use Rattle.afs_server_parts.specs.Turning.{IsFresh, Goes};
 
 use crate::calling::{BreakCall, BreakCallee, send_call};
 use crate::held::{HeldReply, copy_replies};
 use crate::owed::{end_breaks, still_owed};
-use afs_breaks::types::OwedBreak;
 use afs_call::{LAST_TIMEOUT, Timeout, timed_out};
 use afs_callees::callees::{copy_callees, end_call, known, set_call, set_known};
 use afs_callees::telling::{tell_quit, tell_settled, tell_timeout};
-use afs_history::lines::Lines;
 use afs_message::spelled::Sent;
 use afs_num::sequences::Sequence;
 use afs_num::types::{Mem, Node};
+use spec_breaks::types::OwedBreak;
+use spec_history::lines::Lines;
 use std::alloc::Global;
 
 /// Who makes a step: the node, its boot number, and the number of its last call.
@@ -152,7 +152,7 @@ impl Turn {
         requires fresh { IsFresh self.old }
         requires stands { IsNode self.old.stand.node }
         requires good { IsGoodCall node call.now }
-        ensures { Goes (λ s. timed s.node s.boot node call.now) self.old self.new result }
+        ensures { Goes (λ s. call_timed_out s.node s.boot node call.now) self.old self.new result }
     {
         match timed_out(call.tries) {
             Timeout::Again(tries) => self.retry(alloc, node, call, tries)?,

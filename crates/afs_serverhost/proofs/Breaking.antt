@@ -5,19 +5,19 @@ use Rattle.afs_num.specs.declared.messages.Message.{Message}
 use Rattle.afs_num.specs.declared.messages.Received.{Received}
 use Rattle.afs_num.specs.declared.messages.Received.TheVariants.{Whole}
 use Rattle.afs_num.specs.declared.types.Node.{Node}
-use Rattle.afs_history.specs.declared.lines.Line.{Line}
-use Rattle.afs_history.specs.declared.lines.Line.TheVariants as lines
+use Rattle.spec_history.specs.declared.lines.Line.{Line}
+use Rattle.spec_history.specs.declared.lines.Line.TheVariants as lines
 use Rattle.afs_disk.specs.Disk.{Rose}
 use Rattle.afs_disk.specs.Fuses.{Fused}
 use Rattle.afs_disk.specs.declared.disk.Disk.{Ghosts}
-use Rattle.afs_records.specs.Durable.{Durable}
-use Rattle.afs_rows.specs.ServerRow.{device_calls, drops, refuses, repeats, saves, shows, tells_boot, Decision}
-use Rattle.afs_rows.specs.States.{durable_of, ServerState}
-use Rattle.afs_rows.specs.Steps.{Begun}
-use Rattle.afs_volrows.specs.NodeHosts.{node_begun, node_kind, NodeHost}
-use Rattle.afs_volrows.specs.VolStates.{NodeState}
-use Rattle.afs_volrows.specs.VolSteps.{from_of, is_of_client, node_begun_after, node_device_calls, node_file_decides, vol_decides, vol_device_calls, VolDecision}
-use Rattle.afs_volrows.specs.VolSteps as volumes
+use Rattle.spec_records.specs.Durable.{Durable}
+use Rattle.spec_rows.specs.ServerRow.{device_calls, drops, refuses, repeats, saves, shows, tells_boot, Decision}
+use Rattle.spec_rows.specs.States.{durable_of, ServerState}
+use Rattle.spec_rows.specs.Steps.{Begun}
+use Rattle.spec_volrows.specs.NodeHosts.{node_begun, node_kind, NodeHost}
+use Rattle.spec_volrows.specs.VolStates.{NodeState}
+use Rattle.spec_volrows.specs.VolSteps.{from_of, is_of_client, node_begun_after, node_device_calls, node_file_decides, vol_decides, vol_device_calls, VolDecision}
+use Rattle.spec_volrows.specs.VolSteps as volumes
 use Rattle.afs_volstore.specs.Stores.{Store}
 use Rattle.afs_server.specs.Handling.{record_decided}
 use Rattle.afs_volserv.specs.Handling.{vol_record}

@@ -6,14 +6,14 @@ use Rattle.afs_num.specs.declared.messages.Message.{Message}
 use Rattle.afs_num.specs.declared.messages.Received.TheVariants.{Whole}
 use Rattle.afs_num.specs.declared.records.StoreRecord.{StoreRecord}
 use Rattle.afs_num.specs.declared.types.Parcel.{Parcel}
-use Rattle.afs_history.specs.declared.lines.Line.TheVariants as lines
-use Rattle.afs_history.specs.declared.lines.Outs.{Outs}
+use Rattle.spec_history.specs.declared.lines.Line.TheVariants as lines
+use Rattle.spec_history.specs.declared.lines.Outs.{Outs}
 use Rattle.afs_disk.specs.Disk.{PassesAll}
 use Rattle.afs_disk.specs.Fuses.{Fused}
-use Rattle.afs_model.specs.Messages.{received}
-use Rattle.afs_rows.specs.Hosts.{lowered, steady, Armed, given, served}
-use Rattle.afs_volrows.specs.NodeHosts.{node_kind, NodeHost}
-use Rattle.afs_volrows.specs.VolSteps.{node_device_calls, node_row}
+use Rattle.spec_model.specs.Messages.{received}
+use Rattle.spec_rows.specs.Hosts.{lowered, steady, Armed, given, served}
+use Rattle.spec_volrows.specs.NodeHosts.{node_kind, NodeHost}
+use Rattle.spec_volrows.specs.VolSteps.{node_device_calls, node_row}
 use Rattle.afs_volstore.specs.Stores.{Store}
 use Rattle.afs_server_parts.specs.declared.faults.NodeFault.TheVariants as nodes
 use Rattle.afs_node.specs.Handling.{node_record, AreSameSteps, DrawsFew, LeavesNode, MakesNode}

@@ -4,33 +4,33 @@ use Rattle.std.proofs.Common.{refl, ap, sym, ◌∙◌, arith}
 use Rattle.std.proofs.lemmas.Bool.{ltb-true}
 use Rattle.afs_num.specs.declared.messages.Received.TheVariants.{Whole}
 use Rattle.afs_num.specs.declared.types.Node.{Node}
-use Rattle.afs_history.specs.declared.lines.Line.{Line}
-use Rattle.afs_history.specs.declared.lines.Line.TheVariants as lines
-use Rattle.afs_history.specs.declared.lines.Outs.{Outs}
+use Rattle.spec_history.specs.declared.lines.Line.{Line}
+use Rattle.spec_history.specs.declared.lines.Line.TheVariants as lines
+use Rattle.spec_history.specs.declared.lines.Outs.{Outs}
 use Rattle.afs_disk.specs.Fuses.{Fused}
 use Rattle.afs_disk.specs.declared.disk.Disk.{Ghosts}
-use Rattle.afs_ideal.specs.Operations.{last_count}
-use Rattle.afs_ideal.specs.Tables.{Table}
-use Rattle.afs_model.specs.Messages.{messages_spelled}
-use Rattle.afs_records.specs.Changes.{boot_record, can_boot}
-use Rattle.afs_records.specs.Durable.{has_room, is_flagged, Durable, Stored}
-use Rattle.afs_fold.specs.Laws.{started}
-use Rattle.afs_records.specs.Records.{FitsRecord}
-use Rattle.afs_records.proofs.Forms.{some_is}
-use Rattle.afs_rows.specs.Callbacks.{pumped, risen_turn}
-use Rattle.afs_rows.specs.Hosts.{at_rest, begun_from, goes, in_boot, in_step, unarmed, Fall}
-use Rattle.afs_rows.specs.ServerHosts.{can_start}
-use Rattle.afs_rows.specs.ServerRow.{begun_after, drops, lasting_started, refuses, repeats, saves, shows, tells_boot, Decision}
-use Rattle.afs_rows.specs.States.{durable_of, Lasting, ServerState}
-use Rattle.afs_rows.specs.Steps.{Begun}
-use Rattle.afs_fold.specs.Effects.{effect_of, vanished_lines}
-use Rattle.afs_fold.specs.Fold.{folded}
+use Rattle.spec_ideal.specs.Operations.{last_count}
+use Rattle.spec_ideal.specs.Tables.{Table}
+use Rattle.spec_model.specs.Messages.{messages_spelled}
+use Rattle.spec_records.specs.Changes.{boot_record, can_boot}
+use Rattle.spec_records.specs.Durable.{has_room, is_flagged, Durable, Stored}
+use Rattle.spec_fold.specs.Laws.{started}
+use Rattle.spec_records.specs.Records.{FitsRecord}
+use Rattle.spec_records.proofs.Forms.{some_is}
+use Rattle.spec_rows.specs.Callbacks.{pumped, risen_turn}
+use Rattle.spec_rows.specs.Hosts.{at_rest, begun_from, goes, in_boot, in_step, unarmed, Fall}
+use Rattle.spec_rows.specs.ServerHosts.{can_start}
+use Rattle.spec_rows.specs.ServerRow.{begun_after, drops, lasting_started, refuses, repeats, saves, shows, tells_boot, Decision}
+use Rattle.spec_rows.specs.States.{durable_of, Lasting, ServerState}
+use Rattle.spec_rows.specs.Steps.{Begun}
+use Rattle.spec_fold.specs.Effects.{effect_of, vanished_lines}
+use Rattle.spec_fold.specs.Fold.{folded}
 use Rattle.afs_memory.specs.Telling.{in_words}
-use Rattle.afs_volrows.specs.FileRow.{file_start}
-use Rattle.afs_volrows.specs.NodeHosts.{node_kind}
-use Rattle.afs_volrows.specs.VolStates.{fresh_vol, NodeState}
-use Rattle.afs_volrows.specs.VolSteps.{from_of, is_of_client, node_file_decides, node_start_row, vol_begun_after, vol_decides, VolDecision}
-use Rattle.afs_volrows.specs.VolSteps as volumes
+use Rattle.spec_volrows.specs.FileRow.{file_start}
+use Rattle.spec_volrows.specs.NodeHosts.{node_kind}
+use Rattle.spec_volrows.specs.VolStates.{fresh_vol, NodeState}
+use Rattle.spec_volrows.specs.VolSteps.{from_of, is_of_client, node_file_decides, node_start_row, vol_begun_after, vol_decides, VolDecision}
+use Rattle.spec_volrows.specs.VolSteps as volumes
 use Rattle.afs_volstore.specs.Stores.{recorded, Store}
 use Rattle.afs_volstore.specs.VolumeLaws.{volume_sound}
 use Rattle.afs_node.specs.Handling.{node_begun_step}

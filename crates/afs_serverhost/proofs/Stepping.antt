@@ -7,21 +7,21 @@ use Rattle.afs_num.specs.declared.messages.Received.TheVariants.{Whole}
 use Rattle.afs_num.specs.declared.types.Head.{Head}
 use Rattle.afs_num.specs.declared.types.Node.{Node}
 use Rattle.afs_num.specs.declared.types.Parcel.{Parcel}
-use Rattle.afs_history.specs.declared.lines.Line.{Line}
-use Rattle.afs_history.specs.declared.lines.Line.TheVariants as lines
-use Rattle.afs_history.specs.declared.lines.Outs.{Outs}
+use Rattle.spec_history.specs.declared.lines.Line.{Line}
+use Rattle.spec_history.specs.declared.lines.Line.TheVariants as lines
+use Rattle.spec_history.specs.declared.lines.Outs.{Outs}
 use Rattle.afs_disk.specs.Fuses.{Fused}
-use Rattle.afs_model.specs.Messages.{parcels_read, received}
-use Rattle.afs_records.specs.Durable.{Durable}
-use Rattle.afs_rows.specs.Hosts.{lowered, steady, struck, Armed, Blow, goes, served, served_by}
-use Rattle.afs_rows.specs.ServerRow.{device_calls, drops, refuses, repeats, saves, shows, tells_boot, Decision}
-use Rattle.afs_rows.specs.States.{durable_of, BackCall, ServerState}
-use Rattle.afs_rows.specs.Steps.{Step}
-use Rattle.afs_records.proofs.Forms.{some_is}
-use Rattle.afs_volrows.specs.NodeHosts.{node_kind, node_timed_out, node_woken, piece_timed_out, NodeHost}
-use Rattle.afs_volrows.specs.VolStates.{NodeState, PieceCall}
-use Rattle.afs_volrows.specs.VolSteps.{from_of, is_of_client, node_back_timeout_row, node_device_calls, node_file_decides, node_row, node_wake_row, piece_timeout_row, vol_decides, vol_device_calls, VolDecision}
-use Rattle.afs_volrows.specs.VolSteps as volumes
+use Rattle.spec_model.specs.Messages.{parcels_read, received}
+use Rattle.spec_records.specs.Durable.{Durable}
+use Rattle.spec_rows.specs.Hosts.{lowered, steady, struck, Armed, Blow, goes, served, served_by}
+use Rattle.spec_rows.specs.ServerRow.{device_calls, drops, refuses, repeats, saves, shows, tells_boot, Decision}
+use Rattle.spec_rows.specs.States.{durable_of, BackCall, ServerState}
+use Rattle.spec_rows.specs.Steps.{Step}
+use Rattle.spec_records.proofs.Forms.{some_is}
+use Rattle.spec_volrows.specs.NodeHosts.{node_kind, node_timed_out, node_woken, piece_timed_out, NodeHost}
+use Rattle.spec_volrows.specs.VolStates.{NodeState, PieceCall}
+use Rattle.spec_volrows.specs.VolSteps.{from_of, is_of_client, node_back_timeout_row, node_device_calls, node_file_decides, node_row, node_wake_row, piece_timeout_row, vol_decides, vol_device_calls, VolDecision}
+use Rattle.spec_volrows.specs.VolSteps as volumes
 use Rattle.afs_volstore.specs.Stores.{Store}
 use Rattle.afs_sendings.specs.Pieces.{call_or_none, call_seen, Piece}
 use Rattle.afs_callees.specs.Called.{call_to}
@@ -31,14 +31,14 @@ use Rattle.afs_node.specs.Handling.{node_record, IsSameStep, MakesNode}
 use Rattle.afs_node.specs.Seen.{node_seen}
 use Rattle.afs_node.specs.declared.node.ServerNode.{ServerNode}
 use Rattle.afs_serverhost.specs.Seats.{waits_for, with_behind, IsStepUp, IsUp, ServerRunning}
-use Rattle.afs_sharing.specs.Stores.{IsDone}
+use Rattle.afs_sharing.specs.Stores.{IsKeptBehind}
 use Rattle.afs_host.proofs.Stepping.{as_host_up}
 
 -- what holds of the host that is just the state of a server node holds of each for which this stands
 pub as_up : {D : Type 0} (r : ServerRunning D) (h : NodeHost) (P : NodeHost → Type 0) → IsUp r h → P (record { state = node_seen r.memory r.store; down = None; armed = r.armed }) → P h
 as_up {D} r h P up p = as_host_up (λ (m : ServerNode) (t : Store (Fused D)). node_seen m t) r h P up p
 
-file_calls : {D : Type 0} (x : ServerState) (clock : ℕ) (d : Decision) (s t : Store D) → IsDone (record_decided x.lasting.boot clock d) s t → (t.count - s.count) * 4 ≡ device_calls x clock d
+file_calls : {D : Type 0} (x : ServerState) (clock : ℕ) (d : Decision) (s t : Store D) → IsKeptBehind (record_decided x.lasting.boot clock d) s t → (t.count - s.count) * 4 ≡ device_calls x clock d
 file_calls {D} x clock drops s t done = omega (arith, done.1)
 file_calls {D} x clock (tells_boot head) s t done = omega (arith, done.1)
 file_calls {D} x clock (repeats reply) s t done = omega (arith, done.1)
@@ -46,7 +46,7 @@ file_calls {D} x clock (refuses head code) s t done = omega (arith, done.1)
 file_calls {D} x clock (shows head r) s t done = omega (arith, done.1)
 file_calls {D} x clock (saves head c) s t done = omega (arith, done.1)
 
-volume_calls : {D : Type 0} (e : Durable) (d : VolDecision) (s t : Store D) → IsDone (vol_record d) s t → (t.count - s.count) * 4 ≡ vol_device_calls e d
+volume_calls : {D : Type 0} (e : Durable) (d : VolDecision) (s t : Store D) → IsKeptBehind (vol_record d) s t → (t.count - s.count) * 4 ≡ vol_device_calls e d
 volume_calls {D} e volumes.drops s t done = omega (arith, done.1)
 volume_calls {D} e (volumes.tells_boot head) s t done = omega (arith, done.1)
 volume_calls {D} e (volumes.repeats reply) s t done = omega (arith, done.1)
@@ -54,11 +54,11 @@ volume_calls {D} e (volumes.replies_to head reply ts last) s t done = omega (ari
 volume_calls {D} e (volumes.dispatches head x) s t done = omega (arith, done.1)
 volume_calls {D} e (volumes.saves head x) s t done = omega (arith, done.1)
 
-calls_by : {D : Type 0} (x : ServerState) (clock : ℕ) (d : Decision) (e : Durable) (v : VolDecision) (s t : Store D) (b : Bool) → IsDone (if b then record_decided x.lasting.boot clock d else vol_record v) s t → (t.count - s.count) * 4 ≡ (if b then device_calls x clock d else vol_device_calls e v)
+calls_by : {D : Type 0} (x : ServerState) (clock : ℕ) (d : Decision) (e : Durable) (v : VolDecision) (s t : Store D) (b : Bool) → IsKeptBehind (if b then record_decided x.lasting.boot clock d else vol_record v) s t → (t.count - s.count) * 4 ≡ (if b then device_calls x clock d else vol_device_calls e v)
 calls_by {D} x clock d e v s t true done = file_calls x clock d s t done
 calls_by {D} x clock d e v s t false done = volume_calls e v s t done
 
-pub made_calls : {D : Type 0} (me : Node) (x : NodeState) (clock : ℕ) (found : Received) (s t : Store D) → IsDone (node_record me x clock found) s t → (t.count - s.count) * 4 ≡ node_device_calls me x clock found
+pub made_calls : {D : Type 0} (me : Node) (x : NodeState) (clock : ℕ) (found : Received) (s t : Store D) → IsKeptBehind (node_record me x clock found) s t → (t.count - s.count) * 4 ≡ node_device_calls me x clock found
 made_calls {D} me x clock found s t done =
     calls_by x.file clock (node_file_decides me x clock found) (durable_of x.file.lasting) (vol_decides me (durable_of x.file.lasting) x.vol found) s t (is_of_client (from_of found)) done
 

@@ -1,7 +1,7 @@
 -- The place of a server node: the host that it is, up or down, its disk, and what the next input may rely on.
 use Rattle.std.specs.Prelude.{◌≡◌, ◌≤◌, ◌+◌, ◌*◌, ℕ, List, Option, length}
 use Rattle.afs_num.specs.declared.types.Node.{Node}
-use Rattle.afs_volrows.specs.NodeHosts.{NodeHost}
+use Rattle.spec_volrows.specs.NodeHosts.{NodeHost}
 use Rattle.afs_host.specs.Seats.{Resting}
 use Rattle.afs_serverhost.specs.Seats.{CanRun, IsDown, IsUp, ServerRunning}
 use Rattle.afs_host.specs.declared.seats.Seat.{Seat}

@@ -1,15 +1,15 @@
 -- A server node with its disk, up or down, and the host of the cell that it stands for.
 use Rattle.std.specs.Prelude.{◌≡◌, ◌≤◌, ◌+◌, ℕ, List, ◌++◌, Bool, false, Option, length}
 use Rattle.afs_num.specs.declared.types.Node.{Node}
-use Rattle.afs_history.specs.declared.lines.Line.{Line}
-use Rattle.afs_history.specs.declared.lines.Outs.{Outs}
+use Rattle.spec_history.specs.declared.lines.Line.{Line}
+use Rattle.spec_history.specs.declared.lines.Outs.{Outs}
 use Rattle.afs_disk.specs.Disk.{SameDisk}
 use Rattle.afs_disk.specs.Fuses.{Fused}
-use Rattle.afs_rows.specs.Hosts.{HostStep}
+use Rattle.spec_rows.specs.Hosts.{HostStep}
 use Rattle.afs_volstore.specs.Stores.{Store}
 use Rattle.afs_num.specs.declared.types.Parcel.{Parcel}
-use Rattle.afs_volrows.specs.NodeHosts.{NodeHost}
-use Rattle.afs_volrows.specs.VolStates.{NodeState}
+use Rattle.spec_volrows.specs.NodeHosts.{NodeHost}
+use Rattle.spec_volrows.specs.VolStates.{NodeState}
 use Rattle.afs_node.specs.Seen.{node_seen, node_waits, SameNode, SameStored, ServesNode}
 use Rattle.afs_node.specs.declared.node.ServerNode.{ServerNode}
 use Rattle.afs_host.specs.Setting.{IsSet}

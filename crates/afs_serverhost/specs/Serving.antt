@@ -4,20 +4,20 @@ use Rattle.afs_num.specs.declared.messages.Message.{Message}
 use Rattle.afs_num.specs.declared.messages.Received.{Received}
 use Rattle.afs_num.specs.declared.messages.Received.TheVariants.{Whole}
 use Rattle.afs_num.specs.declared.types.Node.{Node}
-use Rattle.afs_history.specs.declared.lines.Line.{Line}
-use Rattle.afs_history.specs.declared.lines.Line.TheVariants as lines
-use Rattle.afs_history.specs.declared.lines.Outs.{Outs}
+use Rattle.spec_history.specs.declared.lines.Line.{Line}
+use Rattle.spec_history.specs.declared.lines.Line.TheVariants as lines
+use Rattle.spec_history.specs.declared.lines.Outs.{Outs}
 use Rattle.afs_disk.specs.Disk.{LeavesJust, Rose, Trips}
 use Rattle.afs_disk.specs.declared.disk.Disk.{Ghosts}
 use Rattle.afs_journal.specs.Left.{is_left_whole, ReachesCall}
 use Rattle.afs_journal.specs.Records.{whole_records}
-use Rattle.afs_model.specs.Messages.{received}
-use Rattle.afs_rows.specs.Hosts.{given, in_step, served, steady, Blow}
+use Rattle.spec_model.specs.Messages.{received}
+use Rattle.spec_rows.specs.Hosts.{given, in_step, served, steady, Blow}
 use Rattle.afs_server_parts.specs.declared.faults.NodeFault.{NodeFault}
 use Rattle.afs_server_parts.specs.declared.faults.NodeFault.TheVariants as nodes
 use Rattle.afs_num.specs.declared.types.Parcel.{Parcel}
-use Rattle.afs_volrows.specs.NodeHosts.{node_kind, NodeHost}
-use Rattle.afs_volrows.specs.VolSteps.{node_device_calls}
+use Rattle.spec_volrows.specs.NodeHosts.{node_kind, NodeHost}
+use Rattle.spec_volrows.specs.VolSteps.{node_device_calls}
 use Rattle.afs_node.specs.Seen.{node_found, node_seen, ClosesStored}
 use Rattle.afs_host.specs.Seats.{Resting}
 use Rattle.afs_serverhost.specs.Seats.{disk_of, with_behind, GoesOn, IsSame, IsStepDown, IsStepUp, IsUp, ServerRunning}

@@ -5,15 +5,15 @@ use Rattle.afs_num.specs.declared.records.Mark.{Mark}
 use Rattle.afs_num.specs.declared.records.StoreRecord.{StoreRecord}
 use Rattle.afs_num.specs.declared.types.Node.{Node}
 use Rattle.afs_journal.specs.Records.{whole_records}
-use Rattle.afs_records.specs.Durable.{Durable}
-use Rattle.afs_rows.specs.Hosts.{Fall}
-use Rattle.afs_rows.specs.States.{Lasting}
+use Rattle.spec_records.specs.Durable.{Durable}
+use Rattle.spec_rows.specs.Hosts.{Fall}
+use Rattle.spec_rows.specs.States.{Lasting}
 use Rattle.afs_readying.specs.declared.prepared.Prepared.{Prepared}
 use Rattle.afs_volstore.specs.VolumeFold.{volume_fold}
 use Rattle.afs_volstore.specs.declared.held.Held.{Held}
 use Rattle.afs_server.specs.Seen.{begun_state}
-use Rattle.afs_volrows.specs.NodeHosts.{node_kind}
-use Rattle.afs_volrows.specs.VolStates.{fresh_vol, NodeState}
+use Rattle.spec_volrows.specs.NodeHosts.{node_kind}
+use Rattle.spec_volrows.specs.VolStates.{fresh_vol, NodeState}
 use Rattle.afs_node.specs.Handling.{node_record}
 use Rattle.afs_sharing.specs.Lasting.{lasting_of}
 use Rattle.afs_host.specs.Standing.{Keeping, IsKeptAs, IsKeptFound, IsKeptIn}

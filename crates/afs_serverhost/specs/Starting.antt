@@ -2,19 +2,19 @@
 use Rattle.std.specs.Prelude.{◌≡◌, ◌≤◌, ◌+◌, ℕ, List, ◌∷◌, ◌++◌, length}
 use Rattle.afs_num.specs.declared.types.Node.{Node}
 use Rattle.afs_num.specs.declared.records.Mark.{Mark}
-use Rattle.afs_history.specs.declared.lines.Line.{Line}
-use Rattle.afs_history.specs.declared.lines.Line.TheVariants as lines
-use Rattle.afs_history.specs.declared.lines.Outs.{Outs}
+use Rattle.spec_history.specs.declared.lines.Line.{Line}
+use Rattle.spec_history.specs.declared.lines.Line.TheVariants as lines
+use Rattle.spec_history.specs.declared.lines.Outs.{Outs}
 use Rattle.afs_disk.specs.Fuses.{Fused}
 use Rattle.afs_disk.specs.declared.disk.Disk.{Ghosts}
-use Rattle.afs_model.specs.Messages.{messages_spelled, parcels_read}
-use Rattle.afs_records.specs.Durable.{Durable}
-use Rattle.afs_rows.specs.Hosts.{is_full, settled, unarmed}
-use Rattle.afs_rows.specs.ServerHosts.{can_start}
-use Rattle.afs_rows.specs.Steps.{Begun, Step}
+use Rattle.spec_model.specs.Messages.{messages_spelled, parcels_read}
+use Rattle.spec_records.specs.Durable.{Durable}
+use Rattle.spec_rows.specs.Hosts.{is_full, without_boot_record, unarmed}
+use Rattle.spec_rows.specs.ServerHosts.{can_start}
+use Rattle.spec_rows.specs.Steps.{Begun, Step}
 use Rattle.afs_volstore.specs.Stores.{Store}
-use Rattle.afs_volrows.specs.NodeHosts.{node_kind}
-use Rattle.afs_volrows.specs.VolStates.{NodeState}
+use Rattle.spec_volrows.specs.NodeHosts.{node_kind}
+use Rattle.spec_volrows.specs.VolStates.{NodeState}
 use Rattle.afs_node.specs.Handling.{node_begun_step}
 use Rattle.afs_node.specs.Seen.{node_seen}
 use Rattle.afs_node.specs.declared.node.ServerNode.{ServerNode}
@@ -39,7 +39,7 @@ disk_started {D} (starts.Lost s) = s.disk
 
 -- Memory can run out behind the record of its boot, which did fit then: what it tells of the breaks that it owes is told last.
 abbrev pub server_sight : {D : Type 0} → Sight ServerNode (Store (Fused D)) D NodeState
-server_sight {D} = record { state = λ m t. node_seen m t; shown = λ t. shown_store t; Lost = λ s. settled (can_start s.file) is_full ≡ is_full → ⊥ }
+server_sight {D} = record { state = λ m t. node_seen m t; shown = λ t. shown_store t; Lost = λ s. without_boot_record (can_start s.file) is_full ≡ is_full → ⊥ }
 
 -- so it is started, in a cell of so many clients, at this time
 abbrev pub IsStarted : {D : Type 0} → Ghosts D → Node → ℕ → ℕ → Resting D → Start (ServerRunning D) (Resting D) → Type 0

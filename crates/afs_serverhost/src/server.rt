@@ -2,10 +2,10 @@
 
 ghost use Rattle.std.specs.Prelude.{◌≡◌, ◌≤◌, ◌<◌, ◌^◌, ◌↔◌, [], None, Some, false, true, IfOk, IsSome, OnErr};
 ghost use Rattle.afs_disk.specs.Fuses.{armed, failing};
-ghost use Rattle.afs_rows.specs.Hosts.{crashed, set_to_fail, set_to_stop};
-ghost use Rattle.afs_rows.specs.States.{BackCall};
-ghost use Rattle.afs_volrows.specs.NodeHosts.{node_kind, node_timed_out, node_woken, piece_timed_out, NodeHost};
-ghost use Rattle.afs_volrows.specs.VolStates.{PieceCall};
+ghost use Rattle.spec_rows.specs.Hosts.{crashed, set_to_fail, set_to_stop};
+ghost use Rattle.spec_rows.specs.States.{BackCall};
+ghost use Rattle.spec_volrows.specs.NodeHosts.{node_kind, node_timed_out, node_woken, piece_timed_out, NodeHost};
+ghost use Rattle.spec_volrows.specs.VolStates.{PieceCall};
 ghost use Rattle.afs_server.specs.Seen.{CanDraw};
 ghost use Rattle.afs_node.specs.Seen.{ServesNode};
 ghost use Rattle.afs_serverhost.specs.Seats.{disk_of, waits_for, with_behind, CanRun, GoesOn, IsDown, IsStepUp, IsUp, OnlyDraws};
@@ -13,7 +13,6 @@ ghost use Rattle.afs_host.specs.Views.{count_mark};
 
 use crate::seats::ServerRunning;
 use afs_disk::{Disk, Fuse};
-use afs_history::lines::Outs;
 use afs_host::resting::Resting;
 use afs_host::running::Running;
 use afs_host::setting::UNARMED;
@@ -21,6 +20,7 @@ use afs_node::ServerNode;
 use afs_num::types::{Mem, Node, Parcels};
 use afs_server_parts::faults::NodeFault;
 use afs_volstore::VolStore;
+use spec_history::lines::Outs;
 use std::alloc::AllocError;
 
 /// A node over the store of a disk that isn't set.

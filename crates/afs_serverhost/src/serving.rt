@@ -1,17 +1,17 @@
 //! A server node that is up is given a message.
 
 ghost use Rattle.std.specs.Prelude.{◌≡◌, ◌≤◌, ◌↔◌, IsSome};
-ghost use Rattle.afs_model.specs.Messages.{received};
+ghost use Rattle.spec_model.specs.Messages.{received};
 ghost use Rattle.afs_server.specs.Seen.{CanDraw};
 ghost use Rattle.afs_serverhost.specs.Seats.{disk_of, CanRun};
 ghost use Rattle.afs_serverhost.specs.Serving.{disk_served, Becomes, GoesOnServed, IsHandled, IsServed, KeepsMark, MakesRow, RestsServed, RunsRow};
 
 use crate::seats::ServerRunning;
 use afs_disk::Disk;
-use afs_history::lines::Outs;
 use afs_host::running::CALLS_OF_A_RECORD;
 use afs_num::types::Parcels;
 use afs_server_parts::faults::NodeFault;
+use spec_history::lines::Outs;
 
 /// The node is given the bytes of a message, at this time in ticks: a client's is its file server's, every other its volume server's.
 /// The messages beside what the step gives out go behind that. Where its disk ended the step, the node is to fall.

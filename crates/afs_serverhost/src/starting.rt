@@ -2,9 +2,9 @@
 
 ghost use Rattle.std.specs.Prelude.{◌≡◌, ◌≤◌, ◌<◌, ◌+◌, ◌↔◌, ◌++◌, ◌∷◌, [], ℕ, List, None, false, vec_capacity, vec_len, IfOk, IsSome};
 ghost use Rattle.afs_num.specs.Nodes.{IsNode};
-ghost use Rattle.afs_history.specs.declared.lines.Line.TheVariants as lines;
-ghost use Rattle.afs_rows.specs.Steps.{Begun};
-ghost use Rattle.afs_volrows.specs.VolStates.{NodeState};
+ghost use Rattle.spec_history.specs.declared.lines.Line.TheVariants as lines;
+ghost use Rattle.spec_rows.specs.Steps.{Begun};
+ghost use Rattle.spec_volrows.specs.VolStates.{NodeState};
 ghost use Rattle.afs_volstore.specs.Stores.{recorded};
 ghost use Rattle.afs_serverhost.specs.Standing.{server_keeping};
 ghost use Rattle.afs_host.specs.Starting.{IsFound};
@@ -13,7 +13,6 @@ ghost use Rattle.afs_serverhost.specs.Starting.{disk_started, BootsFrom, BootsOv
 use crate::seats::ServerRunning;
 use crate::server::over;
 use afs_disk::{Disk, Fuse};
-use afs_history::lines::{Line, Lines, Outs};
 use afs_host::resting::{Resting, rest_of};
 use afs_host::starting::{Start, fault_alone, stay, untold, with_line, with_room};
 use afs_node::ServerNode;
@@ -22,6 +21,7 @@ use afs_num::records::Mark;
 use afs_num::sequences::Sequence;
 use afs_num::types::{Mem, Node};
 use afs_volstore::VolStore;
+use spec_history::lines::{Line, Lines, Outs};
 use std::alloc::Global;
 
 /// What a restart gives out: the lines with which it began, that the node is up, which volumes vanished, and what its step gives out now.

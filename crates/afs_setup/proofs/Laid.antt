@@ -9,31 +9,31 @@ use Rattle.std.specs.List.{list_all, AllByRecursion}
 use Rattle.afs_num.specs.declared.records.RecordBody.TheVariants as bodies
 use Rattle.afs_num.specs.declared.records.RecordHead.{RecordHead}
 use Rattle.afs_num.specs.declared.records.StoredVolume.{StoredVolume}
-use Rattle.afs_history.specs.declared.scripts.SetupLine.{SetupLine}
-use Rattle.afs_history.specs.declared.scripts.VolumeLine.{VolumeLine}
+use Rattle.spec_history.specs.declared.scripts.SetupLine.{SetupLine}
+use Rattle.spec_history.specs.declared.scripts.VolumeLine.{VolumeLine}
 use Rattle.afs_num.specs.declared.vnodes.Vnode as image
 use Rattle.afs_num.specs.declared.volumes.VolumeHead.{VolumeHead}
 use Rattle.afs_num.specs.Nodes.{is_between}
 use Rattle.afs_xdr.specs.Words.{AreWords}
-use Rattle.afs_shape.specs.Taking.{◌>>=◌}
-use Rattle.afs_shape.specs.Tables.{IsVolumeKind}
-use Rattle.afs_ideal.specs.Images.{image_of}
-use Rattle.afs_ideal.specs.SetUp.{laid, new_volume}
-use Rattle.afs_ideal.specs.SetUp as lines
-use Rattle.afs_ideal.specs.Soundness.{KindFits, IsSound}
-use Rattle.afs_ideal.specs.SoundnessLaws.{IsAtFirst, IsLaidOut}
-use Rattle.afs_ideal.specs.Tables.{Table, get, set, AscendsFrom}
-use Rattle.afs_ideal.specs.VnodeImage.{image_words, kind_fits, FitsImage}
-use Rattle.afs_ideal.specs.VnodeMaps.{most_vnodes}
-use Rattle.afs_ideal.specs.Volumes as ideal
-use Rattle.afs_ideal.specs.Volumes.{Kind, a_file, a_directory, a_link, type_of}
-use Rattle.afs_ideal.proofs.Laid.{laid_out}
-use Rattle.afs_ideal.proofs.Tables.{get_below}
-use Rattle.afs_records.specs.Changes.{accepted, at_set_up, first_record, laid_all, no_head, record_of_volumes, stored_volume, volume_laid, volumes_laid}
-use Rattle.afs_records.specs.Durable as durable
-use Rattle.afs_records.specs.Durable.{Durable, Stored, by_number, most_volumes, or_zero, with_stored, with_volumes}
-use Rattle.afs_records.specs.Forms.{HasImageForm}
-use Rattle.afs_records.specs.Records.{are_listed, are_whole, ascend_from, head_form, listed, marked_form, volume_form, was_changed, FitsRecord}
+use Rattle.spec_shape.specs.Taking.{◌>>=◌}
+use Rattle.spec_shape.specs.Tables.{IsVolumeKind}
+use Rattle.spec_ideal.specs.Images.{image_of}
+use Rattle.spec_ideal.specs.SetUp.{laid, new_volume}
+use Rattle.spec_ideal.specs.SetUp as lines
+use Rattle.spec_ideal.specs.Soundness.{KindFits, IsSound}
+use Rattle.spec_ideal.specs.SoundnessLaws.{IsAtFirst, IsLaidOut}
+use Rattle.spec_ideal.specs.Tables.{Table, get, set, AscendsFrom}
+use Rattle.spec_ideal.specs.VnodeImage.{image_words, kind_fits, FitsImage}
+use Rattle.spec_ideal.specs.VnodeMaps.{most_vnodes}
+use Rattle.spec_ideal.specs.Volumes as ideal
+use Rattle.spec_ideal.specs.Volumes.{VnodeKind, a_file, a_directory, a_link, type_of}
+use Rattle.spec_ideal.proofs.Laid.{laid_out}
+use Rattle.spec_ideal.proofs.Tables.{get_below}
+use Rattle.spec_records.specs.Changes.{accepted, at_set_up, first_record, laid_all, no_head, record_of_volumes, stored_volume, volume_laid, volumes_laid}
+use Rattle.spec_records.specs.Durable as durable
+use Rattle.spec_records.specs.Durable.{Durable, Stored, by_number, most_volumes, or_zero, with_stored, with_volumes}
+use Rattle.spec_records.specs.Forms.{HasImageForm}
+use Rattle.spec_records.specs.Records.{are_listed, are_whole, ascend_from, head_form, listed_vnode, marked_form, volume_form, was_changed, FitsRecord}
 use Rattle.afs_seats.specs.Seated.{seen_as}
 use Rattle.afs_seats.proofs.Places.{set_seen}
 use Rattle.afs_vnode.specs.Stores.{AreVnodes}
@@ -162,7 +162,7 @@ each_got {A} P m (p ∷ ps) up all = (all p.0 p.1 (first_there p ps), each_got P
 
 -- ---- images
 
-fitting : (n : ℕ) (k : Kind) (b : Bool) → (n % 2 == 1) ≡ b → KindFits n k → kind_fits n (type_of k) ≡ true
+fitting : (n : ℕ) (k : VnodeKind) (b : Bool) → (n % 2 == 1) ≡ b → KindFits n k → kind_fits n (type_of k) ≡ true
 unfolding kind_fits
 fitting n a_directory true is h = rw is refl
 fitting n a_directory false is h = let odd : n % 2 ≡ 1 = h.0 refl in absurd (grind (arith, nat_tests, is, odd))
@@ -193,7 +193,7 @@ ascend_to : (m : ℕ) (xs : List image.Vnode) → AscendsFrom m (by_number xs) �
 ascend_to m [] up = refl
 ascend_to m (x ∷ xs) up = rw (le-ltb x.vnode m up.0, ascend_to (x.vnode + 1) xs up.1) refl
 
-all_listed : (xs : List image.Vnode) → are_listed (map listed xs) xs ≡ true
+all_listed : (xs : List image.Vnode) → are_listed (map listed_vnode xs) xs ≡ true
 all_listed [] = refl
 all_listed (x ∷ xs) = rw (eq-eqb x.vnode x.vnode refl, eq-eqb x.unique x.unique refl, all_listed xs) refl
 
@@ -236,14 +236,14 @@ marked : (xs : List image.Vnode) → AllByRecursion HasImageForm xs → AllByRec
 marked [] all = tt
 marked (x ∷ xs) all = ((((lit< tt, refl), all.0), refl), marked xs all.1)
 
-listed_words : (xs : List image.Vnode) → AllByRecursion HasImageForm xs → AllByRecursion (λ (p : ℕ × ℕ). (p.0 < 2 ^ 32) × (p.1 < 2 ^ 32)) (map listed xs)
+listed_words : (xs : List image.Vnode) → AllByRecursion HasImageForm xs → AllByRecursion (λ (p : ℕ × ℕ). (p.0 < 2 ^ 32) × (p.1 < 2 ^ 32)) (map listed_vnode xs)
 listed_words [] all = tt
 listed_words (x ∷ xs) all = ((all.0.words.0, all.0.words.1.0), listed_words xs all.1)
 
-whole : (xs : List image.Vnode) → AreTold xs → are_whole (map listed xs) xs ≡ true
+whole : (xs : List image.Vnode) → AreTold xs → are_whole (map listed_vnode xs) xs ≡ true
 whole xs are =
-    let few : length (map listed xs) ≤ most_vnodes = subst (λ (n : ℕ). n ≤ most_vnodes) (sym (length-map xs listed)) are.few in
-    rw (le-ltb most_vnodes (length (map listed xs)) few, all_listed xs, ascend_to 0 xs are.ascends, are.changed) refl
+    let few : length (map listed_vnode xs) ≤ most_vnodes = subst (λ (n : ℕ). n ≤ most_vnodes) (sym (length-map xs listed_vnode)) are.few in
+    rw (le-ltb most_vnodes (length (map listed_vnode xs)) few, all_listed xs, ascend_to 0 xs are.ascends, are.changed) refl
 
 small_count : (n : ℕ) → n ≤ most_vnodes → n < 2 ^ 32
 small_count n le = omega (arith, le)
@@ -254,7 +254,7 @@ small_name n le = omega (arith, le)
 pub volume_fits : (head : VolumeHead) (xs : List image.Vnode) → FitsHead head → AreWords (head_words head) → AreTold xs → AllByRecursion HasImageForm xs → volume_form.Fits (record { head = head; vnodes = xs })
 unfolding volume_form
 volume_fits head xs fits words are forms = (
-  ((fits.name, small_name (length head.name) fits.name), (words.1.1.1.0, ((lit< tt, refl), (words.0, (words.1.0, ((words.1.1.0, kind_passes head.kind fits.kind), (words.1.1.1.1.0, (words.1.1.1.1.1.0, (words.1.1.1.1.1.1.0, (words.1.1.1.1.1.1.1.0, ((small_count (length (map listed xs)) (subst (λ (n : ℕ). n ≤ most_vnodes) (sym (length-map xs listed)) are.few), listed_words xs forms), (marked xs forms, whole xs are)))))))))))),
+  ((fits.name, small_name (length head.name) fits.name), (words.1.1.1.0, ((lit< tt, refl), (words.0, (words.1.0, ((words.1.1.0, kind_passes head.kind fits.kind), (words.1.1.1.1.0, (words.1.1.1.1.1.0, (words.1.1.1.1.1.1.0, (words.1.1.1.1.1.1.1.0, ((small_count (length (map listed_vnode xs)) (subst (λ (n : ℕ). n ≤ most_vnodes) (sym (length-map xs listed_vnode)) are.few), listed_words xs forms), (marked xs forms, whole xs are)))))))))))),
   refl,
 )
 

@@ -1,28 +1,29 @@
 //! A store is made of a disk at set-up.
 
+ghost use Rattle.afs_store.specs.Stores.{IsSetUpFault};
 ghost use Rattle.std.specs.Prelude.{◌≡◌, ◌≤◌, ◌<◌, ◌^◌, ◌∷◌, ◌⊎◌, ℕ, [], None, Some, true, false, is_some, length, map, IfErr, IfOk, IsSome, MatchResult};
 ghost use Rattle.afs_num.specs.declared.faults.StoreFault.TheVariants as faults;
 ghost use Rattle.afs_num.specs.declared.records.StoreRecord as records;
 ghost use Rattle.afs_disk.specs.Disk.{LeavesJust};
 ghost use Rattle.afs_disk.specs.Words.{LeavesOnlyBy, TellsOn, SameFaults, PassesBy};
 ghost use Rattle.afs_journal.specs.Log.{IsJournal};
-ghost use Rattle.afs_records.specs.Changes.{first_record};
-ghost use Rattle.afs_fold.specs.SetUps.{set_up};
-ghost use Rattle.afs_fold.specs.Fold.{body_taken, is_first};
-ghost use Rattle.afs_records.specs.Durable.{Durable};
-ghost use Rattle.afs_records.specs.Records.{record_bytes, FitsRecord};
-ghost use Rattle.afs_volstore.specs.Opening.{CanBeSetUp, IsSetUpFault, IsSetUpSoFar};
+ghost use Rattle.spec_records.specs.Changes.{first_record};
+ghost use Rattle.spec_fold.specs.SetUps.{set_up};
+ghost use Rattle.spec_fold.specs.Fold.{body_taken, is_first};
+ghost use Rattle.spec_records.specs.Durable.{Durable};
+ghost use Rattle.spec_records.specs.Records.{record_bytes, FitsRecord};
+ghost use Rattle.afs_volstore.specs.Opening.{CanBeSetUp, IsSetUpSoFar};
 ghost use Rattle.afs_volstore.specs.Stores.{IsKept, IsCausedBy, MovedBy};
 
 use crate::laying::{first_record, record_length};
 use afs_disk::Disk;
-use afs_history::scripts::VolumeLine;
 use afs_num::faults::StoreFault;
 use afs_num::records::StoreRecord;
 use afs_num::types::{Mem, Node};
-use afs_records::laws::records_are_read_again;
 use afs_volstore::VolStore;
 use afs_volstore::creating::{begin, filled};
+use spec_history::scripts::VolumeLine;
+use spec_records::laws::records_are_read_again;
 use std::alloc::Global;
 
 /// How many bytes a journal without records has.

@@ -2,13 +2,13 @@
 
 ghost use Rattle.std.specs.Prelude.{◌≡◌, ◌≤◌, ◌<◌, ◌^◌, [], Some, true, is_some, length, map, IfOk, OnOk};
 ghost use Rattle.std.specs.List.{AllByRecursion};
-ghost use Rattle.afs_records.specs.Changes.{first_length, first_record, laid_all, stored_volume, volume_laid, volumes_laid};
-ghost use Rattle.afs_records.specs.Durable as durable;
-ghost use Rattle.afs_fold.specs.Fold.{body_taken, is_first};
-ghost use Rattle.afs_records.specs.Durable.{Durable};
-ghost use Rattle.afs_records.specs.Forms.{HasImageForm};
-ghost use Rattle.afs_records.specs.Records.{record_bytes, volume_form, FitsRecord};
-ghost use Rattle.afs_ideal.specs.VnodeImage.{image_words, kind_fits, FitsImage};
+ghost use Rattle.spec_records.specs.Changes.{first_length, first_record, laid_all, stored_volume, volume_laid, volumes_laid};
+ghost use Rattle.spec_records.specs.Durable as durable;
+ghost use Rattle.spec_fold.specs.Fold.{body_taken, is_first};
+ghost use Rattle.spec_records.specs.Durable.{Durable};
+ghost use Rattle.spec_records.specs.Forms.{HasImageForm};
+ghost use Rattle.spec_records.specs.Records.{record_bytes, volume_form, FitsRecord};
+ghost use Rattle.spec_ideal.specs.VnodeImage.{image_words, kind_fits, FitsImage};
 ghost use Rattle.afs_seats.specs.Seated.{seen_as};
 ghost use Rattle.afs_volume.specs.Giving.{volume_of};
 ghost use Rattle.afs_volume.specs.Taking.{stored_of, IsAtSetUp};
@@ -17,7 +17,6 @@ ghost use Rattle.afs_volstore.specs.Laying.{head_words, AreLaid, HasShortName, H
 ghost use Rattle.afs_memory.specs.Numbered.{AreNumbered};
 ghost use Rattle.afs_volstore.specs.Opening.{CanBeSetUp};
 
-use afs_history::scripts::{SetupLine, VolumeLine};
 use afs_laying::lay;
 use afs_num::records::{RecordBody, StoreRecord, StoredVolume, StoredVolumes};
 use afs_num::types::Mem;
@@ -28,6 +27,7 @@ use afs_record::records::encode_record;
 use afs_seats::Seats;
 use afs_volstore::creating::no_head;
 use afs_volume::Volume;
+use spec_history::scripts::{SetupLine, VolumeLine};
 use std::alloc::{AllocError, Global};
 
 /// Lays all lines, each of which is accepted behind those before it.

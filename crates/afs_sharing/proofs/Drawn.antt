@@ -1,8 +1,8 @@
 -- The numbers of breaks, with the promises that may become breaks.
 use Rattle.std.proofs.Common.{◌≤◌, ◌+◌, ℕ, Bool, true, false, cond, List, [], ◌∷◌, length, arith}
 use Rattle.std.specs.Prelude.{filter, nat_lt}
-use Rattle.afs_breaks.specs.Promises.{expired, Lists}
-use Rattle.afs_breaks.specs.declared.types.Promise.{Promise}
+use Rattle.spec_breaks.specs.Promises.{expired, Lists}
+use Rattle.spec_breaks.specs.declared.types.Promise.{Promise}
 
 abbrev pub breaks_drawn : Lists → ℕ
 breaks_drawn l = l.last_owed + length l.promises

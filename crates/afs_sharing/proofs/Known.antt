@@ -1,8 +1,8 @@
 -- Replies that a store keeps are of nodes of the cell.
 use Rattle.std.proofs.Common.{[], ◌∷◌}
-use Rattle.afs_ideal.specs.Tables.{Table}
+use Rattle.spec_ideal.specs.Tables.{Table}
 use Rattle.afs_memory.specs.Called.{AreKnown}
-use Rattle.afs_records.specs.Durable.{Kept}
+use Rattle.spec_records.specs.Durable.{Kept}
 use Rattle.afs_saving.specs.Kept.{AreToNodes}
 use Rattle.afs_saving.proofs.Kept.{known_to_node}
 

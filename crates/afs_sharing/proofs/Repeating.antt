@@ -5,11 +5,11 @@ use Rattle.afs_num.specs.Nodes.{node_number, node_of, same_node, IsNode}
 use Rattle.afs_num.specs.declared.messages.Message.{Message}
 use Rattle.afs_num.specs.declared.types.Key.{Key}
 use Rattle.afs_num.specs.declared.types.Node.{Node}
-use Rattle.afs_ideal.specs.Tables.{get, Table}
-use Rattle.afs_model.specs.Calls.{call_seat}
-use Rattle.afs_records.specs.Durable.{Kept}
-use Rattle.afs_rows.specs.Callbacks.{is_seat_of}
-use Rattle.afs_rows.specs.States.{Seat}
+use Rattle.spec_ideal.specs.Tables.{get, Table}
+use Rattle.spec_model.specs.Calls.{call_seat}
+use Rattle.spec_records.specs.Durable.{Kept}
+use Rattle.spec_rows.specs.Callbacks.{is_seat_of}
+use Rattle.spec_rows.specs.States.{Seat}
 use Rattle.afs_sharing.specs.Callers.{is_answer_to}
 use Rattle.afs_saving.proofs.Seats.{number_by}
 use Rattle.afs_saving.specs.Kept.{or_loc, seat_kept, AreToNodes}

@@ -3,8 +3,8 @@ use Rattle.std.specs.Prelude.{◌≡◌, ℕ, List, Bool, false, ◌&&◌, Optio
 use Rattle.std.specs.Borrow.{Bor}
 use Rattle.afs_num.specs.declared.types.Head.{Head}
 use Rattle.afs_num.specs.declared.types.Key.{Key}
-use Rattle.afs_model.specs.Calls.{call_seat, paired, runs}
-use Rattle.afs_rows.specs.States.{Seat}
+use Rattle.spec_model.specs.Calls.{call_seat, paired, runs}
+use Rattle.spec_rows.specs.States.{Seat}
 
 -- the pair of the call of this header is to run
 abbrev pub IsToRun : Head → List Seat → Type 0

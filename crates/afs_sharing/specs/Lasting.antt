@@ -1,7 +1,7 @@
 -- What the disk of a server keeps, as the rows have it.
 use Rattle.std.specs.Prelude.{map}
-use Rattle.afs_records.specs.Durable.{Durable}
-use Rattle.afs_rows.specs.States.{Lasting}
+use Rattle.spec_records.specs.Durable.{Durable}
+use Rattle.spec_rows.specs.States.{Lasting}
 use Rattle.afs_saving.specs.Kept.{seat_kept, AreToNodes}
 
 -- a kept reply's bytes as the message that is read in them

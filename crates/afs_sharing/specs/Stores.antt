@@ -2,8 +2,8 @@
 use Rattle.std.specs.Prelude.{◌≡◌, ◌+◌, Bool, true, false, Option, Some, None, Result, Ok, Err}
 use Rattle.afs_num.specs.declared.records.StoreRecord.{StoreRecord}
 use Rattle.afs_disk.specs.declared.disk.Disk.{Ghosts}
-use Rattle.afs_records.specs.Durable.{Durable}
-use Rattle.afs_fold.specs.Fold.{folded}
+use Rattle.spec_records.specs.Durable.{Durable}
+use Rattle.spec_fold.specs.Fold.{folded}
 use Rattle.afs_saving.specs.Saving as saving
 use Rattle.afs_server_parts.specs.declared.faults.NodeFault.{NodeFault}
 use Rattle.afs_server_parts.specs.declared.faults.NodeFault.TheVariants as faults
@@ -24,9 +24,9 @@ abbrev pub IsClosed : {D : Type 0} → Store D → Store D → Type 0
 IsClosed {D} s t = t ≡ record s { disk = t.disk; prepared = None; closed = true }
 
 -- what the store keeps after a step that makes this record, or none
-abbrev pub IsDone : {D : Type 0} → Option StoreRecord → Store D → Store D → Type 0
-IsDone {D} None s t = (t.durable ≡ s.durable) × (t.count ≡ s.count)
-IsDone {D} (Some r) s t = (folded r s.durable ≡ Some t.durable) × (t.count ≡ s.count + 1)
+abbrev pub IsKeptBehind : {D : Type 0} → Option StoreRecord → Store D → Store D → Type 0
+IsKeptBehind {D} None s t = (t.durable ≡ s.durable) × (t.count ≡ s.count)
+IsKeptBehind {D} (Some r) s t = (folded r s.durable ≡ Some t.durable) × (t.count ≡ s.count + 1)
 
 -- what a step that has this record, or none, does to the disk of a store that keeps this
 abbrev pub OnDisk : {D T : Type 0} → Ghosts D → Option StoreRecord → Durable → D → D → Result T NodeFault → Type 0

@@ -2,8 +2,8 @@
 
 ghost use Rattle.std.specs.Prelude.{◌≡◌};
 ghost use Rattle.afs_num.specs.Nodes.{IsNode};
-ghost use Rattle.afs_model.specs.Calls.{call_seat};
-ghost use Rattle.afs_rows.specs.Callbacks.{is_seat_of};
+ghost use Rattle.spec_model.specs.Calls.{call_seat};
+ghost use Rattle.spec_rows.specs.Callbacks.{is_seat_of};
 ghost use Rattle.afs_sharing.specs.Callers.{is_answer_to};
 ghost use Rattle.afs_sharing.specs.Lasting.{lasting_of, KeepsForNodes};
 

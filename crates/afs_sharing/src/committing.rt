@@ -2,7 +2,7 @@
 
 ghost use Rattle.std.specs.Prelude.{◌≡◌, Some, false, IsSome};
 ghost use Rattle.afs_num.specs.declared.records.StoreRecord as records;
-ghost use Rattle.afs_records.specs.Records.{FitsRecord};
+ghost use Rattle.spec_records.specs.Records.{FitsRecord};
 ghost use Rattle.afs_sharing.specs.Stores.{Commits, OnDisk};
 
 use afs_disk::Disk;

@@ -4,11 +4,11 @@ use Rattle.std.specs.Prelude.{Ok, ◌&&◌, ◌||◌}
 use Rattle.afs_num.specs.Nodes.{node_number}
 use Rattle.afs_num.specs.declared.types.Node.{Node}
 use Rattle.afs_num.specs.declared.records.RecordBody.TheVariants as bodies
-use Rattle.afs_ideal.specs.Tables.{Table, get, set, unset, AscendsFrom}
-use Rattle.afs_records.specs.Durable.{Durable, Stored}
-use Rattle.afs_dumps.specs.Restores.{finished}
-use Rattle.afs_fold.specs.Deeds.{can_take, clone_put, created, done_by, flagged, on_stored, or_as_was, with_release}
-use Rattle.afs_fold.specs.Deeds as deeds
+use Rattle.spec_ideal.specs.Tables.{Table, get, set, unset, AscendsFrom}
+use Rattle.spec_records.specs.Durable.{Durable, Stored}
+use Rattle.spec_dumps.specs.Restores.{restored_from}
+use Rattle.spec_fold.specs.Deeds.{can_take, clone_put, created, done_by, flagged, on_stored, or_as_was, with_release}
+use Rattle.spec_fold.specs.Deeds as deeds
 use Rattle.afs_seats.specs.Seated.{seen_as}
 use Rattle.afs_seats.proofs.Places.{get_seen, put_again, set_seen}
 use Rattle.afs_shelves.specs.Deeds.{clone_by, create_body, deed_body, IsCloneIn, IsCreated, IsMadeIn, IsRestoredIn, SuitsDeed}
@@ -78,7 +78,7 @@ alter_done id change d t u f g is same =
 pub restore_done : (dump : List ℕ) (v : Volume) (e d : Durable) (t u : Table Shelf) (f g : Table Node) → IsRestoredIn (keeping e t f) dump v → IsReplaced v t u → g ≡ f → done_by (bodies.Restore v.head.id dump) (keeping d t f) ≡ keeping d u g
 restore_done dump v e d t u f g makes is same =
     let s : Stored = shelved is.before in
-    alter_done v.head.id (λ x. or_as_was x (finished v.head.id x dump)) d t u f g
+    alter_done v.head.id (λ x. or_as_was x (restored_from v.head.id x dump)) d t u f g
     (record {
       before = is.before;
       there = is.there;

@@ -1,8 +1,8 @@
 -- What is found of the volumes in memory, as their disk keeps it.
 use Rattle.std.proofs.Common.{◌≡◌, ℕ, zero, suc, [], ◌∷◌, Bool, false, Option, Some, None, is_some, refl, sym, ap, ◌∙◌, slice_get, Bor, IfSome, IfNone}
 use Rattle.std.specs.Option.{option_copied, option_map, option_map_or}
-use Rattle.afs_ideal.specs.Tables.{Table, get}
-use Rattle.afs_records.specs.Durable.{Stored}
+use Rattle.spec_ideal.specs.Tables.{Table, get}
+use Rattle.spec_records.specs.Durable.{Stored}
 use Rattle.afs_seats.specs.Seated.{seen_as}
 use Rattle.afs_seats.proofs.Places.{get_seen}
 use Rattle.afs_shelves.specs.Numbered.{shelf_number, AreShelved}

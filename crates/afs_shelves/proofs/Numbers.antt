@@ -2,7 +2,7 @@
 use Rattle.std.proofs.Common.{◌≡◌, ℕ, zero, suc, [], ◌∷◌, Bool, true, false, not, Option, Some, None, refl, sym, ap, ◌∙◌, nat_eq, nat_lt, subst, slice_get, filter, if◌then◌else◌, Bor, IfSome, arith}
 use Rattle.std.proofs.lemmas.Bool.Decides.{nat_tests}
 use Rattle.std.specs.Option.{option_copied}
-use Rattle.afs_ideal.specs.Tables.{Table, get, set, unset}
+use Rattle.spec_ideal.specs.Tables.{Table, get, set, unset}
 use Rattle.afs_shelves.specs.Numbered.{AreNumberedBy}
 
 module _ {A : Type 0} (number : A → ℕ) where

@@ -3,15 +3,15 @@ use Rattle.std.proofs.Common.{◌≡◌, ℕ, List, [], ◌∷◌, Bool, true, f
 use Rattle.std.specs.Prelude.{Result, Ok, Err, ◌-◌, ◌&&◌, length}
 use Rattle.std.specs.List.{list_all}
 use Rattle.std.specs.Option.{option_map}
-use Rattle.afs_ideal.specs.Images.{Image, value_of}
-use Rattle.afs_ideal.specs.Tables.{Table}
-use Rattle.afs_ideal.specs.Volumes.{Vnode}
-use Rattle.afs_shape.specs.Taking.{◌>>=◌}
-use Rattle.afs_records.specs.Durable.{allowed, changed_stored, counted_as, is_there, with_image, with_images, without, without_one, Stored}
-use Rattle.afs_dumps.specs.Dumps.{Dump}
-use Rattle.afs_dumps.specs.Fields.{Taken, took, cut_at, bad_at}
-use Rattle.afs_dumps.specs.Restores.{allowed_with, end_length, finished, finished_by, image_in, made_or, offset_in, restored, restored_vnodes, stored_with, vnode_by, with_timed, Timed}
-use Rattle.afs_dumps.specs.Streams.{dump_at}
+use Rattle.spec_ideal.specs.Images.{Image, value_of}
+use Rattle.spec_ideal.specs.Tables.{Table}
+use Rattle.spec_ideal.specs.Volumes.{Vnode}
+use Rattle.spec_shape.specs.Taking.{◌>>=◌}
+use Rattle.spec_records.specs.Durable.{allowed, changed_stored, counted_as, is_there, with_image, with_images, without, without_one, Stored}
+use Rattle.spec_dumps.specs.Dumps.{Dump}
+use Rattle.spec_dumps.specs.Fields.{FieldTaken, took, cut_at, bad_at}
+use Rattle.spec_dumps.specs.Restores.{allowed_with, end_length, restored_from, finished_by, image_in, made_or, offset_in, restored, restored_vnodes, stored_with, vnode_by, with_timed, Timed}
+use Rattle.spec_dumps.specs.Streams.{dump_at}
 
 abbrev pub as_new : Bool → Stored → Stored
 as_new b s = record s { is_new = b }
@@ -52,14 +52,14 @@ made_new : (b : Bool) (offset : ℕ) (o : Option Stored) → made_or offset (opt
 made_new b offset None = refl
 made_new b offset (Some s) = refl
 
-finished_by_new : (b : Bool) (id : ℕ) (s : Stored) (bytes : List ℕ) (r : Taken Dump) → finished_by id (as_new b s) bytes r ≡ renewed b (finished_by id s bytes r)
+finished_by_new : (b : Bool) (id : ℕ) (s : Stored) (bytes : List ℕ) (r : FieldTaken Dump) → finished_by id (as_new b s) bytes r ≡ renewed b (finished_by id s bytes r)
 finished_by_new b id s bytes (took d rest) =
     ap (made_or (length bytes - end_length)) (restored_new b id s d) ∙ made_new b (length bytes - end_length) (restored id s d)
 finished_by_new b id s bytes (cut_at left) = refl
 finished_by_new b id s bytes (bad_at left) = refl
 
-pub finished_new : (b : Bool) (id : ℕ) (s : Stored) (bytes : List ℕ) → finished id (as_new b s) bytes ≡ renewed b (finished id s bytes)
-unfolding finished
+pub finished_new : (b : Bool) (id : ℕ) (s : Stored) (bytes : List ℕ) → restored_from id (as_new b s) bytes ≡ renewed b (restored_from id s bytes)
+unfolding restored_from
 finished_new b id s bytes = finished_by_new b id s bytes (dump_at bytes)
 
 -- ---- a change

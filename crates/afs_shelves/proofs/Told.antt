@@ -2,16 +2,16 @@
 use Rattle.std.proofs.Common.{◌≡◌, ℕ, ◌+◌, ◌≤◌, List, [], ◌∷◌, ◌++◌, length, map, drop, Bool, true, false, Option, Some, None, min, refl, sym, ap, subst, ◌∙◌, slice_get, append_assoc, if◌then◌else◌}
 use Rattle.std.specs.Option.{option_map}
 use Rattle.std.proofs.lemmas.List.{append-nil, map-append}
-use Rattle.afs_history.specs.declared.lines.Line.{Line}
-use Rattle.afs_history.specs.declared.lines.Line.TheVariants as lines
+use Rattle.spec_history.specs.declared.lines.Line.{Line}
+use Rattle.spec_history.specs.declared.lines.Line.TheVariants as lines
 use Rattle.afs_num.specs.declared.histories.Version.{Version}
 use Rattle.afs_num.specs.declared.types.Node.{Node}
 use Rattle.afs_num.specs.declared.vnodes.Vnode as image
-use Rattle.afs_ideal.specs.SetUp.{first_versions}
-use Rattle.afs_ideal.specs.Tables.{Table, get}
-use Rattle.afs_ideal.specs.Volumes.{version_at}
-use Rattle.afs_records.specs.Durable.{is_flagged, Stored}
-use Rattle.afs_fold.specs.Effects.{lines_of, vanish_lines, vanished_lines, version_lines}
+use Rattle.spec_ideal.specs.SetUp.{first_versions}
+use Rattle.spec_ideal.specs.Tables.{Table, get}
+use Rattle.spec_ideal.specs.Volumes.{version_at}
+use Rattle.spec_records.specs.Durable.{is_flagged, Stored}
+use Rattle.spec_fold.specs.Effects.{lines_told_of, vanish_lines, vanished_lines, version_lines}
 use Rattle.afs_seats.specs.Seated.{seen_as}
 use Rattle.afs_volume.specs.Seen.{all_seen, seen}
 use Rattle.afs_volume.proofs.Upward.{same_length}
@@ -81,8 +81,8 @@ no_gone server i t ls none = ap (λ (r : Table Shelf). ls ++ rest_gone server r)
 
 -- ---- of the volume of a number
 
-pub lines_there : (tell : Stored → List Line) (o : Option Stored) (s : Stored) (ls ms : List Line) → o ≡ Some s → ms ≡ ls ++ tell s → ms ≡ ls ++ lines_of tell o
-lines_there tell o s ls ms there e = e ∙ ap (λ (q : Option Stored). ls ++ lines_of tell q) (sym there)
+pub lines_there : (tell : Stored → List Line) (o : Option Stored) (s : Stored) (ls ms : List Line) → o ≡ Some s → ms ≡ ls ++ tell s → ms ≡ ls ++ lines_told_of tell o
+lines_there tell o s ls ms there e = e ∙ ap (λ (q : Option Stored). ls ++ lines_told_of tell q) (sym there)
 
 -- ---- of lines that are in words as they are
 

@@ -3,11 +3,11 @@ use Rattle.std.specs.Prelude.{◌≡◌, ℕ, List, true, Option, Some, None, Ok
 use Rattle.afs_num.specs.Nodes.{node_number}
 use Rattle.afs_num.specs.declared.records.RecordBody.{RecordBody}
 use Rattle.afs_num.specs.declared.records.RecordBody.TheVariants as bodies
-use Rattle.afs_ideal.specs.Tables.{get}
-use Rattle.afs_records.specs.Durable.{Durable, Stored}
-use Rattle.afs_dumps.specs.Clones.{cloned, recloned}
-use Rattle.afs_dumps.specs.Restores.{finished}
-use Rattle.afs_fold.specs.Deeds.{can_take, created}
+use Rattle.spec_ideal.specs.Tables.{get}
+use Rattle.spec_records.specs.Durable.{Durable, Stored}
+use Rattle.spec_dumps.specs.Clones.{cloned, recloned}
+use Rattle.spec_dumps.specs.Restores.{restored_from}
+use Rattle.spec_fold.specs.Deeds.{can_take, created}
 use Rattle.afs_shelves.specs.Shelving.{is_new_in, shelved, stored_as}
 use Rattle.afs_shelves.specs.declared.deed.CloneDeed.{CloneDeed}
 use Rattle.afs_shelves.specs.declared.deed.Deed.{Deed}
@@ -49,7 +49,7 @@ IsCloneIn d c = (s : Stored) → get c.source d.volumes ≡ Some s
 
 -- the dump makes this volume of the one that has its number, and it is new where that is
 abbrev pub IsRestoredIn : Durable → List ℕ → Volume → Type 0
-IsRestoredIn d dump v = (s : Stored) → get v.head.id d.volumes ≡ Some s → finished v.head.id s dump ≡ Ok (stored_as s.is_new v)
+IsRestoredIn d dump v = (s : Stored) → get v.head.id d.volumes ≡ Some s → restored_from v.head.id s dump ≡ Ok (stored_as s.is_new v)
 
 abbrev pub IsMadeIn : Durable → Deed → Type 0
 IsMadeIn d (deeds.Create s) = IsCreated s

@@ -1,7 +1,7 @@
 -- Items in memory by numbers of their own.
 use Rattle.std.specs.Prelude.{◌≡◌, ℕ, [], ◌∷◌, ⊤}
 use Rattle.std.specs.Coded.{×_prop, Unit-prop, Coded-set, coded_ℕ}
-use Rattle.afs_ideal.specs.Tables.{Table}
+use Rattle.spec_ideal.specs.Tables.{Table}
 use Rattle.afs_shelves.specs.declared.shelf.Shelf.{Shelf}
 
 -- each item stands by its own number

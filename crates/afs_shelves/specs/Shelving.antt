@@ -3,8 +3,8 @@ use Rattle.std.specs.Prelude.{◌≡◌, ◌<◌, ℕ, Bool, false, Some}
 use Rattle.std.specs.Option.{option_map_or}
 use Rattle.afs_num.specs.Nodes.{node_number}
 use Rattle.afs_num.specs.declared.types.Node.{Node}
-use Rattle.afs_ideal.specs.Tables.{Table, get, set}
-use Rattle.afs_records.specs.Durable.{Durable, Stored, nothing_on}
+use Rattle.spec_ideal.specs.Tables.{Table, get, set}
+use Rattle.spec_records.specs.Durable.{Durable, Stored, nothing_on}
 use Rattle.afs_seats.specs.Seated.{seen_as}
 use Rattle.afs_volume.specs.Taking.{stored_of}
 use Rattle.afs_volume.specs.declared.volume.Volume.{Volume}

@@ -1,9 +1,9 @@
 -- Lines in words: a count that has no word is told as the last.
 use Rattle.std.specs.Prelude.{◌≡◌, List, map, min}
-use Rattle.afs_history.specs.declared.lines.Line.{Line}
-use Rattle.afs_history.specs.declared.lines.Line.TheVariants as lines
+use Rattle.spec_history.specs.declared.lines.Line.{Line}
+use Rattle.spec_history.specs.declared.lines.Line.TheVariants as lines
 use Rattle.afs_num.specs.declared.histories.Version.{Version}
-use Rattle.afs_ideal.specs.Operations.{last_count}
+use Rattle.spec_ideal.specs.Operations.{last_count}
 
 -- A server changes nothing whose next count has no word, so this is another version only for a record that no server made.
 abbrev pub version_within : Version → Version

@@ -2,9 +2,9 @@
 
 ghost use Rattle.std.specs.Prelude.{◌≡◌, ◌≤◌, ◌<◌, ◌+◌, Some, true, filter, is_some, not};
 ghost use Rattle.afs_num.specs.Nodes.{node_number};
-ghost use Rattle.afs_ideal.specs.Tables.{get, set, unset, AscendsFrom};
-ghost use Rattle.afs_records.specs.Durable.{is_flagged, Durable};
-ghost use Rattle.afs_fold.specs.Deeds.{done_by, flagged, has_volume, with_release};
+ghost use Rattle.spec_ideal.specs.Tables.{get, set, unset, AscendsFrom};
+ghost use Rattle.spec_records.specs.Durable.{is_flagged, Durable};
+ghost use Rattle.spec_fold.specs.Deeds.{done_by, flagged, has_volume, with_release};
 ghost use Rattle.afs_shelves.specs.Deeds.{create_body, deed_body, IsCloneIn, IsCreated, IsRestoredIn, SuitsDeed};
 ghost use Rattle.afs_shelves.specs.Shelving.{kept_on, shelved, stored_as, with_shelves, HasSeats, IsAltered, IsReplaced};
 ghost use Rattle.afs_shelves.specs.declared.deed.Deed.TheVariants as deeds;

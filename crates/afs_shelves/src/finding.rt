@@ -3,8 +3,8 @@
 ghost use Rattle.std.specs.Prelude.{◌≡◌, ◌≤◌, None, Some, [], slice_get, IfNone, IfSome, OnOk};
 ghost use Rattle.std.specs.Option.{option_copied, option_map};
 ghost use Rattle.afs_num.specs.Nodes.{node_number};
-ghost use Rattle.afs_ideal.specs.Tables.{get};
-ghost use Rattle.afs_fold.specs.Deeds.{has_volume, has_volume_room};
+ghost use Rattle.spec_ideal.specs.Tables.{get};
+ghost use Rattle.spec_fold.specs.Deeds.{has_volume, has_volume_room};
 ghost use Rattle.afs_shelves.specs.Shelving.{is_new_in, kept_on, shelved, stored_as, HasSeats};
 
 use crate::shelf::Shelf;

@@ -2,11 +2,11 @@
 
 ghost use Rattle.std.specs.Prelude.{◌≡◌, ◌++◌, ◌+◌, [], drop, IfOk, OnOk, if◌then◌else◌};
 ghost use Rattle.afs_num.specs.declared.records.RecordHead.{RecordHead};
-ghost use Rattle.afs_ideal.specs.SetUp.{first_versions};
-ghost use Rattle.afs_ideal.specs.Tables.{get};
-ghost use Rattle.afs_ideal.specs.Volumes.{version_at};
-ghost use Rattle.afs_records.specs.Durable.{Durable, is_flagged};
-ghost use Rattle.afs_fold.specs.Effects.{create_lines, effect_by, flag_lines, lines_of, made_lines, released_lines, turn_lines, vanish_lines, vanished_lines, version_lines, whole_lines};
+ghost use Rattle.spec_ideal.specs.SetUp.{first_versions};
+ghost use Rattle.spec_ideal.specs.Tables.{get};
+ghost use Rattle.spec_ideal.specs.Volumes.{version_at};
+ghost use Rattle.spec_records.specs.Durable.{Durable, is_flagged};
+ghost use Rattle.spec_fold.specs.Effects.{create_lines, effect_by, flag_lines, lines_told_of, made_lines, released_lines, turn_lines, vanish_lines, vanished_lines, version_lines, whole_lines};
 ghost use Rattle.afs_seats.specs.Seated.{seen_as};
 ghost use Rattle.afs_shelves.specs.Deeds.{deed_body, IsMadeIn};
 ghost use Rattle.afs_shelves.specs.Shelving.{kept_on, shelved, with_shelves};
@@ -16,11 +16,11 @@ ghost use Rattle.afs_volume.specs.Seen.{all_seen, seen};
 use crate::deed::Deed;
 use crate::shelf::Shelf;
 use crate::shelves::Shelves;
-use afs_history::lines::{Line, Lines};
 use afs_num::histories::Version;
 use afs_num::types::{Fid, Mem, Node};
 use afs_num::vnodes::Vnode;
 use afs_volume::Volume;
+use spec_history::lines::{Line, Lines};
 
 /// The flag of a volume that goes at the next start.
 const DELETE_ON_SALVAGE: u32 = 1;
@@ -214,7 +214,7 @@ impl Shelves {
 
     /// Tells that the volume of this number goes, if it is there.
     fn tell_deleted(&self, server: Node, id: u32, lines: &mut Lines) -> Mem<()>
-        ensures told { OnOk result (lines.new ≡ lines.old ++ lines_of (vanish_lines server id) (get id (kept_on self.now).volumes)) }
+        ensures told { OnOk result (lines.new ≡ lines.old ++ lines_told_of (vanish_lines server id) (get id (kept_on self.now).volumes)) }
         ensures words { OnOk result (AreInWords lines.old → AreInWords lines.new) }
     {
         match self.shelf(id) {
@@ -225,7 +225,7 @@ impl Shelves {
 
     /// Tells that the volume of this number gets these flags, if it is there.
     fn tell_set(&self, server: Node, id: u32, flags: u32, lines: &mut Lines) -> Mem<()>
-        ensures told { OnOk result (lines.new ≡ lines.old ++ lines_of (flag_lines server id flags) (get id (kept_on self.now).volumes)) }
+        ensures told { OnOk result (lines.new ≡ lines.old ++ lines_told_of (flag_lines server id flags) (get id (kept_on self.now).volumes)) }
         ensures words { OnOk result (AreInWords lines.old → AreInWords lines.new) }
     {
         match self.shelf(id) {

@@ -3,10 +3,10 @@ use Rattle.std.proofs.Common.{◌≡◌, ℕ, Bool, true, false, cond, List, [],
 use Rattle.std.specs.Prelude.{slice_get}
 use Rattle.std.specs.List.{AllByRecursion}
 use Rattle.afs_num.specs.declared.location_calls.LocSite.{LocSite}
-use Rattle.afs_adminrows.specs.Entries.{is_read_only_site}
-use Rattle.afs_adminrows.specs.Releasing.{server_of}
-use Rattle.afs_shape.specs.Tables.{IsServer, IsSite}
-use Rattle.afs_copyrows.specs.Sites.{behind_first}
+use Rattle.spec_adminrows.specs.Entries.{is_read_only_site}
+use Rattle.spec_adminrows.specs.Releasing.{server_of}
+use Rattle.spec_shape.specs.Tables.{IsServer, IsSite}
+use Rattle.spec_copyrows.specs.Sites.{behind_first}
 
 servers_by : (b : Bool) (s : LocSite) (rest : List LocSite) → IsSite s → AllByRecursion IsServer (map server_of rest) → AllByRecursion IsServer (map server_of (cond b (s ∷ rest) rest))
 servers_by true s rest one all = (one, all)

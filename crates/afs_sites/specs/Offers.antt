@@ -1,7 +1,7 @@
 -- What a reply of a site offers, as the program keeps it.
 use Rattle.std.specs.Prelude.{ℕ}
 use Rattle.std.specs.List.{list_any}
-use Rattle.afs_copyrows.specs.CopyRow.{is_over, Offer}
+use Rattle.spec_copyrows.specs.CopyRow.{is_over, Offer}
 use Rattle.afs_sites.specs.declared.offers.Offered.{Offered}
 
 -- a release, and whether a promise beside it has ended by now

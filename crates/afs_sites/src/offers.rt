@@ -3,7 +3,7 @@
 ghost use Rattle.std.specs.Prelude.{◌≡◌, map};
 ghost use Rattle.std.specs.List.{list_any};
 ghost use Rattle.std.specs.Option.{option_map};
-ghost use Rattle.afs_copyrows.specs.CopyRow.{expiry_in, is_over, offer_in};
+ghost use Rattle.spec_copyrows.specs.CopyRow.{expiry_in, is_over, offer_in};
 ghost use Rattle.afs_sites.specs.Offers.{offered_at};
 
 use afs_num::calls::{AfsCallBack, AfsVolSync, FsReply};

@@ -1,8 +1,8 @@
 //! The releases that a client has seen.
 
 ghost use Rattle.std.specs.Prelude.{◌≡◌, ◌<◌, [], IfOk, Some, length, slice_get};
-ghost use Rattle.afs_ideal.specs.Tables.{get, set, AscendsFrom};
-ghost use Rattle.afs_rows.specs.ClientRow.{number_or_none};
+ghost use Rattle.spec_ideal.specs.Tables.{get, set, AscendsFrom};
+ghost use Rattle.spec_rows.specs.ClientRow.{number_or_none};
 
 use afs_num::types::Mem;
 use afs_seats::Seats;
@@ -17,7 +17,7 @@ pub struct Releases {
 
 impl Model for Releases {
     ghost use Rattle.std.specs.Prelude.{ℕ};
-    ghost use Rattle.afs_ideal.specs.Tables.{Table};
+    ghost use Rattle.spec_ideal.specs.Tables.{Table};
 
     ghost Value = { Table ℕ };
 

@@ -4,17 +4,17 @@ ghost use Rattle.std.specs.Prelude.{◌≡◌, Some, IfOk, IfSome, filter, map, 
 ghost use Rattle.std.specs.List.{AllByRecursion};
 ghost use Rattle.std.specs.Option.{option_copied, option_map};
 ghost use Rattle.afs_acts.specs.Named.{operand_at};
-ghost use Rattle.afs_adminrows.specs.Entries.{is_read_only_site};
-ghost use Rattle.afs_adminrows.specs.Releasing.{server_of};
-ghost use Rattle.afs_copyrows.specs.Sites.{behind_first, code_or_dead, entry_at, is_read_only_of, left_line, new_round, round_begun, round_by_entry, round_or};
+ghost use Rattle.spec_adminrows.specs.Entries.{is_read_only_site};
+ghost use Rattle.spec_adminrows.specs.Releasing.{server_of};
+ghost use Rattle.spec_copyrows.specs.Sites.{behind_first, code_or_dead, entry_located, is_read_only_of, left_line, new_round, round_begun, round_by_entry, round_or};
 ghost use Rattle.afs_num.specs.Nodes.{IsNode};
-ghost use Rattle.afs_rows.specs.Going.{operand_in};
-ghost use Rattle.afs_shape.specs.Tables.{IsServer};
+ghost use Rattle.spec_rows.specs.Going.{operand_in};
+ghost use Rattle.spec_shape.specs.Tables.{IsServer};
 
 use afs_acts::{Going, Location, Place, find_place};
-use afs_history::lines::Line;
 use afs_num::location_calls::{LocEntry, LocSite};
 use afs_num::types::{Code, Mem, Node};
+use spec_history::lines::Line;
 use std::alloc::Global;
 use std::marker::Model;
 
@@ -36,8 +36,8 @@ pub struct Round {
 
 impl Model for Round {
     ghost use Rattle.std.specs.List.{AllByRecursion};
-    ghost use Rattle.afs_copyrows.specs.Sites.{Round};
-    ghost use Rattle.afs_shape.specs.Tables.{IsServer};
+    ghost use Rattle.spec_copyrows.specs.Sites.{Round};
+    ghost use Rattle.spec_shape.specs.Tables.{IsServer};
 
     ghost Value = { Round };
 
@@ -190,7 +190,7 @@ impl Round {
 
 /// What the table has of an operand.
 fn entry_at<'a>(table: &'a [Location], place: Option<Place<'_>>) -> Option<&'a Location>
-    ensures { option_copied result ≡ entry_at table.now (option_map operand_at place.entry) }
+    ensures { option_copied result ≡ entry_located table.now (option_map operand_at place.entry) }
 {
     match place {
         Some(place) => find_place(table, place),
@@ -229,7 +229,7 @@ pub fn round_for(
     going: &Going,
     volume: u32,
 ) -> Mem<Option<Round>>
-    ensures { IfOk result (λ r. r ≡ round_or (round_begun volume (option_copied begun.entry)) (round_by_entry volume (entry_at table.now (operand_in going.now volume)))) }
+    ensures { IfOk result (λ r. r ≡ round_or (round_begun volume (option_copied begun.entry)) (round_by_entry volume (entry_located table.now (operand_in going.now volume)))) }
 {
     match round_begun(alloc, volume, begun)? {
         Some(round) => Ok(Some(round)),

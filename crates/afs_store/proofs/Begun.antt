@@ -6,7 +6,7 @@ use Rattle.afs_store.specs.Folding.{Folding}
 use Rattle.afs_store.specs.Folds.{folded_from, place_length, taken_as}
 use Rattle.afs_store.specs.Sound.{IsSound}
 use Rattle.afs_store.specs.Stores.{IsKept, StandFor}
-use Rattle.afs_shape.specs.Taking.{◌>>=◌}
+use Rattle.spec_shape.specs.Taking.{◌>>=◌}
 use Rattle.afs_store.proofs.Attached.{kept_by}
 use Rattle.afs_store.proofs.Folding.{folded_is, some_of}
 

@@ -2,7 +2,7 @@
 use Rattle.std.proofs.Common.{◌≡◌, ℕ, ◌+◌, ◌<◌, Bool, true, false, not, List, [], ◌∷◌, ◌++◌, length, Option, Some, None, is_some, nat_lt, if◌then◌else◌, refl, sym, ap, subst, ◌∙◌, arith, inl, inr}
 use Rattle.std.proofs.lemmas.Bool.{lt-ltb, ltb-true}
 use Rattle.std.specs.Option.{option_map}
-use Rattle.afs_shape.specs.Taking.{◌>>=◌}
+use Rattle.spec_shape.specs.Taking.{◌>>=◌}
 use Rattle.afs_journal.specs.Records.{whole_records, IsBeforeOrAfter}
 use Rattle.afs_store.specs.Folding.{Folding}
 use Rattle.afs_store.specs.Folds.{all_folded, has_room, place_length, taken_as, IsBadAt, TakesOne}

@@ -4,8 +4,8 @@ use Rattle.std.proofs.lemmas.Bool.Decides.{nat_tests}
 use Rattle.std.specs.Option.{option_copied, option_map}
 use Rattle.std.specs.Prelude.{Err, IfErr, Ok, Result}
 use Rattle.afs_num.specs.declared.types.Node.{Node}
-use Rattle.afs_history.specs.declared.lines.Line.{Line}
-use Rattle.afs_shape.specs.Taking.{◌>>=◌}
+use Rattle.spec_history.specs.declared.lines.Line.{Line}
+use Rattle.spec_shape.specs.Taking.{◌>>=◌}
 use Rattle.afs_journal.specs.Records.{blocks, journal_bytes, place_of}
 use Rattle.afs_xdr.specs.Words.{word}
 use Rattle.afs_store.specs.Folding.{Folding}

@@ -1,6 +1,6 @@
 -- Records that change what a disk keeps.
 use Rattle.std.specs.Prelude.{ℕ, List, Bool, Option}
-use Rattle.afs_history.specs.declared.lines.Line.{Line}
+use Rattle.spec_history.specs.declared.lines.Line.{Line}
 use Rattle.afs_num.specs.declared.types.Node.{Node}
 
 -- Records R change what a disk keeps, which is T. In memory it stands as S, and P is a record that was made ready to be done

@@ -1,9 +1,9 @@
 -- The fold of a disk's records, one after the other.
 use Rattle.std.specs.Prelude.{◌≡◌, ℕ, ◌+◌, List, [], ◌∷◌, Bool, true, false, not, Option, Some, None, length, nat_lt, if◌then◌else◌}
 use Rattle.std.specs.Option.{option_map}
-use Rattle.afs_history.specs.declared.lines.Line.{Line}
+use Rattle.spec_history.specs.declared.lines.Line.{Line}
 use Rattle.afs_num.specs.declared.types.Node.{Node}
-use Rattle.afs_shape.specs.Taking.{◌>>=◌}
+use Rattle.spec_shape.specs.Taking.{◌>>=◌}
 use Rattle.afs_store.specs.Folding.{Folding}
 
 -- ---- lengths

@@ -4,7 +4,7 @@ use Rattle.afs_num.specs.declared.types.Node.{Node}
 use Rattle.afs_num.specs.declared.faults.StoreFault.{StoreFault}
 use Rattle.afs_num.specs.declared.faults.StoreFault.TheVariants as fault
 use Rattle.afs_disk.specs.Disk.{LeavesOnly, PassesAll, Setting}
-use Rattle.afs_journal.specs.Log.{IsJournal, Log, Rests, StandsAsBefore, Taken}
+use Rattle.afs_journal.specs.Log.{IsJournal, Log, Rests, StandsAsBefore, TakesUpDisk}
 use Rattle.afs_journal.specs.Records.{whole_records}
 use Rattle.afs_store.specs.Opening.{IsAttachFault, IsFoldFault}
 use Rattle.afs_store.specs.Stores.{IsCaused, Keeps, StoreOf}
@@ -21,7 +21,7 @@ disk_after (Err e) = e.1
 pub record IsTakenUp {D : Type 0} (seen : D → Option (List ℕ)) (may_leave : D → List ℕ → Type 0) (moment : D → ℕ) (left_since : D → ℕ → List ℕ → Type 0) (faults own_faults calls : D → ℕ) (setting : D → Setting) (limit : D → ℕ) (old new : D) : Type 0 where
   pub told : IsSome (seen new) ↔ IsSome (seen old)
   pub any_moment : (bytes : List ℕ) → seen old ≡ Some bytes → LeavesOnly moment left_since old new (StandsAsBefore (may_leave old))
-  pub taken : Taken faults own_faults calls setting old new
+  pub taken : TakesUpDisk faults own_faults calls setting old new
   pub same_limit : limit new ≡ limit old
 
 -- ---- what came of it

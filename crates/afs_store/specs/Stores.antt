@@ -75,3 +75,10 @@ IsEarly {T} (Err refusal) same = same
 -- nothing but the room of the disk is another
 abbrev pub SameBut : {D R T : Type 0} → StoreOf D R T → StoreOf D R T → Type 0
 SameBut old new = new ≡ record old { disk = new.disk }
+
+-- set-up is refused where the record doesn't fit, the disk failed or memory was wanting
+abbrev pub IsSetUpFault : StoreFault → Type 0
+IsSetUpFault (faults.Full used capacity) = Unit {0}
+IsSetUpFault faults.Failed = Unit {0}
+IsSetUpFault faults.OutOfMemory = Unit {0}
+IsSetUpFault refusal = ⊥

@@ -5,8 +5,8 @@ ghost use Rattle.afs_store.specs.Folds.{IsBadAt, TakesOne, TellsOne};
 ghost use Rattle.afs_store.specs.Waiting.{KeepsMemory};
 ghost use Rattle.afs_store.specs.declared.fold.Unfit.TheVariants.{Bad};
 
-use afs_history::lines::Lines;
 use afs_num::types::{Mem, Node};
+use spec_history::lines::Lines;
 use std::alloc::Global;
 
 /// Why a record isn't taken: it can't be, or memory ran out.

@@ -15,11 +15,11 @@ use crate::replaying::fold;
 use crate::store::Store;
 use crate::taking_up::take_up;
 use afs_disk::Disk;
-use afs_history::lines::Lines;
 use afs_journal::Journal;
 use afs_num::faults::StoreFault;
 use afs_num::records::Mark;
 use afs_num::types::Node;
+use spec_history::lines::Lines;
 use std::alloc::Global;
 
 /// Whether the mark that was told is that of the disk.

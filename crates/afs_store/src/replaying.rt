@@ -7,10 +7,10 @@ ghost use Rattle.afs_store.specs.Folds.{places_length, IsBadAt, IsFront, TakesOn
 ghost use Rattle.afs_store.specs.Opening.{IsFoldFault};
 
 use crate::fold::{Fold, Unfit};
-use afs_history::lines::Lines;
 use afs_journal::Found;
 use afs_num::faults::StoreFault;
 use afs_num::types::Node;
+use spec_history::lines::Lines;
 use std::alloc::Global;
 
 /// Takes the record of this number; the lines that it tells, where they are wanted.

@@ -6,20 +6,20 @@ use Rattle.std.proofs.Math.ListN.{get_or}
 use Rattle.afs_num.specs.declared.types.Parcel.{Parcel}
 use Rattle.afs_num.specs.declared.histories.Actor.{Actor}
 use Rattle.afs_num.specs.declared.histories.Actor.TheVariants as actors
-use Rattle.afs_history.specs.declared.lines.Entry as kept
-use Rattle.afs_history.specs.declared.lines.Line.{Line}
-use Rattle.afs_model.specs.Heads.{is_zero}
-use Rattle.afs_model.proofs.Texts.{parcels_length}
-use Rattle.afs_rows.specs.Runs.{Entry}
-use Rattle.afs_text.specs.Telling.{messages_of, sent_by, told, AreRead}
+use Rattle.spec_history.specs.declared.lines.Entry as kept
+use Rattle.spec_history.specs.declared.lines.Line.{Line}
+use Rattle.spec_model.specs.Heads.{is_zero}
+use Rattle.spec_model.proofs.Texts.{parcels_length}
+use Rattle.spec_rows.specs.Runs.{Entry}
+use Rattle.afs_text.specs.Telling.{messages_of, sent_by, entries_as_told, AreRead}
 use Rattle.afs_text.proofs.Sent.{read_take}
-use Rattle.afs_summary.specs.Counting.{a_change, an_answer, counts_kept, counts_of, item, neither, nothing_yet, with_answered, with_entry, with_history, with_item, with_kept, with_line, with_lines, with_step, AreCounted, EntriesAreCounted, Fits, Gives, Item, NoneIsVoid}
+use Rattle.afs_summary.specs.Counting.{a_change, an_answer, counts_kept, counts_of, item, neither, nothing_yet, with_answered, entry_counted, with_history, with_item, with_kept, line_counted, with_lines, with_step, AreCounted, EntriesAreCounted, Fits, Gives, Item, NoneIsVoid}
 use Rattle.afs_summary.specs.declared.counts.Counts.{Counts}
 
 -- further entries are counted behind the others
 pub kept_goes_on : (c : Counts) (es more : List kept.Entry) → with_kept c (es ++ more) ≡ with_kept (with_kept c es) more
 kept_goes_on c [] more = refl
-kept_goes_on c (e ∷ es) more = kept_goes_on (with_entry c e.actor e.lines e.sent) es more
+kept_goes_on c (e ∷ es) more = kept_goes_on (entry_counted c e.actor e.lines e.sent) es more
 
 -- ---- no number falls
 
@@ -62,14 +62,14 @@ item_grows c neither = same c
 
 lines_grow : (c : Counts) (ls : List Line) → IsBelow c (with_lines c ls)
 lines_grow c [] = same c
-lines_grow c (l ∷ ls) = then_below c (with_line c l) (with_lines c (l ∷ ls)) (item_grows c (item l)) (lines_grow (with_line c l) ls)
+lines_grow c (l ∷ ls) = then_below c (line_counted c l) (with_lines c (l ∷ ls)) (item_grows c (item l)) (lines_grow (line_counted c l) ls)
 
 step_grows : (c : Counts) (ls : List Line) (sent : ℕ) → IsBelow c (with_step c ls sent)
 step_grows c ls sent =
     let begun : Counts = record c { entries = c.entries + 1; sent = c.sent + sent } in
     then_below c begun (with_step c ls sent) (record { entries = omega arith; sent = omega arith; changes = omega arith; zero = omega arith; other = omega arith }) (lines_grow begun ls)
 
-entry_grows : (c : Counts) (actor : Actor) (ls : List Line) (sent : ℕ) → IsBelow c (with_entry c actor ls sent)
+entry_grows : (c : Counts) (actor : Actor) (ls : List Line) (sent : ℕ) → IsBelow c (entry_counted c actor ls sent)
 entry_grows c actors.Nobody ls sent = same c
 entry_grows c actors.Clock ls sent = step_grows c ls sent
 entry_grows c (actors.Node n) ls sent = step_grows c ls sent
@@ -77,7 +77,7 @@ entry_grows c (actors.Node n) ls sent = step_grows c ls sent
 entries_grow : (c : Counts) (es : List kept.Entry) → IsBelow c (with_kept c es)
 entries_grow c [] = same c
 entries_grow c (e ∷ es) =
-    then_below c (with_entry c e.actor e.lines e.sent) (with_kept c (e ∷ es)) (entry_grows c e.actor e.lines e.sent) (entries_grow (with_entry c e.actor e.lines e.sent) es)
+    then_below c (entry_counted c e.actor e.lines e.sent) (with_kept c (e ∷ es)) (entry_grows c e.actor e.lines e.sent) (entries_grow (entry_counted c e.actor e.lines e.sent) es)
 
 -- what is too long stays so
 pub lines_too_long : (c : Counts) (ls : List Line) → (Fits c → ⊥) → Fits (with_lines c ls) → ⊥
@@ -95,16 +95,16 @@ no_room : (c : Counts) (r : Option Counts) → Gives c r → r ≡ None → Fits
 no_room c r gives none = subst (λ (o : Option Counts). Gives c o) none gives
 
 -- at the line of this place
-pub line_stops : (c whole : Counts) (ls : List Line) (i : ℕ) (l : Line) (r out : Option Counts) → i < length ls → l ≡ get_or ls i l → with_lines c (drop i ls) ≡ whole → Gives (with_line c l) r → r ≡ None → out ≡ None → Gives whole out
+pub line_stops : (c whole : Counts) (ls : List Line) (i : ℕ) (l : Line) (r out : Option Counts) → i < length ls → l ≡ get_or ls i l → with_lines c (drop i ls) ≡ whole → Gives (line_counted c l) r → r ≡ None → out ≡ None → Gives whole out
 line_stops c whole ls i l r out within is all gives none out_none =
-    let here : with_lines (with_line c l) (drop (i + 1) ls) ≡ whole = ap (λ (x : Line). with_lines (with_line c x) (drop (i + 1) ls)) is ∙ (sym (ap (with_lines c) (drop_more ls i l within)) ∙ all) in
-    stopped whole out (subst (λ (x : Counts). Fits x → ⊥) here (lines_too_long (with_line c l) (drop (i + 1) ls) (no_room (with_line c l) r gives none))) out_none
+    let here : with_lines (line_counted c l) (drop (i + 1) ls) ≡ whole = ap (λ (x : Line). with_lines (line_counted c x) (drop (i + 1) ls)) is ∙ (sym (ap (with_lines c) (drop_more ls i l within)) ∙ all) in
+    stopped whole out (subst (λ (x : Counts). Fits x → ⊥) here (lines_too_long (line_counted c l) (drop (i + 1) ls) (no_room (line_counted c l) r gives none))) out_none
 
 -- at the entry of this place
-pub entry_stops : (c whole : Counts) (es : List kept.Entry) (i : ℕ) (e : kept.Entry) (r out : Option Counts) → i < length es → e ≡ get_or es i e → with_kept c (drop i es) ≡ whole → Gives (with_entry c e.actor e.lines e.sent) r → r ≡ None → out ≡ None → Gives whole out
+pub entry_stops : (c whole : Counts) (es : List kept.Entry) (i : ℕ) (e : kept.Entry) (r out : Option Counts) → i < length es → e ≡ get_or es i e → with_kept c (drop i es) ≡ whole → Gives (entry_counted c e.actor e.lines e.sent) r → r ≡ None → out ≡ None → Gives whole out
 entry_stops c whole es i e r out within is all gives none out_none =
-    let here : with_kept (with_entry c e.actor e.lines e.sent) (drop (i + 1) es) ≡ whole = ap (λ (x : kept.Entry). with_kept (with_entry c x.actor x.lines x.sent) (drop (i + 1) es)) is ∙ (sym (ap (with_kept c) (drop_more es i e within)) ∙ all) in
-    stopped whole out (subst (λ (x : Counts). Fits x → ⊥) here (entries_too_long (with_entry c e.actor e.lines e.sent) (drop (i + 1) es) (no_room (with_entry c e.actor e.lines e.sent) r gives none))) out_none
+    let here : with_kept (entry_counted c e.actor e.lines e.sent) (drop (i + 1) es) ≡ whole = ap (λ (x : kept.Entry). with_kept (entry_counted c x.actor x.lines x.sent) (drop (i + 1) es)) is ∙ (sym (ap (with_kept c) (drop_more es i e within)) ∙ all) in
+    stopped whole out (subst (λ (x : Counts). Fits x → ⊥) here (entries_too_long (entry_counted c e.actor e.lines e.sent) (drop (i + 1) es) (no_room (entry_counted c e.actor e.lines e.sent) r gives none))) out_none
 
 -- at the numbers of the step itself
 pub step_stops : (c : Counts) (ls : List Line) (sent : ℕ) (out : Option Counts) → (Fits (record c { entries = c.entries + 1; sent = c.sent + sent }) → ⊥) → out ≡ None → Gives (with_step c ls sent) out
@@ -125,23 +125,23 @@ counts_no_more so_far before more none counted =
     let too_long : Fits (counts_kept before) → ⊥ = subst (λ (o : Option Counts). AreCounted o before) none counted in
     subst (λ (x : Counts). Fits x → ⊥) (sym (kept_goes_on nothing_yet before more)) (entries_too_long (counts_kept before) more too_long)
 
-told_from : (c : Counts) (ps : List Parcel) (es : List kept.Entry) → AreRead ps → sent_by es ≤ length ps → with_history c (told ps es) ≡ with_kept c es
+told_from : (c : Counts) (ps : List Parcel) (es : List kept.Entry) → AreRead ps → sent_by es ≤ length ps → with_history c (entries_as_told ps es) ≡ with_kept c es
 told_from c ps [] read enough = refl
 told_from c ps (e ∷ es) read enough =
     let within : e.sent ≤ length ps = omega (arith, enough) in
     let parts = read_take e.sent ps read in
     let size : length (messages_of (take e.sent ps)) ≡ e.sent = sym (parcels_length (take e.sent ps) (messages_of (take e.sent ps)) parts.0) ∙ length-take-le e.sent ps within in
-    ap (λ (n : ℕ). with_history (with_entry c e.actor e.lines n) (told (drop e.sent ps) es)) size
-    ∙ told_from (with_entry c e.actor e.lines e.sent) (drop e.sent ps) es parts.1 (omega (arith, enough, length-drop e.sent ps))
+    ap (λ (n : ℕ). with_history (entry_counted c e.actor e.lines n) (entries_as_told (drop e.sent ps) es)) size
+    ∙ told_from (entry_counted c e.actor e.lines e.sent) (drop e.sent ps) es parts.1 (omega (arith, enough, length-drop e.sent ps))
 
-pub told_counts : (ps : List Parcel) (es : List kept.Entry) → AreRead ps → sent_by es ≡ length ps → counts_of (told ps es) ≡ counts_kept es
+pub told_counts : (ps : List Parcel) (es : List kept.Entry) → AreRead ps → sent_by es ≡ length ps → counts_of (entries_as_told ps es) ≡ counts_kept es
 told_counts ps es read all = told_from nothing_yet ps es read (omega (arith, all))
 
 -- no count asks for the volumes that an entry brings
 bare_from : (bare : Entry → Entry) → ((e : Entry) → record { actor = (bare e).actor; lines = (bare e).lines; sent = (bare e).sent; volumes = e.volumes } ≡ e) → (c : Counts) (h : List Entry) → with_history c (map bare h) ≡ with_history c h
 bare_from bare same c [] = refl
 bare_from bare same c (e ∷ es) =
-    ap (λ (x : Entry). with_history (with_entry c x.actor x.lines (length x.sent)) (map bare es)) (same e) ∙ bare_from bare same (with_entry c e.actor e.lines (length e.sent)) es
+    ap (λ (x : Entry). with_history (entry_counted c x.actor x.lines (length x.sent)) (map bare es)) (same e) ∙ bare_from bare same (entry_counted c e.actor e.lines (length e.sent)) es
 
 pub bare_counts : (bare : Entry → Entry) → ((e : Entry) → record { actor = (bare e).actor; lines = (bare e).lines; sent = (bare e).sent; volumes = e.volumes } ≡ e) → (h told : List Entry) → map bare h ≡ told → counts_of told ≡ counts_of h
 bare_counts bare same h told is = sym (ap counts_of is) ∙ bare_from bare same nothing_yet h
@@ -159,9 +159,9 @@ item_keeps c neither = refl
 
 lines_keep : (c : Counts) (ls : List Line) → (with_lines c ls).entries ≡ c.entries
 lines_keep c [] = refl
-lines_keep c (l ∷ ls) = lines_keep (with_line c l) ls ∙ item_keeps c (item l)
+lines_keep c (l ∷ ls) = lines_keep (line_counted c l) ls ∙ item_keeps c (item l)
 
-one_more : (c : Counts) (actor : Actor) (ls : List Line) (sent : ℕ) → (actor ≡ actors.Nobody → ⊥) → (with_entry c actor ls sent).entries ≡ c.entries + 1
+one_more : (c : Counts) (actor : Actor) (ls : List Line) (sent : ℕ) → (actor ≡ actors.Nobody → ⊥) → (entry_counted c actor ls sent).entries ≡ c.entries + 1
 one_more c actors.Nobody ls sent some = absurd (some refl)
 one_more c actors.Clock ls sent some = lines_keep (record c { entries = c.entries + 1; sent = c.sent + sent }) ls
 one_more c (actors.Node n) ls sent some = lines_keep (record c { entries = c.entries + 1; sent = c.sent + sent }) ls
@@ -169,7 +169,7 @@ one_more c (actors.Node n) ls sent some = lines_keep (record c { entries = c.ent
 all_count : (c : Counts) (h : List Entry) → NoneIsVoid h → (with_history c h).entries ≡ c.entries + length h
 all_count c [] none = omega arith
 all_count c (e ∷ es) none =
-    omega (arith, all_count (with_entry c e.actor e.lines (length e.sent)) es none.1, one_more c e.actor e.lines (length e.sent) none.0)
+    omega (arith, all_count (entry_counted c e.actor e.lines (length e.sent)) es none.1, one_more c e.actor e.lines (length e.sent) none.0)
 
 pub entries_counted : EntriesAreCounted
 entries_counted history none =

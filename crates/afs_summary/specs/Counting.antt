@@ -2,11 +2,11 @@
 use Rattle.std.specs.Prelude.{◌≡◌, ◌<◌, ◌^◌, ℕ, ◌+◌, List, [], ◌∷◌, ℤ, pos, length, Bool, true, false, Option, Some, None}
 use Rattle.afs_num.specs.declared.histories.Actor.{Actor}
 use Rattle.afs_num.specs.declared.histories.Actor.TheVariants as actors
-use Rattle.afs_history.specs.declared.lines.Entry as kept
-use Rattle.afs_history.specs.declared.lines.Line.{Line}
-use Rattle.afs_history.specs.declared.lines.Line.TheVariants as lines
-use Rattle.afs_model.specs.Heads.{is_zero}
-use Rattle.afs_rows.specs.Runs.{Entry}
+use Rattle.spec_history.specs.declared.lines.Entry as kept
+use Rattle.spec_history.specs.declared.lines.Line.{Line}
+use Rattle.spec_history.specs.declared.lines.Line.TheVariants as lines
+use Rattle.spec_model.specs.Heads.{is_zero}
+use Rattle.spec_rows.specs.Runs.{Entry}
 use Rattle.afs_summary.specs.declared.counts.Counts.{Counts}
 
 abbrev pub nothing_yet : Counts
@@ -45,12 +45,12 @@ with_item c a_change = with_change c
 with_item c (an_answer code) = with_answer c code
 with_item c neither = c
 
-abbrev pub with_line : Counts → Line → Counts
-with_line c line = with_item c (item line)
+abbrev pub line_counted : Counts → Line → Counts
+line_counted c line = with_item c (item line)
 
 abbrev pub with_lines : Counts → List Line → Counts
 with_lines c [] = c
-with_lines c (line ∷ more) = with_lines (with_line c line) more
+with_lines c (line ∷ more) = with_lines (line_counted c line) more
 
 -- ---- entries
 
@@ -59,14 +59,14 @@ abbrev pub with_step : Counts → List Line → ℕ → Counts
 with_step c lines sent = with_lines (record c { entries = c.entries + 1; sent = c.sent + sent }) lines
 
 -- an entry of nobody is that of an event that was void: it counts for nothing
-abbrev pub with_entry : Counts → Actor → List Line → ℕ → Counts
-with_entry c actors.Nobody lines sent = c
-with_entry c actor lines sent = with_step c lines sent
+abbrev pub entry_counted : Counts → Actor → List Line → ℕ → Counts
+entry_counted c actors.Nobody lines sent = c
+entry_counted c actor lines sent = with_step c lines sent
 
 -- the entries of a history
 abbrev pub with_history : Counts → List Entry → Counts
 with_history c [] = c
-with_history c (e ∷ es) = with_history (with_entry c e.actor e.lines (length e.sent)) es
+with_history c (e ∷ es) = with_history (entry_counted c e.actor e.lines (length e.sent)) es
 
 abbrev pub counts_of : List Entry → Counts
 counts_of history = with_history nothing_yet history
@@ -83,7 +83,7 @@ EntriesAreCounted = (history : List Entry) → NoneIsVoid history → (counts_of
 -- and as the program keeps them
 abbrev pub with_kept : Counts → List kept.Entry → Counts
 with_kept c [] = c
-with_kept c (e ∷ es) = with_kept (with_entry c e.actor e.lines e.sent) es
+with_kept c (e ∷ es) = with_kept (entry_counted c e.actor e.lines e.sent) es
 
 abbrev pub counts_kept : List kept.Entry → Counts
 counts_kept entries = with_kept nothing_yet entries

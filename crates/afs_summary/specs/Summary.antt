@@ -1,9 +1,9 @@
 -- The summary of a run of the script that is made for a number.
 use Rattle.std.specs.Prelude.{ℕ, List, ◌++◌, codes, length}
 use Rattle.std.specs.Fmt.{decimal}
-use Rattle.afs_history.specs.declared.lines.Entry as kept
-use Rattle.afs_history.specs.declared.scripts.Script.{Script}
-use Rattle.afs_rows.specs.Runs.{Entry}
+use Rattle.spec_history.specs.declared.lines.Entry as kept
+use Rattle.spec_history.specs.declared.scripts.Script.{Script}
+use Rattle.spec_rows.specs.Runs.{Entry}
 use Rattle.afs_summary.specs.Counting.{counts_kept, counts_of}
 use Rattle.afs_summary.specs.declared.summary.Summary.{Summary}
 

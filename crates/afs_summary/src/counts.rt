@@ -1,12 +1,12 @@
 //! A history is counted, entry by entry.
 
 ghost use Rattle.std.specs.Prelude.{◌≡◌, ◌++◌, List};
-ghost use Rattle.afs_history.specs.declared.lines.Entry as kept;
-ghost use Rattle.afs_summary.specs.Counting.{AreCounted, Gives, with_answer, with_change, with_entry, with_kept, with_line, with_lines, with_step};
+ghost use Rattle.spec_history.specs.declared.lines.Entry as kept;
+ghost use Rattle.afs_summary.specs.Counting.{AreCounted, Gives, with_answer, with_change, entry_counted, with_kept, line_counted, with_lines, with_step};
 
-use afs_history::lines::{Entry, Line};
 use afs_num::histories::Actor;
 use afs_num::types::Code;
+use spec_history::lines::{Entry, Line};
 
 /// How many entries a history has, but for those in which nothing happened; how many messages it sent, and how many changes and how
 /// many answers it tells, those that are 0 and the others.
@@ -63,7 +63,7 @@ impl Counts {
 
     /// One line more.
     fn with_line(self, line: &Line) -> Option<Counts>
-        ensures { Gives (with_line self line.now) result }
+        ensures { Gives (line_counted self line.now) result }
     {
         match line {
             Line::Change {
@@ -107,7 +107,7 @@ impl Counts {
 
     /// One entry more. One in which nothing happened counts for nothing.
     fn with_entry(self, entry: &Entry) -> Option<Counts>
-        ensures { Gives (with_entry self entry.now.actor entry.now.lines entry.now.sent) result }
+        ensures { Gives (entry_counted self entry.now.actor entry.now.lines entry.now.sent) result }
     {
         match entry.actor {
             Actor::Nobody => Some(self),

@@ -8,16 +8,16 @@ use Rattle.afs_num.specs.declared.histories.Body.TheVariants as bodies
 use Rattle.afs_num.specs.declared.histories.ReadBody.{ReadBody}
 use Rattle.afs_num.specs.declared.histories.ReadBody.TheVariants.{Contents, Status, AccessList}
 use Rattle.afs_num.specs.declared.histories.ReadStatus.{ReadStatus}
-use Rattle.afs_history.specs.declared.acts.Act.{Act}
-use Rattle.afs_history.specs.declared.acts.Act.TheVariants as acts
-use Rattle.afs_history.specs.declared.acts.Operand.{Operand}
-use Rattle.afs_history.specs.declared.acts.Operand.TheVariants as operands
-use Rattle.afs_history.specs.declared.acts.Path.{Path}
-use Rattle.afs_history.specs.declared.acts.Written.{Written}
-use Rattle.afs_history.specs.declared.acts.Written.TheVariants.{Hex, Fill}
-use Rattle.afs_history.specs.declared.scripts.AdminAct.{AdminAct}
-use Rattle.afs_history.specs.declared.scripts.AdminAct.TheVariants as admin_acts
-use Rattle.afs_model.specs.LineText.{body_text, directory_text, entry_name_text, hex_byte, hex_text, is_plain, more_names_text, name_byte, name_text, read_body_text, status_text}
+use Rattle.spec_history.specs.declared.acts.Act.{Act}
+use Rattle.spec_history.specs.declared.acts.Act.TheVariants as acts
+use Rattle.spec_history.specs.declared.acts.Operand.{Operand}
+use Rattle.spec_history.specs.declared.acts.Operand.TheVariants as operands
+use Rattle.spec_history.specs.declared.acts.Path.{Path}
+use Rattle.spec_history.specs.declared.acts.Written.{Written}
+use Rattle.spec_history.specs.declared.acts.Written.TheVariants.{Hex, Fill}
+use Rattle.spec_history.specs.declared.scripts.AdminAct.{AdminAct}
+use Rattle.spec_history.specs.declared.scripts.AdminAct.TheVariants as admin_acts
+use Rattle.spec_model.specs.LineText.{body_text, directory_text, entry_name_text, hex_byte, hex_text, is_plain, more_names_text, name_byte, name_text, read_body_text, status_text}
 use Rattle.afs_text.specs.ActText.{act_text, admin_act_text, names_text, octal, operand_text, path_text, written_text}
 use Rattle.afs_text.specs.Whole.{AreWholeNames, IsWholeAct, IsWholeAdminAct, IsWholeBody, IsWholeName, IsWholeOperand, IsWholeReadBody, IsWholeStatus, IsWholeWritten}
 use Rattle.afs_text.proofs.WordsRead.{at_word, behind, closed, ends_number, fid_at, fid_last, in_row, is_digit, mode_at, mode_last, number_at, number_last, number_open, number_row, number_tail, read}

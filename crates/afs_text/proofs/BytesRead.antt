@@ -1,7 +1,7 @@
 -- Bytes and names, as they are read back from their digits and escapes.
 use Rattle.std.proofs.Common.{◌≡◌, ℕ, ◌+◌, ◌-◌, ◌*◌, ◌/◌, ◌%◌, Bool, true, false, cond, not, List, [], ◌∷◌, ◌++◌, refl, ap, sym, ◌∙◌, append_assoc, nat_eq, nat_lt, lt-ltb, le-ltb, ltb-true, ltb-false, ne_eqb, ltb, arith}
 use Rattle.std.specs.Fmt.{digit_glyph}
-use Rattle.afs_model.specs.LineText.{hex_text, is_plain, name_byte, name_text}
+use Rattle.spec_model.specs.LineText.{hex_text, is_plain, name_byte, name_text}
 use Rattle.afs_text.proofs.WordsRead.{in_row}
 
 -- ---- digits

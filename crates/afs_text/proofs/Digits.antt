@@ -7,7 +7,7 @@ use Rattle.std.proofs.lemmas.Bool.{and_parts}
 use Rattle.std.proofs.lemmas.Grind.{drop_more_same, flat_map-append}
 use Rattle.std.proofs.lemmas.List.{take_more, take_more_set, take_all, length-set, get_or-drop, map-append, drop-set-lt}
 use Rattle.std.proofs.lemmas.List.Elements.{All-append, All-cons, All-get_or}
-use Rattle.afs_model.specs.LineText.{hex_byte, hex_text, is_plain, name_byte, name_text}
+use Rattle.spec_model.specs.LineText.{hex_byte, hex_text, is_plain, name_byte, name_text}
 use Rattle.std.proofs.lemmas.Slice.{between-put_mid, take-put_mid, take-put_mid_below}
 use borrow.Rule.Slice.PartMut.{mid_of, mid_len, put_mid, same_len_mid}
 use Rattle.afs_text.specs.Laying.{halves_of, LaysAt}

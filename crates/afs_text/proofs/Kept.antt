@@ -2,14 +2,14 @@
 use Rattle.std.proofs.Common.{◌≡◌, ℕ, ◌+◌, ◌≤◌, ◌<◌, List, [], ◌∷◌, ◌++◌, length, take, drop, refl, ap, sym, ◌∙◌, Bool, Option, arith, length-drop}
 use Rattle.std.proofs.Math.ListN.{get_or}
 use Rattle.afs_num.specs.declared.types.Parcel.{Parcel}
-use Rattle.afs_history.specs.declared.lines.Entry as kept
-use Rattle.afs_model.specs.Telling.{code_at}
-use Rattle.afs_model.specs.Text.{messages_text, sent_text, step_text}
+use Rattle.spec_history.specs.declared.lines.Entry as kept
+use Rattle.spec_model.specs.Telling.{code_at}
+use Rattle.spec_model.specs.Text.{messages_text, sent_text, entry_head_text}
 use Rattle.afs_outside.proofs.Puts.{at_item, Completes}
 use Rattle.afs_text.specs.HistoryText.{entries_text, entry_text, history_text}
 use Rattle.afs_text.specs.KeptText.{kept_entries_text, kept_entry_text, kept_history_text, parcels_text}
 use Rattle.afs_text.specs.RunText.{lines_text}
-use Rattle.afs_text.specs.Telling.{messages_of, sent_by, told, AreRead}
+use Rattle.afs_text.specs.Telling.{messages_of, sent_by, entries_as_told, AreRead}
 use Rattle.afs_text.proofs.Sent.{messages_next, read_next, read_take}
 use Rattle.afs_text.proofs.Told.{entries_next}
 
@@ -33,17 +33,17 @@ parcels_told wire place (p ∷ ps) read =
     ap (λ (t : List ℕ). sent_text wire place p.head (code_at p.bytes) p.bytes ++ t) (parcels_told wire (place + 1) ps (read_next p ps read).others)
     ∙ sym (messages_next wire place p ps read)
 
-entries_told : (wire : Bool) (number place : ℕ) (ps : List Parcel) (es : List kept.Entry) → AreRead ps → sent_by es ≡ length ps → kept_entries_text wire number place ps es ≡ entries_text wire number place (told ps es)
+entries_told : (wire : Bool) (number place : ℕ) (ps : List Parcel) (es : List kept.Entry) → AreRead ps → sent_by es ≡ length ps → kept_entries_text wire number place ps es ≡ entries_text wire number place (entries_as_told ps es)
 unfolding kept_entry_text entry_text
 entries_told wire number place ps [] read all = refl
 entries_told wire number place ps (e ∷ es) read all =
     let within : e.sent ≤ length ps = omega (arith, all) in
     let both = read_take e.sent ps read in
     let rest : sent_by es ≡ length (drop e.sent ps) = omega (arith, all, length-drop e.sent ps) in
-    ap (λ (t : List ℕ). ((step_text number e.actor ++ lines_text e.lines) ++ t) ++ kept_entries_text wire (number + 1) (place + e.sent) (drop e.sent ps) es) (parcels_told wire place (take e.sent ps) both.0)
+    ap (λ (t : List ℕ). ((entry_head_text number e.actor ++ lines_text e.lines) ++ t) ++ kept_entries_text wire (number + 1) (place + e.sent) (drop e.sent ps) es) (parcels_told wire place (take e.sent ps) both.0)
     ∙ (ap (λ (t : List ℕ). entry_text wire number place (record { actor = e.actor; lines = e.lines; sent = messages_of (take e.sent ps); volumes = [] }) ++ t) (entries_told wire (number + 1) (place + e.sent) (drop e.sent ps) es both.1 rest)
     ∙ sym (entries_next wire number place ps e es read within))
 
-pub history_told : (wire : Bool) (ps : List Parcel) (es : List kept.Entry) → AreRead ps → sent_by es ≡ length ps → kept_history_text wire ps es ≡ history_text wire (told ps es)
+pub history_told : (wire : Bool) (ps : List Parcel) (es : List kept.Entry) → AreRead ps → sent_by es ≡ length ps → kept_history_text wire ps es ≡ history_text wire (entries_as_told ps es)
 unfolding kept_history_text history_text
 history_told wire ps es read all = entries_told wire 1 1 ps es read all

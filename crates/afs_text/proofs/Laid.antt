@@ -9,9 +9,9 @@ use Rattle.afs_num.specs.declared.types.Parcel.{Parcel}
 use Rattle.afs_outside.specs.Outside.{Puts}
 use Rattle.afs_outside.specs.declared.outside.Failed.{Failed}
 use Rattle.afs_outside.proofs.Puts.{puts_fail, puts_nothing, puts_stop, puts_then}
-use Rattle.afs_model.specs.LineText.{hex_text}
-use Rattle.afs_model.specs.Telling.{code_at}
-use Rattle.afs_model.specs.Text.{code_text, head_text, sent_text, tail_text}
+use Rattle.spec_model.specs.LineText.{hex_text}
+use Rattle.spec_model.specs.Telling.{code_at}
+use Rattle.spec_model.specs.Text.{code_text, head_text, sent_text, tail_text}
 use Rattle.afs_text.specs.KeptText.{parcels_text}
 use Rattle.afs_text.specs.Laying.{Lays}
 

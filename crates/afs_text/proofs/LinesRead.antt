@@ -6,10 +6,10 @@ use Rattle.afs_num.specs.declared.types.Fid.{Fid}
 use Rattle.afs_num.specs.declared.types.Node.{Node}
 use Rattle.afs_num.specs.declared.histories.ReadSource.{ReadSource}
 use Rattle.afs_num.specs.declared.histories.ReadSource.TheVariants.{Cached, Fetched}
-use Rattle.afs_history.specs.declared.scripts.AdminAct.{AdminAct}
-use Rattle.afs_history.specs.declared.lines.Line.{Line}
-use Rattle.afs_history.specs.declared.lines.Line.TheVariants as lines
-use Rattle.afs_model.specs.LineText.{answer_text, change_text, crash_text, drop_all_text, drop_text, enable_text, fail_text, fault_text, fence_text, full_text, given_text, grant_text, located_text, locked_text, made_text, owe_text, owed_text, quit_text, read_text, recovered_text, released_text, restart_text, settle_text, source_text, stop_text, tick_text, timeout_text, unlocked_text, vanish_text, version_text}
+use Rattle.spec_history.specs.declared.scripts.AdminAct.{AdminAct}
+use Rattle.spec_history.specs.declared.lines.Line.{Line}
+use Rattle.spec_history.specs.declared.lines.Line.TheVariants as lines
+use Rattle.spec_model.specs.LineText.{answer_text, change_text, crash_text, drop_all_text, drop_text, enable_text, fail_text, fault_text, fence_text, full_text, given_text, grant_text, located_text, locked_text, made_text, owe_text, owed_text, quit_text, read_text, recovered_text, released_text, restart_text, settle_text, source_text, stop_text, tick_text, timeout_text, unlocked_text, vanish_text, version_text}
 use Rattle.afs_text.specs.ActText.{begin_text}
 use Rattle.afs_text.specs.RunText.{dumped_text, line_text, older_text, stuck_text}
 use Rattle.afs_text.specs.Whole.{IsWholeFid, IsWholeLine, IsWholeOwed}

@@ -6,15 +6,15 @@ use Rattle.afs_num.specs.declared.types.Parcel.{Parcel}
 use Rattle.afs_num.specs.declared.messages.Message.{Message}
 use Rattle.afs_num.specs.declared.messages.Received.{Received}
 use Rattle.afs_num.specs.declared.messages.Received.TheVariants.{Whole}
-use Rattle.afs_history.specs.declared.lines.Entry as kept
-use Rattle.afs_history.specs.declared.lines.Line.{Line}
-use Rattle.afs_history.specs.declared.lines.Line.TheVariants as lines
-use Rattle.afs_model.specs.LineText.{tick_text}
-use Rattle.afs_model.specs.Messages.{received, spelled}
-use Rattle.afs_model.specs.Telling.{AreRead, messages_of, with_received}
-use Rattle.afs_rows.specs.Runs.{Entry}
+use Rattle.spec_history.specs.declared.lines.Entry as kept
+use Rattle.spec_history.specs.declared.lines.Line.{Line}
+use Rattle.spec_history.specs.declared.lines.Line.TheVariants as lines
+use Rattle.spec_model.specs.LineText.{tick_text}
+use Rattle.spec_model.specs.Messages.{received, spelled}
+use Rattle.spec_model.specs.Telling.{AreRead, messages_of, with_received}
+use Rattle.spec_rows.specs.Runs.{Entry}
 use Rattle.afs_text.specs.HistoryText.{entry_text, history_text}
-use Rattle.afs_text.specs.Telling.{told}
+use Rattle.afs_text.specs.Telling.{entries_as_told}
 use Rattle.afs_text.specs.RunText.{line_text, lines_text}
 use Rattle.afs_text.specs.Shown.{AreReadAgain, SendReadable, IsReadAgain, LongNumbersAreCut, PrintedTellHistories, ShownEntry, ShownMessage, TextsTellMessages, bare, shown, shown_entry, shown_message, shown_messages}
 use Rattle.afs_text.proofs.Kept.{history_told}
@@ -65,20 +65,20 @@ parcels_again (p ∷ ps) read =
     let next = read_next p ps read in
     subst (λ (r : Received). AreReadAgain (with_received r (messages_of ps))) (sym next.read) (ap received (sym next.bytes) ∙ next.read, parcels_again ps next.others)
 
-told_again : (ps : List Parcel) (es : List kept.Entry) → AreRead ps → SendReadable (told ps es)
+told_again : (ps : List Parcel) (es : List kept.Entry) → AreRead ps → SendReadable (entries_as_told ps es)
 told_again ps [] read = tt
 told_again ps (e ∷ es) read =
     let both = read_take e.sent ps read in
     (parcels_again (take e.sent ps) both.0, told_again (drop e.sent ps) es both.1)
 
-bare_told : (ps : List Parcel) (es : List kept.Entry) → bare (told ps es) ≡ told ps es
+bare_told : (ps : List Parcel) (es : List kept.Entry) → bare (entries_as_told ps es) ≡ entries_as_told ps es
 bare_told ps [] = refl
 bare_told ps (e ∷ es) = ap (λ (rest : List Entry). record { actor = e.actor; lines = e.lines; sent = messages_of (take e.sent ps); volumes = [] } ∷ rest) (bare_told (drop e.sent ps) es)
 
 pub printed_tell_histories : PrintedTellHistories
 printed_tell_histories ps qs es fs one other same =
-    let texts : history_text true (told ps es) ≡ history_text true (told qs fs) = sym (history_told true ps es one.read one.all) ∙ same ∙ history_told true qs fs other.read other.all in
-    sym (bare_told ps es) ∙ texts_tell_messages (told ps es) (told qs fs) one.whole other.whole (told_again ps es one.read) (told_again qs fs other.read) texts ∙ bare_told qs fs
+    let texts : history_text true (entries_as_told ps es) ≡ history_text true (entries_as_told qs fs) = sym (history_told true ps es one.read one.all) ∙ same ∙ history_told true qs fs other.read other.all in
+    sym (bare_told ps es) ∙ texts_tell_messages (entries_as_told ps es) (entries_as_told qs fs) one.whole other.whole (told_again ps es one.read) (told_again qs fs other.read) texts ∙ bare_told qs fs
 
 -- ---- numbers that are too long
 

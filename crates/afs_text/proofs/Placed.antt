@@ -5,7 +5,7 @@ use Rattle.std.specs.List.{flat_map}
 use Rattle.std.proofs.lemmas.Grind.{flat_map-append}
 use Rattle.std.proofs.lemmas.List.{take_more, take_more_set, length-set, length-take-le}
 use Rattle.std.specs.Fmt.{digit_glyph}
-use Rattle.afs_model.specs.LineText.{is_plain, name_byte}
+use Rattle.spec_model.specs.LineText.{is_plain, name_byte}
 use Rattle.afs_text.specs.Laying.{LaysAt}
 
 -- the same text, by other words

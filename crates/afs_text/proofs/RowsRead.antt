@@ -10,11 +10,11 @@ use Rattle.afs_num.specs.declared.types.Node.TheVariants.{Loc, Server, Client, A
 use Rattle.afs_num.specs.declared.messages.Message.{Message}
 use Rattle.afs_num.specs.declared.histories.Actor.{Actor}
 use Rattle.afs_num.specs.declared.histories.Actor.TheVariants as actors
-use Rattle.afs_history.specs.declared.lines.Line.{Line}
-use Rattle.afs_model.specs.Messages.{spelled}
-use Rattle.afs_model.specs.Text.{actor_text, code_of, code_text, half_word, head_text, message_text, messages_text, sent_text, step_text, tail_text}
-use Rattle.afs_rows.specs.Runs.{Entry}
-use Rattle.afs_records.specs.Durable.{Durable}
+use Rattle.spec_history.specs.declared.lines.Line.{Line}
+use Rattle.spec_model.specs.Messages.{spelled}
+use Rattle.spec_model.specs.Text.{actor_text, code_carried, code_text, half_word, head_text, message_text, messages_text, sent_text, entry_head_text, tail_text}
+use Rattle.spec_rows.specs.Runs.{Entry}
+use Rattle.spec_records.specs.Durable.{Durable}
 use Rattle.afs_text.specs.FinalText.{final_text}
 use Rattle.afs_text.specs.HistoryText.{entries_text, entry_text, history_text, text}
 use Rattle.afs_text.specs.RunText.{line_text, lines_text}
@@ -141,13 +141,13 @@ line_row : (wire : Bool) (l : Line) → IsWholeLine l → (rest : List ℕ) → 
 unfolding row_at
 line_row wire l whole rest = rw (line_again l whole rest) refl
 
-head_row : (wire : Bool) (number : ℕ) (a : Actor) → IsWholeActor a → (rest : List ℕ) → row_at wire (step_text number a ++ rest) ≡ Some (head a, rest)
-unfolding row_at line_at step_text head_at
+head_row : (wire : Bool) (number : ℕ) (a : Actor) → IsWholeActor a → (rest : List ℕ) → row_at wire (entry_head_text number a ++ rest) ≡ Some (head a, rest)
+unfolding row_at line_at entry_head_text head_at
 head_row wire number a whole rest = rw (any_row number 32 refl, actor_row a whole [] rest) refl
 
 message_row : (wire : Bool) (place : ℕ) (m : Message) → IsWholeMessage m → (rest : List ℕ) → row_at wire (message_text wire place m ++ rest) ≡ Some (sent (shown_message wire m), rest)
 unfolding row_at line_at message_text sent_text sent_at
-message_row wire place m whole rest = rw (any_row place 32 refl) (header_again wire m.head (code_of m.carried) (spelled m) rest whole.0 whole.1)
+message_row wire place m whole rest = rw (any_row place 32 refl) (header_again wire m.head (code_carried m.carried) (spelled m) rest whole.0 whole.1)
 
 -- ---- texts
 
@@ -204,7 +204,7 @@ entries_read : (wire : Bool) (number place : ℕ) (es : List Entry) → AreWhole
 unfolding entry_text
 entries_read wire number place [] whole rest = refl
 entries_read wire number place (e ∷ es) whole rest =
-    let step = step_text number e.actor in
+    let step = entry_head_text number e.actor in
     let ls = lines_text e.lines in
     let ms = messages_text wire place e.sent in
     let more = entries_text wire (number + 1) (place + length e.sent) es in

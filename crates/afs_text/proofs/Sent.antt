@@ -8,11 +8,11 @@ use Rattle.afs_num.specs.declared.types.Parcel.{Parcel}
 use Rattle.afs_num.specs.declared.messages.Message.{Message}
 use Rattle.afs_num.specs.declared.messages.Received.{Received}
 use Rattle.afs_num.specs.declared.messages.Received.TheVariants.{Nothing, Unserved, Unreadable, Whole}
-use Rattle.afs_model.specs.Messages.{received, spelled, parcels_read, messages_spelled}
-use Rattle.afs_model.specs.Telling.{with_received, messages_of, AreRead, code_at}
-use Rattle.afs_model.specs.LineText.{hex_byte, hex_text}
-use Rattle.afs_model.specs.Text.{sent_text, messages_text}
-use Rattle.afs_model.proofs.Texts.{parcel_same, parcels_length}
+use Rattle.spec_model.specs.Messages.{received, spelled, parcels_read, messages_spelled}
+use Rattle.spec_model.specs.Telling.{with_received, messages_of, AreRead, code_at}
+use Rattle.spec_model.specs.LineText.{hex_byte, hex_text}
+use Rattle.spec_model.specs.Text.{sent_text, messages_text}
+use Rattle.spec_model.proofs.Texts.{parcel_same, parcels_length}
 use Rattle.afs_text.proofs.Laid.{LaysAll}
 
 -- ---- bytes

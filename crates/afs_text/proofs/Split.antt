@@ -3,7 +3,7 @@ use Rattle.std.proofs.Common.{◌≡◌, ℕ, zero, suc, ◌+◌, ◌≤◌, Lis
 use Rattle.std.proofs.Math.Seq.{drop-nil}
 use Rattle.std.proofs.lemmas.List.{drop-append-le, take-append-le}
 use Rattle.afs_num.specs.declared.types.Parcel.{Parcel}
-use Rattle.afs_history.specs.declared.lines.Entry as kept
+use Rattle.spec_history.specs.declared.lines.Entry as kept
 use Rattle.afs_text.specs.KeptText.{kept_entries_text, kept_entry_text, kept_history_text}
 use Rattle.afs_text.specs.Telling.{sent_by}
 

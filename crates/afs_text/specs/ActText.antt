@@ -5,16 +5,16 @@ use Rattle.std.specs.Fmt.{decimal, digits}
 use Rattle.afs_num.specs.Texts.{node_text, fid_text}
 use Rattle.afs_num.specs.declared.types.Node.{Node}
 use Rattle.afs_num.specs.declared.types.Node.TheVariants.{Server}
-use Rattle.afs_model.specs.LineText.{hex_byte, hex_text, name_text}
-use Rattle.afs_history.specs.declared.acts.Act.{Act}
-use Rattle.afs_history.specs.declared.acts.Act.TheVariants as acts
-use Rattle.afs_history.specs.declared.acts.Operand.{Operand}
-use Rattle.afs_history.specs.declared.acts.Operand.TheVariants as operands
-use Rattle.afs_history.specs.declared.acts.Path.{Path}
-use Rattle.afs_history.specs.declared.acts.Written.{Written}
-use Rattle.afs_history.specs.declared.acts.Written.TheVariants.{Hex, Fill}
-use Rattle.afs_history.specs.declared.scripts.AdminAct.{AdminAct}
-use Rattle.afs_history.specs.declared.scripts.AdminAct.TheVariants as admin_acts
+use Rattle.spec_model.specs.LineText.{hex_byte, hex_text, name_text}
+use Rattle.spec_history.specs.declared.acts.Act.{Act}
+use Rattle.spec_history.specs.declared.acts.Act.TheVariants as acts
+use Rattle.spec_history.specs.declared.acts.Operand.{Operand}
+use Rattle.spec_history.specs.declared.acts.Operand.TheVariants as operands
+use Rattle.spec_history.specs.declared.acts.Path.{Path}
+use Rattle.spec_history.specs.declared.acts.Written.{Written}
+use Rattle.spec_history.specs.declared.acts.Written.TheVariants.{Hex, Fill}
+use Rattle.spec_history.specs.declared.scripts.AdminAct.{AdminAct}
+use Rattle.spec_history.specs.declared.scripts.AdminAct.TheVariants as admin_acts
 
 -- ---- operands
 

@@ -7,10 +7,10 @@ use Rattle.afs_num.specs.declared.types.Node.{Node}
 use Rattle.afs_num.specs.declared.types.Node.TheVariants.{Server}
 use Rattle.afs_num.specs.declared.histories.Version.{Version}
 use Rattle.afs_num.specs.declared.volumes.VolumeHead.{VolumeHead}
-use Rattle.afs_ideal.specs.Volumes.{type_of, version_at, Vnode}
-use Rattle.afs_model.specs.LineText.{body_text, name_text}
-use Rattle.afs_records.specs.Changes.{head_of}
-use Rattle.afs_records.specs.Durable.{Durable, Stored}
+use Rattle.spec_ideal.specs.Volumes.{type_of, version_at, Vnode}
+use Rattle.spec_model.specs.LineText.{body_text, name_text}
+use Rattle.spec_records.specs.Changes.{volume_head}
+use Rattle.spec_records.specs.Durable.{Durable, Stored}
 
 -- a vnode: its kind, and its last version
 unfoldable pub version_line_text : ℕ → Version → List ℕ
@@ -26,7 +26,7 @@ head_line_text server h =
 
 -- a volume, and its vnodes in order of number
 unfoldable pub volume_text : Node → ℕ × Stored → List ℕ
-volume_text server p = head_line_text server (head_of p.0 p.1.volume) ++ flat_map (vnode_text p.0) p.1.volume.vnodes
+volume_text server p = head_line_text server (volume_head p.0 p.1.volume) ++ flat_map (vnode_text p.0) p.1.volume.vnodes
 
 -- the volumes of the servers from this number on, each by what its disk keeps
 abbrev pub servers_text : ℕ → List Durable → List ℕ

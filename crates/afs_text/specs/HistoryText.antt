@@ -1,14 +1,14 @@
 -- The text of a run whose clients take every act: its entries, each with its lines and the messages that it sent, and what stands at the end.
 use Rattle.std.specs.Prelude.{ℕ, ◌+◌, List, [], ◌∷◌, ◌++◌, Bool, length}
-use Rattle.afs_model.specs.Text.{messages_text, step_text}
-use Rattle.afs_records.specs.Durable.{Durable}
-use Rattle.afs_rows.specs.Runs.{Entry}
+use Rattle.spec_model.specs.Text.{messages_text, entry_head_text}
+use Rattle.spec_records.specs.Durable.{Durable}
+use Rattle.spec_rows.specs.Runs.{Entry}
 use Rattle.afs_text.specs.FinalText.{final_text}
 use Rattle.afs_text.specs.RunText.{lines_text}
 
 -- an entry of this number, whose first message has this place; its messages come last
 unfoldable pub entry_text : Bool → ℕ → ℕ → Entry → List ℕ
-entry_text wire number place e = (step_text number e.actor ++ lines_text e.lines) ++ messages_text wire place e.sent
+entry_text wire number place e = (entry_head_text number e.actor ++ lines_text e.lines) ++ messages_text wire place e.sent
 
 -- entries are numbered one after another, and so are the places of all messages
 abbrev pub entries_text : Bool → ℕ → ℕ → List Entry → List ℕ

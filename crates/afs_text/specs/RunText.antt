@@ -5,9 +5,9 @@ use Rattle.std.specs.Fmt.{decimal, signed_decimal}
 use Rattle.afs_num.specs.Texts.{node_text}
 use Rattle.afs_num.specs.declared.types.Code.{Code}
 use Rattle.afs_num.specs.declared.types.Node.{Node}
-use Rattle.afs_model.specs.LineText.{answer_text, change_text, crash_text, drop_all_text, drop_text, enable_text, fail_text, fault_text, fence_text, full_text, given_text, grant_text, located_text, locked_text, made_text, owe_text, quit_text, read_text, recovered_text, released_text, restart_text, settle_text, stop_text, tick_text, timeout_text, unlocked_text, vanish_text, version_text, name_text}
-use Rattle.afs_history.specs.declared.lines.Line.{Line}
-use Rattle.afs_history.specs.declared.lines.Line.TheVariants as lines
+use Rattle.spec_model.specs.LineText.{answer_text, change_text, crash_text, drop_all_text, drop_text, enable_text, fail_text, fault_text, fence_text, full_text, given_text, grant_text, located_text, locked_text, made_text, owe_text, quit_text, read_text, recovered_text, released_text, restart_text, settle_text, stop_text, tick_text, timeout_text, unlocked_text, vanish_text, version_text, name_text}
+use Rattle.spec_history.specs.declared.lines.Line.{Line}
+use Rattle.spec_history.specs.declared.lines.Line.TheVariants as lines
 use Rattle.afs_text.specs.ActText.{act_text, admin_act_text, begin_text}
 
 -- ---- answers that tell more than a code, and dumps

@@ -5,18 +5,18 @@ use Rattle.afs_num.specs.declared.types.Half.TheVariants as halves
 use Rattle.afs_num.specs.declared.types.Node.{Node}
 use Rattle.afs_num.specs.declared.messages.Message.{Message}
 use Rattle.afs_num.specs.declared.histories.Actor.{Actor}
-use Rattle.afs_history.specs.declared.lines.Line.{Line}
+use Rattle.spec_history.specs.declared.lines.Line.{Line}
 use Rattle.afs_num.specs.declared.messages.Received.TheVariants.{Whole}
 use Rattle.afs_num.specs.declared.types.Parcel.{Parcel}
-use Rattle.afs_history.specs.declared.lines.Entry as kept
-use Rattle.afs_model.specs.Messages.{received, spelled}
-use Rattle.afs_model.specs.Text.{code_of}
-use Rattle.afs_records.specs.Durable.{Durable}
-use Rattle.afs_rows.specs.Runs.{Entry}
+use Rattle.spec_history.specs.declared.lines.Entry as kept
+use Rattle.spec_model.specs.Messages.{received, spelled}
+use Rattle.spec_model.specs.Text.{code_carried}
+use Rattle.spec_records.specs.Durable.{Durable}
+use Rattle.spec_rows.specs.Runs.{Entry}
 use Rattle.afs_text.specs.FinalText.{final_text}
 use Rattle.afs_text.specs.HistoryText.{history_text, text}
 use Rattle.afs_text.specs.KeptText.{kept_history_text}
-use Rattle.afs_text.specs.Telling.{sent_by, told, AreRead}
+use Rattle.afs_text.specs.Telling.{sent_by, entries_as_told, AreRead}
 use Rattle.afs_text.specs.Whole.{AreWholeEntries}
 
 -- what is shown of a message: all of its header but the boot number and the stamp, of a reply the code, and all its bytes
@@ -53,7 +53,7 @@ shown_message wire m = record {
   opcode = m.head.opcode;
   epoch = m.head.epoch;
   number = m.head.number;
-  code = shown_code m.head.half (code_of m.carried);
+  code = shown_code m.head.half (code_carried m.carried);
   bytes = shown_bytes wire (spelled m);
 }
 
@@ -103,11 +103,11 @@ TextsTellMessages = (a b : List Entry) → AreWholeEntries a → AreWholeEntries
 pub record IsKeptHistory (parcels : List Parcel) (entries : List kept.Entry) : Type 0 where
   pub read : AreRead parcels
   pub all : sent_by entries ≡ length parcels
-  pub whole : AreWholeEntries (told parcels entries)
+  pub whole : AreWholeEntries (entries_as_told parcels entries)
 
 -- so what the program prints with the bytes of messages tells the history, its messages included
 abbrev pub PrintedTellHistories : Type 0
-PrintedTellHistories = (ps qs : List Parcel) (es fs : List kept.Entry) → IsKeptHistory ps es → IsKeptHistory qs fs → kept_history_text true ps es ≡ kept_history_text true qs fs → told ps es ≡ told qs fs
+PrintedTellHistories = (ps qs : List Parcel) (es fs : List kept.Entry) → IsKeptHistory ps es → IsKeptHistory qs fs → kept_history_text true ps es ≡ kept_history_text true qs fs → entries_as_told ps es ≡ entries_as_told qs fs
 
 -- of numbers that aren't written whole a text doesn't tell all
 abbrev pub LongNumbersAreCut : Type 0

@@ -2,14 +2,14 @@
 -- were sent, each with the bytes of its message, and entries that say how many of them are theirs.
 use Rattle.std.specs.Prelude.{ℕ, ◌+◌, List, [], ◌∷◌, take, drop}
 use Rattle.afs_num.specs.declared.types.Parcel.{Parcel}
-use Rattle.afs_history.specs.declared.lines.Entry as kept
-use Rattle.afs_rows.specs.Runs.{Entry}
-pub use Rattle.afs_model.specs.Telling.{messages_of, AreRead}
+use Rattle.spec_history.specs.declared.lines.Entry as kept
+use Rattle.spec_rows.specs.Runs.{Entry}
+pub use Rattle.spec_model.specs.Telling.{messages_of, AreRead}
 
 -- the history that these entries tell, each with the next of these parcels; no step brings a volume whole
-abbrev pub told : List Parcel → List kept.Entry → List Entry
-told ps [] = []
-told ps (e ∷ es) = record { actor = e.actor; lines = e.lines; sent = messages_of (take e.sent ps); volumes = [] } ∷ told (drop e.sent ps) es
+abbrev pub entries_as_told : List Parcel → List kept.Entry → List Entry
+entries_as_told ps [] = []
+entries_as_told ps (e ∷ es) = record { actor = e.actor; lines = e.lines; sent = messages_of (take e.sent ps); volumes = [] } ∷ entries_as_told (drop e.sent ps) es
 
 -- how many messages these entries sent
 abbrev pub sent_by : List kept.Entry → ℕ

@@ -15,18 +15,18 @@ use Rattle.afs_num.specs.declared.histories.ReadBody.{ReadBody}
 use Rattle.afs_num.specs.declared.histories.ReadBody.TheVariants.{Contents, Status, AccessList}
 use Rattle.afs_num.specs.declared.histories.ReadStatus.{ReadStatus}
 use Rattle.afs_num.specs.declared.histories.Version.{Version}
-use Rattle.afs_history.specs.declared.acts.Act.{Act}
-use Rattle.afs_history.specs.declared.acts.Act.TheVariants as acts
-use Rattle.afs_history.specs.declared.acts.Operand.{Operand}
-use Rattle.afs_history.specs.declared.acts.Operand.TheVariants as operands
-use Rattle.afs_history.specs.declared.acts.Written.{Written}
-use Rattle.afs_history.specs.declared.acts.Written.TheVariants.{Hex, Fill}
-use Rattle.afs_history.specs.declared.scripts.AdminAct.{AdminAct}
-use Rattle.afs_history.specs.declared.scripts.AdminAct.TheVariants as admin_acts
-use Rattle.afs_history.specs.declared.lines.Line.{Line}
-use Rattle.afs_history.specs.declared.lines.Line.TheVariants as lines
-use Rattle.afs_model.specs.Text.{code_of}
-use Rattle.afs_rows.specs.Runs.{Entry}
+use Rattle.spec_history.specs.declared.acts.Act.{Act}
+use Rattle.spec_history.specs.declared.acts.Act.TheVariants as acts
+use Rattle.spec_history.specs.declared.acts.Operand.{Operand}
+use Rattle.spec_history.specs.declared.acts.Operand.TheVariants as operands
+use Rattle.spec_history.specs.declared.acts.Written.{Written}
+use Rattle.spec_history.specs.declared.acts.Written.TheVariants.{Hex, Fill}
+use Rattle.spec_history.specs.declared.scripts.AdminAct.{AdminAct}
+use Rattle.spec_history.specs.declared.scripts.AdminAct.TheVariants as admin_acts
+use Rattle.spec_history.specs.declared.lines.Line.{Line}
+use Rattle.spec_history.specs.declared.lines.Line.TheVariants as lines
+use Rattle.spec_model.specs.Text.{code_carried}
+use Rattle.spec_rows.specs.Runs.{Entry}
 
 -- ---- numbers and what names nodes, objects and calls
 
@@ -172,7 +172,7 @@ abbrev pub IsWholeHead : Head → Type 0
 IsWholeHead h = IsWholeNode h.from × IsWholeNode h.to × IsWhole h.opcode × IsWhole h.epoch × IsWhole h.number
 
 abbrev pub IsWholeMessage : Message → Type 0
-IsWholeMessage m = IsWholeHead m.head × IsWholeSigned (code_of m.carried)
+IsWholeMessage m = IsWholeHead m.head × IsWholeSigned (code_carried m.carried)
 
 abbrev pub AreWholeMessages : List Message → Type 0
 AreWholeMessages [] = Unit {0}

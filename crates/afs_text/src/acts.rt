@@ -2,18 +2,18 @@
 
 ghost use Rattle.std.specs.Prelude.{◌≡◌, ◌<◌, ◌++◌, codes};
 ghost use Rattle.afs_outside.specs.Outside.{Puts};
-ghost use Rattle.afs_model.specs.LineText.{hex_byte};
+ghost use Rattle.spec_model.specs.LineText.{hex_byte};
 ghost use Rattle.afs_text.specs.Laying.{Lays};
 ghost use Rattle.afs_text.specs.ActText.{act_text, admin_act_text, begin_text, names_text, octal, operand_text, path_text, step_text, written_text};
 
 use crate::bytes::{Hex, HexByte, Name};
 use crate::laying::{TextPiece, lay_short, put_short};
 use crate::pieces::{Print, lay_long};
-use afs_history::acts::{Act, Operand, Path, Written};
-use afs_history::scripts::AdminAct;
 use afs_num::sequences::Octets;
 use afs_num::types::Node;
 use afs_outside::outside::{Failed, Sink, put_bytes};
+use spec_history::acts::{Act, Operand, Path, Written};
+use spec_history::scripts::AdminAct;
 
 // ---- operands
 
@@ -43,7 +43,7 @@ impl Print for Mode {
 impl<'a> Print for &'a Written {
     ghost text = { λ written. written_text written.now };
 
-    #[tactic(auto, unfolding(crate::specs::ActText::written_text, afs_model::specs::LineText::hex_text))]
+    #[tactic(auto, unfolding(crate::specs::ActText::written_text, spec_model::specs::LineText::hex_text))]
     fn print<K: Sink>(&self, sink: &mut K) -> Result<(), Failed> {
         match *self {
             Written::Hex(bytes) => row!("hex:", Hex(bytes.as_slice())).print(sink),

@@ -3,7 +3,7 @@
 ghost use Rattle.std.specs.Prelude.{◌+◌, ◌*◌, ◌≤◌, ◌++◌, codes, length};
 ghost use Rattle.afs_outside.specs.Outside.{Puts};
 ghost use Rattle.afs_text.specs.Laying.{Lays};
-ghost use Rattle.afs_model.specs.LineText.{entry_name_text, hex_text, name_text, more_names_text, directory_text, body_text, status_text, read_body_text, source_text, owed_text};
+ghost use Rattle.spec_model.specs.LineText.{entry_name_text, hex_text, name_text, more_names_text, directory_text, body_text, status_text, read_body_text, source_text, owed_text};
 
 use crate::bytes::{Name, lay_hex};
 use crate::laying::{Short, TextPiece, lay_short, make_room};
@@ -71,7 +71,7 @@ fn lay_next_name<K: Sink>(
 }
 
 /// Lays names in a directory, each behind a comma.
-#[tactic(auto, unfolding(afs_model::specs::LineText::more_names_text))]
+#[tactic(auto, unfolding(spec_model::specs::LineText::more_names_text))]
 fn lay_more_names<K: Sink>(
     sink: &mut K,
     piece: &mut TextPiece,
@@ -99,7 +99,7 @@ fn lay_names<K: Sink>(
 }
 
 /// Lays the names of a directory.
-#[tactic(auto, unfolding(afs_model::specs::LineText::directory_text))]
+#[tactic(auto, unfolding(spec_model::specs::LineText::directory_text))]
 fn lay_all_names<K: Sink>(
     sink: &mut K,
     piece: &mut TextPiece,
@@ -140,7 +140,7 @@ fn lay_contents<K: Sink>(
 }
 
 /// Lays what a version holds.
-#[tactic(auto, unfolding(afs_model::specs::LineText::body_text))]
+#[tactic(auto, unfolding(spec_model::specs::LineText::body_text))]
 pub(crate) fn lay_body<K: Sink>(
     sink: &mut K,
     piece: &mut TextPiece,
@@ -171,7 +171,7 @@ impl Short for ReadStatus {
 
     ghost most = { λ _. 55 };
 
-    #[tactic(auto, unfolding(afs_model::specs::LineText::status_text))]
+    #[tactic(auto, unfolding(spec_model::specs::LineText::status_text))]
     fn lay(&self, bytes: &mut [u8], at: usize) -> usize {
         row!(
             "s:",
@@ -188,7 +188,7 @@ impl Short for ReadStatus {
 }
 
 /// Lays what a read shows.
-#[tactic(auto, unfolding(afs_model::specs::LineText::read_body_text))]
+#[tactic(auto, unfolding(spec_model::specs::LineText::read_body_text))]
 pub(crate) fn lay_read_body<K: Sink>(
     sink: &mut K,
     piece: &mut TextPiece,

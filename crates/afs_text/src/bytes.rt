@@ -5,7 +5,7 @@ ghost use Rattle.std.specs.Fmt.{digit_glyph};
 ghost use Rattle.std.specs.List.{flat_map, list_all, All};
 ghost use Rattle.afs_outside.specs.Outside.{Puts};
 ghost use Rattle.afs_text.specs.Laying.{halves_of, Lays, LaysAt};
-ghost use Rattle.afs_model.specs.LineText.{hex_byte, hex_text, is_plain, name_byte, name_text};
+ghost use Rattle.spec_model.specs.LineText.{hex_byte, hex_text, is_plain, name_byte, name_text};
 
 use crate::laying::{Short, TextPiece, lay_byte, lay_two, make_room};
 use crate::pieces::Print;
@@ -173,7 +173,7 @@ fn is_all_plain(name: &[u8]) -> bool
 }
 
 /// Writes a name byte by byte.
-#[tactic(auto, unfolding(afs_model::specs::LineText::name_text))]
+#[tactic(auto, unfolding(spec_model::specs::LineText::name_text))]
 fn put_escaped<K: Sink>(sink: &mut K, name: &[u8]) -> Result<(), Failed>
     ensures { Puts (name_text name.now) (K.held sink.old) (K.held sink.new) (K.faults sink.old) (K.faults sink.new) result }
 {
@@ -233,7 +233,7 @@ impl<'a> Short for Name<'a> {
 
     ghost most = { λ name. 3 * length name.0.now };
 
-    #[tactic(auto, unfolding(afs_model::specs::LineText::name_text))]
+    #[tactic(auto, unfolding(spec_model::specs::LineText::name_text))]
     #[inline(always)]
     fn lay(&self, bytes: &mut [u8], at: usize) -> usize {
         let mut end = at;

@@ -10,9 +10,9 @@ ghost use Rattle.afs_text.specs.Telling.{sent_by};
 use crate::laying::TextPiece;
 use crate::printing::{lay_parcel, lay_step};
 use crate::run_lines::lay_line;
-use afs_history::lines::{Entry, Line};
 use afs_num::types::Parcel;
 use afs_outside::outside::{Failed, Sink, put_bytes};
+use spec_history::lines::{Entry, Line};
 
 /// Lays these lines.
 #[tactic(auto, unfolding(crate::specs::RunText::lines_text))]

@@ -2,7 +2,7 @@
 
 ghost use Rattle.afs_text.specs.Laying.{Lays};
 ghost use Rattle.afs_text.specs.RunText.{dumped_text, older_text, stuck_text};
-ghost use Rattle.afs_model.specs.LineText.{answer_text, change_text, crash_text, drop_all_text, drop_text, enable_text, fail_text, fault_text, fence_text, full_text, given_text, grant_text, located_text, locked_text, made_text, owe_text, quit_text, read_text, recovered_text, released_text, restart_text, settle_text, stop_text, tick_text, timeout_text, unlocked_text, vanish_text, version_text};
+ghost use Rattle.spec_model.specs.LineText.{answer_text, change_text, crash_text, drop_all_text, drop_text, enable_text, fail_text, fault_text, fence_text, full_text, given_text, grant_text, located_text, locked_text, made_text, owe_text, quit_text, read_text, recovered_text, released_text, restart_text, settle_text, stop_text, tick_text, timeout_text, unlocked_text, vanish_text, version_text};
 
 use crate::bodies::{Owed, lay_body, lay_read_body};
 use crate::bytes::Name;
@@ -15,7 +15,7 @@ use afs_outside::outside::{Failed, Sink};
 
 // ---- versions, reads and answers
 
-#[tactic(auto, unfolding(afs_model::specs::LineText::change_text))]
+#[tactic(auto, unfolding(spec_model::specs::LineText::change_text))]
 pub fn lay_change<K: Sink>(
     sink: &mut K,
     piece: &mut TextPiece,
@@ -32,7 +32,7 @@ pub fn lay_change<K: Sink>(
     )
 }
 
-#[tactic(auto, unfolding(afs_model::specs::LineText::version_text))]
+#[tactic(auto, unfolding(spec_model::specs::LineText::version_text))]
 pub fn lay_version<K: Sink>(
     sink: &mut K,
     piece: &mut TextPiece,
@@ -57,7 +57,7 @@ pub fn lay_version<K: Sink>(
     lay_short(sink, piece, &"\n")
 }
 
-#[tactic(auto, unfolding(afs_model::specs::LineText::read_text))]
+#[tactic(auto, unfolding(spec_model::specs::LineText::read_text))]
 pub fn lay_read<K: Sink>(
     sink: &mut K,
     piece: &mut TextPiece,
@@ -78,7 +78,7 @@ pub fn lay_read<K: Sink>(
     lay_short(sink, piece, &"\n")
 }
 
-#[tactic(auto, unfolding(afs_model::specs::LineText::answer_text))]
+#[tactic(auto, unfolding(spec_model::specs::LineText::answer_text))]
 pub fn lay_answer<K: Sink>(
     sink: &mut K,
     piece: &mut TextPiece,
@@ -134,7 +134,7 @@ pub fn lay_dumped<K: Sink>(
     lay_short(sink, piece, &row!(" ", size, "\n"))
 }
 
-#[tactic(auto, unfolding(afs_model::specs::LineText::given_text))]
+#[tactic(auto, unfolding(spec_model::specs::LineText::given_text))]
 pub fn lay_given<K: Sink>(sink: &mut K, piece: &mut TextPiece, place: u64) -> Result<(), Failed>
     ensures { Lays (given_text place) piece.old piece.new (K.held sink.old) (K.held sink.new) (K.faults sink.old) (K.faults sink.new) result }
 {
@@ -143,7 +143,7 @@ pub fn lay_given<K: Sink>(sink: &mut K, piece: &mut TextPiece, place: u64) -> Re
 
 // ---- promises and breaks
 
-#[tactic(auto, unfolding(afs_model::specs::LineText::grant_text))]
+#[tactic(auto, unfolding(spec_model::specs::LineText::grant_text))]
 pub fn lay_grant<K: Sink>(
     sink: &mut K,
     piece: &mut TextPiece,
@@ -164,7 +164,7 @@ pub fn lay_grant<K: Sink>(
     )
 }
 
-#[tactic(auto, unfolding(afs_model::specs::LineText::owe_text))]
+#[tactic(auto, unfolding(spec_model::specs::LineText::owe_text))]
 pub fn lay_owe<K: Sink>(
     sink: &mut K,
     piece: &mut TextPiece,
@@ -192,7 +192,7 @@ pub fn lay_owe<K: Sink>(
     )
 }
 
-#[tactic(auto, unfolding(afs_model::specs::LineText::settle_text))]
+#[tactic(auto, unfolding(spec_model::specs::LineText::settle_text))]
 pub fn lay_settle<K: Sink>(
     sink: &mut K,
     piece: &mut TextPiece,
@@ -209,7 +209,7 @@ pub fn lay_settle<K: Sink>(
     )
 }
 
-#[tactic(auto, unfolding(afs_model::specs::LineText::quit_text))]
+#[tactic(auto, unfolding(spec_model::specs::LineText::quit_text))]
 pub fn lay_quit<K: Sink>(
     sink: &mut K,
     piece: &mut TextPiece,
@@ -226,7 +226,7 @@ pub fn lay_quit<K: Sink>(
     )
 }
 
-#[tactic(auto, unfolding(afs_model::specs::LineText::drop_text))]
+#[tactic(auto, unfolding(spec_model::specs::LineText::drop_text))]
 pub fn lay_drop<K: Sink>(
     sink: &mut K,
     piece: &mut TextPiece,
@@ -238,7 +238,7 @@ pub fn lay_drop<K: Sink>(
     lay_short(sink, piece, &row!("drop ", client, " ", fid, "\n"))
 }
 
-#[tactic(auto, unfolding(afs_model::specs::LineText::drop_all_text))]
+#[tactic(auto, unfolding(spec_model::specs::LineText::drop_all_text))]
 pub fn lay_drop_all<K: Sink>(
     sink: &mut K,
     piece: &mut TextPiece,
@@ -252,28 +252,28 @@ pub fn lay_drop_all<K: Sink>(
 
 // ---- crashes and disks
 
-#[tactic(auto, unfolding(afs_model::specs::LineText::crash_text))]
+#[tactic(auto, unfolding(spec_model::specs::LineText::crash_text))]
 pub fn lay_crash<K: Sink>(sink: &mut K, piece: &mut TextPiece, node: Node) -> Result<(), Failed>
     ensures { Lays (crash_text node) piece.old piece.new (K.held sink.old) (K.held sink.new) (K.faults sink.old) (K.faults sink.new) result }
 {
     lay_short(sink, piece, &row!("crash ", node, "\n"))
 }
 
-#[tactic(auto, unfolding(afs_model::specs::LineText::fault_text))]
+#[tactic(auto, unfolding(spec_model::specs::LineText::fault_text))]
 pub fn lay_fault<K: Sink>(sink: &mut K, piece: &mut TextPiece, node: Node) -> Result<(), Failed>
     ensures { Lays (fault_text node) piece.old piece.new (K.held sink.old) (K.held sink.new) (K.faults sink.old) (K.faults sink.new) result }
 {
     lay_short(sink, piece, &row!("fault ", node, "\n"))
 }
 
-#[tactic(auto, unfolding(afs_model::specs::LineText::full_text))]
+#[tactic(auto, unfolding(spec_model::specs::LineText::full_text))]
 pub fn lay_full<K: Sink>(sink: &mut K, piece: &mut TextPiece, node: Node) -> Result<(), Failed>
     ensures { Lays (full_text node) piece.old piece.new (K.held sink.old) (K.held sink.new) (K.faults sink.old) (K.faults sink.new) result }
 {
     lay_short(sink, piece, &row!("full ", node, "\n"))
 }
 
-#[tactic(auto, unfolding(afs_model::specs::LineText::restart_text))]
+#[tactic(auto, unfolding(spec_model::specs::LineText::restart_text))]
 pub fn lay_restart<K: Sink>(
     sink: &mut K,
     piece: &mut TextPiece,
@@ -285,7 +285,7 @@ pub fn lay_restart<K: Sink>(
     lay_short(sink, piece, &row!("restart ", node, " ", boot, "\n"))
 }
 
-#[tactic(auto, unfolding(afs_model::specs::LineText::stop_text))]
+#[tactic(auto, unfolding(spec_model::specs::LineText::stop_text))]
 pub fn lay_stop<K: Sink>(
     sink: &mut K,
     piece: &mut TextPiece,
@@ -302,7 +302,7 @@ pub fn lay_stop<K: Sink>(
     )
 }
 
-#[tactic(auto, unfolding(afs_model::specs::LineText::fail_text))]
+#[tactic(auto, unfolding(spec_model::specs::LineText::fail_text))]
 pub fn lay_fail<K: Sink>(
     sink: &mut K,
     piece: &mut TextPiece,
@@ -316,7 +316,7 @@ pub fn lay_fail<K: Sink>(
 
 // ---- volumes at a server
 
-#[tactic(auto, unfolding(afs_model::specs::LineText::made_text))]
+#[tactic(auto, unfolding(spec_model::specs::LineText::made_text))]
 pub fn lay_made<K: Sink>(
     sink: &mut K,
     piece: &mut TextPiece,
@@ -333,7 +333,7 @@ pub fn lay_made<K: Sink>(
     )
 }
 
-#[tactic(auto, unfolding(afs_model::specs::LineText::fence_text))]
+#[tactic(auto, unfolding(spec_model::specs::LineText::fence_text))]
 pub fn lay_fence<K: Sink>(
     sink: &mut K,
     piece: &mut TextPiece,
@@ -345,7 +345,7 @@ pub fn lay_fence<K: Sink>(
     lay_short(sink, piece, &row!("fence ", volume, " ", server, "\n"))
 }
 
-#[tactic(auto, unfolding(afs_model::specs::LineText::enable_text))]
+#[tactic(auto, unfolding(spec_model::specs::LineText::enable_text))]
 pub fn lay_enable<K: Sink>(
     sink: &mut K,
     piece: &mut TextPiece,
@@ -357,7 +357,7 @@ pub fn lay_enable<K: Sink>(
     lay_short(sink, piece, &row!("enable ", volume, " ", server, "\n"))
 }
 
-#[tactic(auto, unfolding(afs_model::specs::LineText::vanish_text))]
+#[tactic(auto, unfolding(spec_model::specs::LineText::vanish_text))]
 pub fn lay_vanish<K: Sink>(
     sink: &mut K,
     piece: &mut TextPiece,
@@ -369,7 +369,7 @@ pub fn lay_vanish<K: Sink>(
     lay_short(sink, piece, &row!("vanish ", volume, " ", server, "\n"))
 }
 
-#[tactic(auto, unfolding(afs_model::specs::LineText::released_text))]
+#[tactic(auto, unfolding(spec_model::specs::LineText::released_text))]
 pub fn lay_released<K: Sink>(
     sink: &mut K,
     piece: &mut TextPiece,
@@ -399,7 +399,7 @@ pub fn lay_released<K: Sink>(
 
 // ---- the location database
 
-#[tactic(auto, unfolding(afs_model::specs::LineText::locked_text))]
+#[tactic(auto, unfolding(spec_model::specs::LineText::locked_text))]
 pub fn lay_locked<K: Sink>(
     sink: &mut K,
     piece: &mut TextPiece,
@@ -416,14 +416,14 @@ pub fn lay_locked<K: Sink>(
     )
 }
 
-#[tactic(auto, unfolding(afs_model::specs::LineText::unlocked_text))]
+#[tactic(auto, unfolding(spec_model::specs::LineText::unlocked_text))]
 pub fn lay_unlocked<K: Sink>(sink: &mut K, piece: &mut TextPiece, volume: u32) -> Result<(), Failed>
     ensures { Lays (unlocked_text volume) piece.old piece.new (K.held sink.old) (K.held sink.new) (K.faults sink.old) (K.faults sink.new) result }
 {
     lay_short(sink, piece, &row!("unlocked ", volume, "\n"))
 }
 
-#[tactic(auto, unfolding(afs_model::specs::LineText::recovered_text))]
+#[tactic(auto, unfolding(spec_model::specs::LineText::recovered_text))]
 pub fn lay_recovered<K: Sink>(
     sink: &mut K,
     piece: &mut TextPiece,
@@ -434,7 +434,7 @@ pub fn lay_recovered<K: Sink>(
     lay_short(sink, piece, &row!("recovered ", volume, "\n"))
 }
 
-#[tactic(auto, unfolding(afs_model::specs::LineText::located_text))]
+#[tactic(auto, unfolding(spec_model::specs::LineText::located_text))]
 pub fn lay_located<K: Sink>(
     sink: &mut K,
     piece: &mut TextPiece,
@@ -448,7 +448,7 @@ pub fn lay_located<K: Sink>(
 
 // ---- timeouts and the clock
 
-#[tactic(auto, unfolding(afs_model::specs::LineText::timeout_text))]
+#[tactic(auto, unfolding(spec_model::specs::LineText::timeout_text))]
 pub fn lay_timeout<K: Sink>(
     sink: &mut K,
     piece: &mut TextPiece,
@@ -469,7 +469,7 @@ pub fn lay_timeout<K: Sink>(
     )
 }
 
-#[tactic(auto, unfolding(afs_model::specs::LineText::tick_text))]
+#[tactic(auto, unfolding(spec_model::specs::LineText::tick_text))]
 pub fn lay_tick<K: Sink>(sink: &mut K, piece: &mut TextPiece, ticks: u32) -> Result<(), Failed>
     ensures { Lays (tick_text ticks) piece.old piece.new (K.held sink.old) (K.held sink.new) (K.faults sink.old) (K.faults sink.new) result }
 {

@@ -1,8 +1,8 @@
 //! The text of a message that was sent, and of the line that begins an entry.
 
 ghost use Rattle.std.specs.Prelude.{◌≡◌};
-ghost use Rattle.afs_model.specs.Text.{half_word, head_text, code_text, tail_text, sent_text, actor_text, step_text};
-ghost use Rattle.afs_model.specs.Telling.{code_at};
+ghost use Rattle.spec_model.specs.Text.{half_word, head_text, code_text, tail_text, sent_text, actor_text, entry_head_text};
+ghost use Rattle.spec_model.specs.Telling.{code_at};
 ghost use Rattle.afs_text.specs.Laying.{Lays};
 
 use crate::bytes::lay_hex;
@@ -17,7 +17,7 @@ use afs_outside::outside::{Failed, Sink};
 const HEADER: usize = 32;
 
 /// The code of a reply: its first word behind the header, 0 where there is none.
-#[tactic(auto, unfolding(afs_model::specs::Telling::code_at, afs_shape::specs::Reading::signed_at, afs_xdr::specs::Words::word_at))]
+#[tactic(auto, unfolding(spec_model::specs::Telling::code_at, spec_shape::specs::Reading::signed_at, afs_xdr::specs::Words::word_at))]
 fn code_of(bytes: &[u8]) -> Code
     ensures { result.0 ≡ code_at bytes.now }
 {
@@ -50,7 +50,7 @@ impl Short for Head {
 
     ghost most = { λ _. 56 };
 
-    #[tactic(auto, unfolding(afs_model::specs::Text::head_text))]
+    #[tactic(auto, unfolding(spec_model::specs::Text::head_text))]
     fn lay(&self, bytes: &mut [u8], at: usize) -> usize {
         row!(
             self.from,
@@ -77,7 +77,7 @@ impl Short for HalfCode {
 
     ghost most = { λ _. 13 };
 
-    #[tactic(auto, unfolding(afs_model::specs::Text::code_text))]
+    #[tactic(auto, unfolding(spec_model::specs::Text::code_text))]
     fn lay(&self, bytes: &mut [u8], at: usize) -> usize {
         match self.0 {
             Half::Reply => row!(" ", self.1).lay(bytes, at),
@@ -87,7 +87,7 @@ impl Short for HalfCode {
 }
 
 /// Lays the line of a message.
-#[tactic(auto, unfolding(afs_model::specs::Text::sent_text, afs_model::specs::Text::tail_text))]
+#[tactic(auto, unfolding(spec_model::specs::Text::sent_text, spec_model::specs::Text::tail_text))]
 pub(crate) fn lay_parcel<K: Sink>(
     sink: &mut K,
     piece: &mut TextPiece,
@@ -133,14 +133,14 @@ impl Short for Actor {
 }
 
 /// Lays the number of an entry, and whose it is.
-#[tactic(auto, unfolding(afs_model::specs::Text::step_text))]
+#[tactic(auto, unfolding(spec_model::specs::Text::entry_head_text))]
 pub(crate) fn lay_step<K: Sink>(
     sink: &mut K,
     piece: &mut TextPiece,
     number: u64,
     actor: Actor,
 ) -> Result<(), Failed>
-    ensures { Lays (step_text number actor) piece.old piece.new (K.held sink.old) (K.held sink.new) (K.faults sink.old) (K.faults sink.new) result }
+    ensures { Lays (entry_head_text number actor) piece.old piece.new (K.held sink.old) (K.held sink.new) (K.faults sink.old) (K.faults sink.new) result }
 {
     lay_short(sink, piece, &row!("entry ", number, " ", actor, "\n"))
 }

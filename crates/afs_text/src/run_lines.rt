@@ -12,8 +12,8 @@ use crate::lines::{
     lay_stop, lay_stuck, lay_tick, lay_timeout, lay_unlocked, lay_vanish, lay_version,
 };
 use crate::pieces::Print;
-use afs_history::lines::Line;
 use afs_outside::outside::{Failed, Sink, put_bytes};
+use spec_history::lines::Line;
 
 /// Lays a line.
 #[tactic(auto, unfolding(crate::specs::RunText::line_text))]

@@ -2,16 +2,16 @@
 use Rattle.std.specs.Prelude.{◌≡◌, ◌≤◌, ◌⊎◌, ℕ, List, Bool, Option, Some, None, IsSome, Result, Ok, Err}
 use Rattle.std.proofs.Common.{refl, ap, sym, subst, ◌∙◌, inl, inr}
 use Rattle.afs_num.specs.declared.scripts.Reason.{Reason}
-use Rattle.afs_history.specs.declared.scripts.Script.{Script}
+use Rattle.spec_history.specs.declared.scripts.Script.{Script}
 use Rattle.afs_disk.specs.declared.bank.Place.{Place}
 use Rattle.afs_disk.specs.declared.bank.Place.TheVariants.{Memory}
 use Rattle.afs_generate.specs.Generated.{generated}
-use Rattle.afs_model.proofs.ScriptReaders.{range}
+use Rattle.spec_model.proofs.ScriptReaders.{range}
 use Rattle.afs_grammar.specs.Lines.{script_of}
 use Rattle.afs_outside.specs.Outside.{Gives, HadAll}
 use Rattle.afs_command.specs.Forms.{form_in, Asks, HaveForm}
 use Rattle.afs_command.specs.Spans.{IsUnchanged, RoseBy, Span}
-use Rattle.afs_lawful.specs.Lawful.{EachIsLawful}
+use Rattle.law_all.specs.Lawful.{EachIsLawful}
 use Rattle.afs_lending.specs.Outside.{OneRose, Outside}
 use Rattle.afs_command.specs.Reading.{GivesNone, GivesScript, level}
 use Rattle.afs_cell.specs.Replays.{AtBankFault, EndsReplay, EndsRun, LendingFails, LendsAll}

@@ -1,10 +1,10 @@
 -- The volumes of a script that was read, or made, are numbered one after the other.
 use Rattle.std.proofs.Common.{ℕ, List, [], ◌∷◌, ◌+◌}
-use Rattle.afs_history.specs.declared.scripts.Script.{Script}
-use Rattle.afs_history.specs.declared.scripts.VolumeLine.{VolumeLine}
+use Rattle.spec_history.specs.declared.scripts.Script.{Script}
+use Rattle.spec_history.specs.declared.scripts.VolumeLine.{VolumeLine}
 use Rattle.afs_words.specs.declared.nodes.Counts.{Counts}
 use Rattle.afs_grammar.specs.CellScripts.{counts_of, AreVolumes, IsCellScript}
-use Rattle.afs_numbers.specs.Numbers.{AreNumberedFrom, IsNumbered}
+use Rattle.law_numbers.specs.Numbers.{AreNumberedFrom, IsNumbered}
 
 each_numbered : (c : Counts) (n : ℕ) (ls : List VolumeLine) → AreVolumes c n ls → AreNumberedFrom n ls
 each_numbered c n [] are = tt

@@ -2,7 +2,7 @@
 use Rattle.std.specs.Prelude.{◌≡◌, ◌⊎◌, ℕ, List, Bool, Option, Ok}
 use Rattle.std.specs.Io.KnownBytes.{IsAtEnd}
 use Rattle.afs_num.specs.declared.scripts.Reason.{Reason}
-use Rattle.afs_history.specs.declared.scripts.Script.{Script}
+use Rattle.spec_history.specs.declared.scripts.Script.{Script}
 use Rattle.afs_disk.specs.declared.bank.Place.{Place}
 use Rattle.afs_disk.specs.declared.bank.Place.TheVariants.{Memory}
 use Rattle.afs_generate.specs.Generated.{generated}
@@ -10,7 +10,7 @@ use Rattle.afs_grammar.specs.Lines.{script_of}
 use Rattle.afs_outside.specs.Outside.{Gives, HadAll}
 use Rattle.afs_command.specs.Forms.{Asks, HaveForm}
 use Rattle.afs_command.specs.Spans.{IsUnchanged, RoseBy, Span}
-use Rattle.afs_lawful.specs.Lawful.{EachIsLawful}
+use Rattle.law_all.specs.Lawful.{EachIsLawful}
 use Rattle.afs_lending.specs.Outside.{Outside}
 use Rattle.afs_command.specs.declared.statuses.Form.TheVariants.{Gen, Replay}
 use Rattle.afs_command.specs.declared.statuses.Status.{Status}

@@ -16,9 +16,9 @@ use afs_command::statuses::{Form, Status};
 use afs_disk::Bank;
 use afs_generate::laws::generated_are_of_cells;
 use afs_grammar::laws::scripts_are_of_cells;
-use afs_lawful::laws::runs_are_lawful;
 use afs_outside::outside::{Sink, Source};
-use afs_scripts::laws::volumes_are_in_cell;
+use law_all::laws::runs_are_lawful;
+use law_scripts::laws::volumes_are_in_cell;
 use std::alloc::Global;
 
 /// Plays the script that the source holds and writes its text to the sink, over disks that the bank lends. The words are those

@@ -4,16 +4,16 @@ ghost use Rattle.std.specs.Prelude.{◌≡◌, ◌≤◌, length, List, ℕ, IfO
 ghost use Rattle.afs_num.specs.declared.types.Half.TheVariants as halves;
 ghost use Rattle.afs_num.specs.declared.types.Head.{Head};
 ghost use Rattle.afs_num.specs.declared.location_calls.LocCall.{LocCall};
-ghost use Rattle.afs_model.specs.Heads.{user_limit};
-ghost use Rattle.afs_model.specs.Rpc.{spelled_call, SpellsCall, ReadsCall, IsValueOrNoMemory, IsHeadFor};
-ghost use Rattle.afs_model.specs.LocRows.{loc_calls};
-ghost use Rattle.afs_shape.specs.Rows.{IsWithin};
+ghost use Rattle.spec_model.specs.Heads.{user_limit};
+ghost use Rattle.spec_model.specs.Rpc.{spelled_call, SpellsCall, ReadsCall, IsValueOrNoMemory, IsHeadFor};
+ghost use Rattle.spec_model.specs.LocRows.{loc_calls};
+ghost use Rattle.spec_shape.specs.Rows.{IsWithin};
 
 use crate::tables::LocCalls;
 use afs_num::location_calls::LocCall;
 use afs_num::sequences::Octets;
 use afs_num::types::{Head, Mem};
-use afs_shape::faults::ShapeFault;
+use spec_shape::faults::ShapeFault;
 use std::alloc::Global;
 
 /// The call of these bytes: its header, its user and its fields. `Head` where the header can't be read or is that of

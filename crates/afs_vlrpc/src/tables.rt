@@ -1,16 +1,16 @@
 //! The two tables: a row for each opcode, with the message's name and its fields in order, each of its kind.
 
-ghost use Rattle.afs_model.specs.LocRows.{loc_calls, loc_replies};
-ghost use Rattle.afs_model.proofs.LocMade.{calls_sound, replies_sound};
+ghost use Rattle.spec_model.specs.LocRows.{loc_calls, loc_replies};
+ghost use Rattle.spec_model.proofs.LocMade.{calls_sound, replies_sound};
 
 use afs_fields::messages::Messages;
 use afs_fields::tables::{Shape, Table};
 use afs_fields::{message_read, room_of, shape_of, table_of, written_of};
 use afs_num::location_calls::{LocCall, LocReply};
 use afs_num::types::Mem;
-use afs_shape::faults::ShapeFault;
 use afs_xdr::reading::Reader;
 use afs_xdr::writing::Writer;
+use spec_shape::faults::ShapeFault;
 use std::alloc::Global;
 
 /// The name of a volume, in bytes.
@@ -82,7 +82,7 @@ impl Messages for LocCalls {
         with_calls!(room_of(call, LocCall))
     }
 
-    #[tactic(auto, using(afs_shape::proofs::Spellable::parts_spellable))]
+    #[tactic(auto, using(spec_shape::proofs::Spellable::parts_spellable))]
     fn write(call: &LocCall, w: &mut Writer) -> Mem<()> {
         with_calls!(written_of(call, w, LocCall))
     }
@@ -110,7 +110,7 @@ impl Messages for LocReplies {
         with_replies!(room_of(reply, LocReply))
     }
 
-    #[tactic(auto, using(afs_shape::proofs::Spellable::parts_spellable))]
+    #[tactic(auto, using(spec_shape::proofs::Spellable::parts_spellable))]
     fn write(reply: &LocReply, w: &mut Writer) -> Mem<()> {
         with_replies!(written_of(reply, w, LocReply))
     }

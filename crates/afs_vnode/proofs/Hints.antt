@@ -1,8 +1,8 @@
 -- A hint from which a free number may be looked for.
 use Rattle.std.proofs.Common.{◌≡◌, ◌≢◌, ℕ, zero, suc, ◌+◌, ◌-◌, ◌*◌, ◌/◌, ◌%◌, ◌<◌, ◌≤◌, true, length, is_some, ap, sym, ◌∙◌, arith}
 use Rattle.std.proofs.lemmas.Bool.Decides.{nat_tests}
-use Rattle.afs_ideal.specs.Tables.{Table, get, set, unset, AscendsFrom, lowest_free}
-use Rattle.afs_ideal.proofs.Tables.{free_above, free_from, free_bound, get_set, get_unset}
+use Rattle.spec_ideal.specs.Tables.{Table, get, set, unset, AscendsFrom, lowest_free}
+use Rattle.spec_ideal.proofs.Tables.{free_above, free_from, free_bound, get_set, get_unset}
 use Rattle.afs_vnode.specs.Stores.{IsHint, raised, lowered}
 
 hint_by : {A : Type 0} (m first j : ℕ) (t : Table A) → AscendsFrom m t → ((k : ℕ) → first ≤ k → k < first + 2 * j → k % 2 ≡ first % 2 → is_some (get k t) ≡ true) → lowest_free (first + 2 * j) t ≡ lowest_free first t

@@ -3,10 +3,10 @@ use Rattle.std.proofs.Common.{◌≡◌, ◌≢◌, ℕ, ◌≤◌, Bool, true, 
 use Rattle.std.proofs.lemmas.Bool.Decides.{nat_tests}
 use Rattle.std.proofs.lemmas.List.{length-map}
 use Rattle.afs_num.specs.declared.vnodes.Vnode.{Vnode}
-use Rattle.afs_ideal.specs.Tables.{Table, set, unset, AscendsFrom, lowest_free}
-use Rattle.afs_ideal.specs.VnodeImage.{FitsImage}
-use Rattle.afs_ideal.specs.VnodeMaps.{most_vnodes, AllFit, first_number, allocated}
-use Rattle.afs_ideal.proofs.Tables.{ascends_set, ascends_unset}
+use Rattle.spec_ideal.specs.Tables.{Table, set, unset, AscendsFrom, lowest_free}
+use Rattle.spec_ideal.specs.VnodeImage.{FitsImage}
+use Rattle.spec_ideal.specs.VnodeMaps.{most_vnodes, AllFit, first_number, allocated}
+use Rattle.spec_ideal.proofs.Tables.{ascends_set, ascends_unset}
 use Rattle.afs_vnode.specs.Stores.{table_of, AreVnodes, IsStore, IsHint, raised, lowered}
 use Rattle.afs_vnode.proofs.Hints.{hint_set, hint_unset, hint_bound}
 use Rattle.afs_vnode.proofs.Places.{fit_set, fit_unset}

@@ -2,7 +2,7 @@
 use Rattle.std.proofs.Common.{◌≡◌, ℕ, suc, ◌+◌, ◌<◌, Bool, true, false, List, [], ◌∷◌, drop, nat_eq, nat_lt, if◌then◌else◌, refl, ap, sym, ◌∙◌, arith}
 use Rattle.std.proofs.lemmas.Bool.Decides.{nat_tests}
 use Rattle.afs_num.specs.declared.vnodes.Vnode.{Vnode}
-use Rattle.afs_ideal.specs.Tables.{lowest_free}
+use Rattle.spec_ideal.specs.Tables.{lowest_free}
 use Rattle.afs_vnode.specs.Stores.{place_of, table_of}
 
 -- those of lower numbers stand before it

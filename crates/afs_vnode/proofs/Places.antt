@@ -5,11 +5,11 @@ use Rattle.std.specs.Option.{option_copied}
 use Rattle.std.specs.List.Sorted.{IsPartitionedBy, IsPartitionPoint}
 use Rattle.std.proofs.lemmas.Bool.Decides.{nat_tests}
 use Rattle.afs_num.specs.declared.vnodes.Vnode.{Vnode}
-use Rattle.afs_ideal.specs.Tables.{Table, get, unset, AscendsFrom}
-use Rattle.afs_ideal.specs.Tables as tables
-use Rattle.afs_ideal.specs.VnodeImage.{FitsImage}
-use Rattle.afs_ideal.specs.VnodeMaps.{AllFit}
-use Rattle.afs_ideal.proofs.Tables.{get_below}
+use Rattle.spec_ideal.specs.Tables.{Table, get, unset, AscendsFrom}
+use Rattle.spec_ideal.specs.Tables as tables
+use Rattle.spec_ideal.specs.VnodeImage.{FitsImage}
+use Rattle.spec_ideal.specs.VnodeMaps.{AllFit}
+use Rattle.spec_ideal.proofs.Tables.{get_below}
 use Rattle.afs_vnode.specs.Stores.{table_of, place_of, has_number}
 
 found_from : (m k : ℕ) (vs : List Vnode) → AscendsFrom m (table_of vs) → get k (table_of vs) ≡ (if has_number k (slice_get vs (place_of k vs)) then slice_get vs (place_of k vs) else None)

@@ -1,8 +1,8 @@
 -- What a call that reads an image gives, in terms of the bytes that were left.
 use Rattle.std.specs.Prelude.{◌≡◌, ◌+◌, ℕ, List, Result, Ok, Err}
 use Rattle.afs_xdr.specs.Reading.{Reading}
-use Rattle.afs_shape.specs.Reading.{◌>>=◌}
-use Rattle.afs_ideal.specs.VnodeImage.{word_field, BadField}
+use Rattle.spec_shape.specs.Reading.{◌>>=◌}
+use Rattle.spec_ideal.specs.VnodeImage.{word_field, BadField}
 use Rattle.afs_vnode.specs.declared.faults.ImageFault.{ImageFault}
 use Rattle.afs_vnode.specs.declared.faults.ImageFault.TheVariants as faults
 

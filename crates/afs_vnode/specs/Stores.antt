@@ -2,8 +2,8 @@
 use Rattle.std.specs.Prelude.{◌≡◌, ◌≤◌, ◌<◌, ◌%◌, ◌+◌, ℕ, List, Bool, true, false, ◌&&◌, Option, Some, None, map, length, is_some, nat_eq, nat_le, nat_lt, if◌then◌else◌}
 use Rattle.std.specs.List.{prefix_len}
 use Rattle.afs_num.specs.declared.vnodes.Vnode.{Vnode}
-use Rattle.afs_ideal.specs.Tables.{Table, get, AscendsFrom}
-use Rattle.afs_ideal.specs.VnodeMaps.{most_vnodes, AllFit}
+use Rattle.spec_ideal.specs.Tables.{Table, get, AscendsFrom}
+use Rattle.spec_ideal.specs.VnodeMaps.{most_vnodes, AllFit}
 
 -- the map that they make
 abbrev pub table_of : List Vnode → Table Vnode

@@ -3,7 +3,7 @@
 ghost use Rattle.std.specs.Prelude.{◌≡◌, ◌≤◌, ◌<◌, ◌++◌, length, take, OnOk, OnErr, IfOk};
 ghost use Rattle.afs_xdr.specs.Reading.{KeepsEnd};
 ghost use Rattle.afs_xdr.specs.Words.{words, AreWords};
-ghost use Rattle.afs_ideal.specs.VnodeImage.{kind_fits, word_field, kind_field, opaque_field, image_at, image, image_words, FitsImage};
+ghost use Rattle.spec_ideal.specs.VnodeImage.{kind_fits, word_field, kind_field, opaque_field, image_at, image, image_words, FitsImage};
 ghost use Rattle.afs_vnode.specs.Reading.{three_fields, ReadsImage};
 
 use crate::faults::ImageFault;
@@ -22,7 +22,7 @@ const MOST_ACL: u32 = 1_024;
 const MOST_CONTENTS: u32 = 2_097_152;
 
 /// Whether the kind is one, and fits the number: directories have odd numbers, files and links even ones.
-#[tactic(auto, unfolding(afs_ideal::specs::VnodeImage::kind_fits))]
+#[tactic(auto, unfolding(spec_ideal::specs::VnodeImage::kind_fits))]
 fn kind_fits(vnode: u32, kind: u32) -> bool
     ensures { result ≡ kind_fits vnode kind }
 {
@@ -34,7 +34,7 @@ fn kind_fits(vnode: u32, kind: u32) -> bool
 }
 
 /// The word that is the field of this place.
-#[tactic(auto, unfolding(afs_ideal::specs::VnodeImage::word_field))]
+#[tactic(auto, unfolding(spec_ideal::specs::VnodeImage::word_field))]
 fn word(r: &mut Reader, place: u32) -> Result<u32, ImageFault>
     ensures value { ReadsImage (word_field place) (λ n. n) r.old r.new result }
     ensures end { KeepsEnd r.old r.new }
@@ -46,7 +46,7 @@ fn word(r: &mut Reader, place: u32) -> Result<u32, ImageFault>
 }
 
 /// The kind, which is the field of this place.
-#[tactic(auto, unfolding(afs_ideal::specs::VnodeImage::kind_field))]
+#[tactic(auto, unfolding(spec_ideal::specs::VnodeImage::kind_field))]
 fn kind(r: &mut Reader, place: u32, vnode: u32) -> Result<u32, ImageFault>
     ensures value { ReadsImage (kind_field place vnode) (λ n. n) r.old r.new result }
     ensures end { KeepsEnd r.old r.new }
@@ -60,7 +60,7 @@ fn kind(r: &mut Reader, place: u32, vnode: u32) -> Result<u32, ImageFault>
 }
 
 /// The opaque that is the field of this place, of at most so many bytes.
-#[tactic(auto, unfolding(afs_ideal::specs::VnodeImage::opaque_field))]
+#[tactic(auto, unfolding(spec_ideal::specs::VnodeImage::opaque_field))]
 fn opaque(alloc: Global, r: &mut Reader, place: u32, most: u32) -> Result<Octets, ImageFault>
     ensures value { ReadsImage (opaque_field place most) (λ b. b) r.old r.new result }
     ensures limit { IfOk result (λ b. length b ≤ most) }
@@ -85,7 +85,7 @@ fn three(r: &mut Reader, place: u32) -> Result<(u32, u32, u32), ImageFault>
 }
 
 /// The fields one after the other.
-#[tactic(auto, unfolding(afs_ideal::specs::VnodeImage::image_at))]
+#[tactic(auto, unfolding(spec_ideal::specs::VnodeImage::image_at))]
 fn fields(alloc: Global, r: &mut Reader) -> Result<Vnode, ImageFault>
     ensures value { ReadsImage image_at (λ v. v) r.old r.new result }
     ensures fits { IfOk result (λ v. FitsImage v) }
@@ -161,7 +161,7 @@ fn put_words(v: &Vnode, w: &mut Writer) -> Mem<()>
 }
 
 /// Appends the fields one after the other. After want of memory some of them may stand behind the bytes from before.
-#[tactic(auto, unfolding(afs_ideal::specs::VnodeImage::image))]
+#[tactic(auto, unfolding(spec_ideal::specs::VnodeImage::image))]
 fn put_fields(v: &Vnode, w: &mut Writer) -> Mem<()>
     requires { FitsImage v.now }
     ensures ok { OnOk result (w.new ≡ w.old ++ image v.now) }

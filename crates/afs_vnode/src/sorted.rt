@@ -3,8 +3,8 @@
 ghost use Rattle.std.specs.Prelude.{◌≡◌, ◌≤◌, ◌<◌, ◌+◌, ◌%◌, ◌↔◌, ℕ, true, false, Err, None, length, is_some, slice_get, OnOk, OnErr, IfOk, IfSome, IsOk};
 ghost use Rattle.std.specs.Option.{option_copied};
 ghost use Rattle.std.specs.Vec.{vec_capacity};
-ghost use Rattle.afs_ideal.specs.Tables.{get, set, unset, AscendsFrom, lowest_free};
-ghost use Rattle.afs_ideal.specs.VnodeMaps.{most_vnodes, is_full_for, first_number, allocated, changed_since};
+ghost use Rattle.spec_ideal.specs.Tables.{get, set, unset, AscendsFrom, lowest_free};
+ghost use Rattle.spec_ideal.specs.VnodeMaps.{most_vnodes, is_full_for, first_number, allocated, changed_since};
 ghost use Rattle.afs_vnode.specs.Stores.{table_of, place_of, has_number, IsHint};
 ghost use Rattle.afs_vnode.specs.declared.faults.VnodeFault.TheVariants.{TooMany};
 
@@ -188,7 +188,7 @@ pub fn allocate(vnodes: &[Vnode], dir: bool, hint: u32) -> Option<u32>
 }
 
 /// The numbers of the vnodes that were changed after the counter stood so.
-#[tactic(auto, unfolding(afs_ideal::specs::VnodeMaps::changed_since))]
+#[tactic(auto, unfolding(spec_ideal::specs::VnodeMaps::changed_since))]
 pub fn changed_since(alloc: Global, vnodes: &[Vnode], counter: u32) -> Mem<VnodeNumbers>
     ensures { IfOk result (λ ns. ns ≡ changed_since counter (table_of vnodes.now)) }
 {

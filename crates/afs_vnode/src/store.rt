@@ -3,9 +3,9 @@
 ghost use Rattle.std.specs.Prelude.{◌≡◌, ◌≤◌, ◌<◌, ◌%◌, ◌↔◌, ℕ, true, false, [], Err, None, is_some, length, slice_get, IfOk, IfSome, IsOk, OnOk, OnErr};
 ghost use Rattle.std.specs.Option.{option_copied, option_map};
 ghost use Rattle.afs_num.specs.Keyed.{KeepsRoom};
-ghost use Rattle.afs_ideal.specs.Tables.{get, set, unset, AscendsFrom, lowest_free};
-ghost use Rattle.afs_ideal.specs.VnodeImage.{FitsImage};
-ghost use Rattle.afs_ideal.specs.VnodeMaps.{most_vnodes, AllFit, is_full_for, first_number, allocated, changed_since};
+ghost use Rattle.spec_ideal.specs.Tables.{get, set, unset, AscendsFrom, lowest_free};
+ghost use Rattle.spec_ideal.specs.VnodeImage.{FitsImage};
+ghost use Rattle.spec_ideal.specs.VnodeMaps.{most_vnodes, AllFit, is_full_for, first_number, allocated, changed_since};
 ghost use Rattle.afs_vnode.specs.Stores.{raised, lowered, table_of, AreVnodes};
 ghost use Rattle.afs_vnode.specs.declared.faults.VnodeFault.TheVariants.{TooMany};
 

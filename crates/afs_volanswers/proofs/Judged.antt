@@ -5,16 +5,16 @@ use Rattle.std.proofs.lemmas.Result.{IfOk-weaker}
 use Rattle.afs_num.specs.declared.records.RecordBody.{RecordBody}
 use Rattle.afs_num.specs.declared.records.RecordBody.TheVariants as bodies
 use Rattle.afs_num.specs.declared.volume_calls.VolCall.{VolCall}
-use Rattle.afs_ideal.specs.Tables.{Table}
-use Rattle.afs_records.specs.Durable.{Durable, Kept}
+use Rattle.spec_ideal.specs.Tables.{Table}
+use Rattle.spec_records.specs.Durable.{Durable, Kept}
 use Rattle.afs_volume.specs.declared.volume.Volume.{Volume}
-use Rattle.afs_volrows.specs.VolLaws.{AreApart}
-use Rattle.afs_volrows.specs.VolRow as row
-use Rattle.afs_volrows.specs.VolRow.{last_after, transactions_after, without_family}
-use Rattle.afs_volrows.specs.VolStates.{Transaction, VolState}
-use Rattle.afs_volrows.specs.VolSteps.{or_stamp}
-use Rattle.afs_volrows.proofs.VolApart.{after_body, full_none, none_apart, or_stamp_is, rest_apart, verdict_apart, Apart, None_begun}
-use Rattle.afs_volrows.proofs.VolKeeping.{stamp_taken, verdict_taken, BodyTaken, Taken}
+use Rattle.spec_volrows.specs.VolLaws.{AreApart}
+use Rattle.spec_volrows.specs.VolRow as row
+use Rattle.spec_volrows.specs.VolRow.{last_after, transactions_after, without_family}
+use Rattle.spec_volrows.specs.VolStates.{Transaction, VolState}
+use Rattle.spec_volrows.specs.VolSteps.{or_stamp}
+use Rattle.spec_volrows.proofs.VolApart.{after_body, full_none, none_apart, or_stamp_is, rest_apart, verdict_apart, Apart, None_begun}
+use Rattle.spec_volrows.proofs.VolKeeping.{stamp_taken, verdict_taken, BodyTaken, Taken}
 use Rattle.afs_voldecisions.specs.Numbering.{Numbered}
 use Rattle.afs_voldecisions.specs.Replies.{CanAnswer}
 use Rattle.afs_voldecisions.specs.Verdicts.{after_of, verdict_of, CanTell, HasForm}

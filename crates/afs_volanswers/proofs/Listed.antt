@@ -3,19 +3,19 @@ use Rattle.std.proofs.Common.{◌≡◌, ◌≤◌, ◌+◌, ℕ, zero, suc, Boo
 use Rattle.std.specs.Prelude.{filter, slice_get, IfSome}
 use Rattle.std.specs.List.{AllByRecursion}
 use Rattle.afs_num.specs.declared.volume_calls.ListedVolume.{ListedVolume}
-use Rattle.afs_ideal.specs.Tables.{Table}
-use Rattle.afs_records.specs.Durable.{Stored}
-use Rattle.afs_volrows.specs.VolRow.{is_of_family, listed}
+use Rattle.spec_ideal.specs.Tables.{Table}
+use Rattle.spec_records.specs.Durable.{Stored}
+use Rattle.spec_volrows.specs.VolRow.{is_of_family, volume_listed}
 use Rattle.afs_volanswers.specs.Looking.{listed_before, listed_there, with_one}
 
 -- the first one is of the family, or isn't
-behind_by : (b : Bool) (p : ℕ × Stored) (rest more : Table Stored) (o : Option ListedVolume) → with_one (map listed rest) o ≡ map listed more →
-    with_one (map listed (cond b (p ∷ rest) rest)) o ≡ map listed (cond b (p ∷ more) more)
-behind_by true p rest more None same = ap (λ (vs : List ListedVolume). listed p ∷ vs) same
-behind_by true p rest more (Some v) same = ap (λ (vs : List ListedVolume). listed p ∷ vs) same
+behind_by : (b : Bool) (p : ℕ × Stored) (rest more : Table Stored) (o : Option ListedVolume) → with_one (map volume_listed rest) o ≡ map volume_listed more →
+    with_one (map volume_listed (cond b (p ∷ rest) rest)) o ≡ map volume_listed (cond b (p ∷ more) more)
+behind_by true p rest more None same = ap (λ (vs : List ListedVolume). volume_listed p ∷ vs) same
+behind_by true p rest more (Some v) same = ap (λ (vs : List ListedVolume). volume_listed p ∷ vs) same
 behind_by false p rest more o same = same
 
-here_by : (b : Bool) (p : ℕ × Stored) → with_one [] (cond b (Some (listed p)) None) ≡ map listed (cond b (p ∷ []) [])
+here_by : (b : Bool) (p : ℕ × Stored) → with_one [] (cond b (Some (volume_listed p)) None) ≡ map volume_listed (cond b (p ∷ []) [])
 here_by true p = refl
 here_by false p = refl
 
@@ -39,8 +39,8 @@ taken_all {A} zero (x ∷ xs) le = absurd (omega (arith, le))
 taken_all {A} (suc n) (x ∷ xs) le = ap (λ (ys : List A). x ∷ ys) (taken_all n xs (omega (arith, le)))
 
 -- behind the last place all are told
-pub all_listed : (family n : ℕ) (t : Table Stored) → length t ≤ n → listed_before family n t ≡ map listed (filter (is_of_family family) t)
-all_listed family n t le = ap (λ (u : Table Stored). map listed (filter (is_of_family family) u)) (taken_all n t le)
+pub all_listed : (family n : ℕ) (t : Table Stored) → length t ≤ n → listed_before family n t ≡ map volume_listed (filter (is_of_family family) t)
+all_listed family n t le = ap (λ (u : Table Stored). map volume_listed (filter (is_of_family family) u)) (taken_all n t le)
 
 -- ---- no more are told than places, each within its limits
 

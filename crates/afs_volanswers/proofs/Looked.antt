@@ -4,10 +4,10 @@ use Rattle.std.specs.Prelude.{IfSome}
 use Rattle.std.specs.Borrow.{Bor}
 use Rattle.afs_num.specs.declared.records.RecordBody.{RecordBody}
 use Rattle.afs_num.specs.declared.records.RecordBody.TheVariants as bodies
-use Rattle.afs_dumps.specs.Restores.{finished}
-use Rattle.afs_fold.specs.Deeds.{can_restore}
-use Rattle.afs_ideal.specs.Tables.{get}
-use Rattle.afs_records.specs.Durable.{Durable, Stored}
+use Rattle.spec_dumps.specs.Restores.{restored_from}
+use Rattle.spec_fold.specs.Deeds.{can_restore}
+use Rattle.spec_ideal.specs.Tables.{get}
+use Rattle.spec_records.specs.Durable.{Durable, Stored}
 use Rattle.afs_shelves.specs.Shelving.{is_new_in, stored_as}
 use Rattle.afs_volume.specs.declared.volume.Volume.{Volume}
 use Rattle.afs_voldecisions.specs.Verdicts.{made_in, IsMadeIn, IsMadeOf, IsMadeOrNone, IsMadeWith}
@@ -26,7 +26,7 @@ made_there d v w is_new id dump there is =
         can = ap (can_restore id dump) here ∙ rw (is.made is_new) refl;
         made = λ s found.
             let same : stored_as is_new v ≡ s = some_is _ s (sym here ∙ (ap (λ (n : ℕ). get n d.volumes) (sym is.number) ∙ found)) in
-            ap (λ (n : ℕ). finished n s dump) is.number ∙ (ap (λ (t : Stored). finished id t dump) (sym same) ∙ (is.made is_new ∙ ap (λ (t : Stored). Ok (stored_as t.is_new w)) same));
+            ap (λ (n : ℕ). restored_from n s dump) is.number ∙ (ap (λ (t : Stored). restored_from id t dump) (sym same) ∙ (is.made is_new ∙ ap (λ (t : Stored). Ok (stored_as t.is_new w)) same));
       },
     )
 

@@ -4,14 +4,14 @@ use Rattle.std.proofs.Common.{◌≡◌, ◌≤◌, ◌<◌, ◌+◌, ◌^◌, i
 use Rattle.std.specs.Prelude.{not, ◌||◌, filter}
 use Rattle.afs_num.specs.declared.volume_calls.VolCall.{VolCall}
 use Rattle.afs_num.specs.declared.volume_calls.VolCall.TheVariants as calls
-use Rattle.afs_ideal.specs.Operations.{is_last_count}
-use Rattle.afs_ideal.specs.Tables.{get, set, Table}
-use Rattle.afs_dumps.specs.Restores.{fed, finished}
-use Rattle.afs_fold.specs.Deeds.{has_volume, has_volume_room}
-use Rattle.afs_records.specs.Durable.{Durable, Kept, Stored}
-use Rattle.afs_records.specs.Records.{most_dump}
-use Rattle.afs_volrows.specs.VolRow.{accepted, bad_dump, begins, begins_on, clones, clones_anew, dumps_piece, ends, found, gave, gives, in_its_volume, in_transaction, is_held, is_held_by_other, is_of_other, is_there_already, no_more, part_given, refused, sends, stay, transactions_after, unless, verdict, volume_of_family, whole_given, without_family, After, Verdict}
-use Rattle.afs_volrows.specs.VolStates.{Transaction}
+use Rattle.spec_ideal.specs.Operations.{is_last_count}
+use Rattle.spec_ideal.specs.Tables.{get, set, Table}
+use Rattle.spec_dumps.specs.Restores.{fed, restored_from}
+use Rattle.spec_fold.specs.Deeds.{has_volume, has_volume_room}
+use Rattle.spec_records.specs.Durable.{Durable, Kept, Stored}
+use Rattle.spec_records.specs.Records.{most_dump}
+use Rattle.spec_volrows.specs.VolRow.{accepted, bad_dump, begins, begins_on, clones, clones_anew, dumps_piece, ends, found, gave, gives, in_its_volume, in_transaction, volume_held_code, is_held_by_other, is_of_other, is_there_already, no_room_left, part_given, refused, sends, stay, transactions_after, refused_where, verdict, volume_of_family, whole_given, without_family, After, Verdict}
+use Rattle.spec_volrows.specs.VolStates.{Transaction}
 use Rattle.afs_volanswers.specs.Flagged.{AreFlagged, IsHoldFlag}
 
 -- ---- a verdict's code and flags
@@ -27,11 +27,11 @@ IsPlain (refused code after) = code < 2 ^ 31
 IsPlain (accepted p) = HasFlag p.after
 IsPlain (sends x) = Unit {0}
 
-unless_plain : (b : Bool) (code : ℕ) (v : Verdict) → code < 2 ^ 31 → IsPlain v → IsPlain (unless b code v)
+unless_plain : (b : Bool) (code : ℕ) (v : Verdict) → code < 2 ^ 31 → IsPlain v → IsPlain (refused_where b code v)
 unless_plain true code v low h = low
 unless_plain false code v low h = h
 
-long_plain : (b : Bool) (number : ℕ) (v : Verdict) → IsPlain v → IsPlain (cond b (refused no_more (gives number [])) v)
+long_plain : (b : Bool) (number : ℕ) (v : Verdict) → IsPlain v → IsPlain (cond b (refused no_room_left (gives number [])) v)
 long_plain true number v h = lit< tt
 long_plain false number v h = h
 
@@ -61,26 +61,26 @@ flag_plain false = inl refl
 
 begins_plain : (ts : Table Transaction) (last stamp family id flags : ℕ) (o : Option Stored) → IsPlain (begins_on ts last stamp family id flags o)
 begins_plain ts last stamp family id flags None = lit< tt
-begins_plain ts last stamp family id flags (Some s) = unless_plain (is_held_by_other 0 id ts) is_held _ (lit< tt) (flag_plain (nat_eq flags 2))
+begins_plain ts last stamp family id flags (Some s) = unless_plain (is_held_by_other 0 id ts) volume_held_code _ (lit< tt) (flag_plain (nat_eq flags 2))
 
 anew_plain : (number : ℕ) (ts : Table Transaction) (id : ℕ) (t : Transaction) (s : Stored) (o : Option Stored) → IsPlain (clones_anew number ts id t s o)
 anew_plain number ts id t s None = lit< tt
-anew_plain number ts id t s (Some old) = unless_plain (is_held_by_other number id ts) is_held _ (lit< tt) (unless_plain (is_last_count s.volume.release) no_more _ (lit< tt) tt)
+anew_plain number ts id t s (Some old) = unless_plain (is_held_by_other number id ts) volume_held_code _ (lit< tt) (unless_plain (is_last_count s.volume.release) no_room_left _ (lit< tt) tt)
 
 dumps_plain : (offset : ℕ) (bytes : List ℕ) → IsPlain (dumps_piece offset bytes)
 dumps_plain offset bytes = unless_plain (nat_lt (length bytes) offset) bad_dump _ (lit< tt) tt
 
 pub verdict_plain : (d : Durable) (ts : Table Transaction) (last stamp : ℕ) (call : VolCall) → IsPlain (verdict d ts last stamp call)
 verdict_plain d ts last stamp (calls.CreateVolume family id name kind flags quota) =
-    unless_plain (has_volume id d) is_there_already _ (lit< tt) (unless_plain (not (has_volume_room d)) no_more _ (lit< tt) (inl refl))
+    unless_plain (has_volume id d) is_there_already _ (lit< tt) (unless_plain (not (has_volume_room d)) no_room_left _ (lit< tt) (inl refl))
 verdict_plain d ts last stamp (calls.DeleteVolume family number) = in_plain d (found family number ts) _ (λ t s. tt)
 verdict_plain d ts last stamp (calls.Restore family number offset final piece) =
     in_plain d (found family number ts) _ (λ t s. unless_plain (not (nat_eq offset (length t.given))) bad_dump _ (lit< tt)
-    (long_plain (nat_lt most_dump (length (t.given ++ piece))) number _ (piece_plain (nat_eq final 0) number t.volume (t.given ++ piece) (finished t.volume s (t.given ++ piece)))))
+    (long_plain (nat_lt most_dump (length (t.given ++ piece))) number _ (piece_plain (nat_eq final 0) number t.volume (t.given ++ piece) (restored_from t.volume s (t.given ++ piece)))))
 verdict_plain d ts last stamp (calls.Forward family number from server target) = in_plain d (found family number ts) _ (λ t s. tt)
 verdict_plain d ts last stamp (calls.EndTrans family number) = in_plain d (found family number ts) _ (λ t s. tt)
 verdict_plain d ts last stamp (calls.Clone family number id name kind) =
-    unless_plain (has_volume id d) is_there_already _ (lit< tt) (in_plain d (found family number ts) _ (λ t s. unless_plain (not (has_volume_room d) || is_last_count s.volume.release) no_more _ (lit< tt) tt))
+    unless_plain (has_volume id d) is_there_already _ (lit< tt) (in_plain d (found family number ts) _ (λ t s. unless_plain (not (has_volume_room d) || is_last_count s.volume.release) no_room_left _ (lit< tt) tt))
 verdict_plain d ts last stamp (calls.SetFlags family number flags) = in_plain d (found family number ts) _ (λ t s. tt)
 verdict_plain d ts last stamp (calls.GetFlags family number) = in_plain d (found family number ts) _ (λ t s. tt)
 verdict_plain d ts last stamp (calls.TransCreate family id flags) = begins_plain ts last stamp family id flags (volume_of_family family (get id d.volumes))
@@ -181,7 +181,7 @@ module _ (kept : Table Kept) (d : Durable) where
   same_verdict ts last stamp (calls.Restore family number offset final piece) = same_transaction (found family number ts) _
   same_verdict ts last stamp (calls.Forward family number from server target) = same_transaction (found family number ts) _
   same_verdict ts last stamp (calls.EndTrans family number) = same_transaction (found family number ts) _
-  same_verdict ts last stamp (calls.Clone family number id name kind) = ap (unless (has_volume id d) is_there_already) (same_transaction (found family number ts) (clones d id name kind))
+  same_verdict ts last stamp (calls.Clone family number id name kind) = ap (refused_where (has_volume id d) is_there_already) (same_transaction (found family number ts) (clones d id name kind))
   same_verdict ts last stamp (calls.SetFlags family number flags) = same_transaction (found family number ts) _
   same_verdict ts last stamp (calls.GetFlags family number) = same_transaction (found family number ts) _
   same_verdict ts last stamp (calls.TransCreate family id flags) = refl

@@ -11,18 +11,18 @@ use Rattle.afs_num.specs.declared.records.RecordBody.{RecordBody}
 use Rattle.afs_num.specs.declared.records.RecordBody.TheVariants as bodies
 use Rattle.afs_num.specs.declared.types.Head.{Head}
 use Rattle.afs_num.specs.declared.volume_calls.VolCall.{VolCall}
-use Rattle.afs_ideal.specs.Tables.{Table}
-use Rattle.afs_model.specs.Calls.{runs, Admitted}
-use Rattle.afs_records.specs.Durable.{Durable}
-use Rattle.afs_shape.specs.Tables.{IsServer}
-use Rattle.afs_fold.specs.Deeds.{can_take, done_by}
+use Rattle.spec_ideal.specs.Tables.{Table}
+use Rattle.spec_model.specs.Calls.{runs, Admitted}
+use Rattle.spec_records.specs.Durable.{Durable}
+use Rattle.spec_shape.specs.Tables.{IsServer}
+use Rattle.spec_fold.specs.Deeds.{can_take, done_by}
 use Rattle.afs_memory.specs.Named.{IsRestored, IsRestoredThere}
 use Rattle.afs_volume.specs.declared.volume.Volume.{Volume}
-use Rattle.afs_volrows.specs.VolLaws.{AreApart}
-use Rattle.afs_volrows.specs.VolRow as row
-use Rattle.afs_volrows.specs.VolRow.{last_after, transactions_after, without_family}
-use Rattle.afs_volrows.specs.VolSteps.{dispatches, drops, is_vol_caller, not_written, or_stamp, raised_by, repeats, replies_to, same_by, tells_boot, when_full, written, Deed, VolDecision}
-use Rattle.afs_volrows.specs.VolStates.{Transaction, VolState}
+use Rattle.spec_volrows.specs.VolLaws.{AreApart}
+use Rattle.spec_volrows.specs.VolRow as row
+use Rattle.spec_volrows.specs.VolRow.{last_after, transactions_after, without_family}
+use Rattle.spec_volrows.specs.VolSteps.{dispatches, drops, is_vol_caller, not_written, or_stamp, raised_by, repeats, replies_to, same_by, tells_boot, when_full, written, Deed, VolDecision}
+use Rattle.spec_volrows.specs.VolStates.{Transaction, VolState}
 use Rattle.afs_voldecisions.specs.Numbering.{Numbered}
 use Rattle.afs_voldecisions.specs.Replies.{answer_message, CanAnswer}
 use Rattle.afs_voldecisions.specs.Verdicts.{after_of, dispatch_of, HasForm}

@@ -1,8 +1,8 @@
 -- What the transactions of a volume server keep in order.
 use Rattle.std.specs.Prelude.{◌≡◌, ◌⊎◌, ℕ, Some}
 use Rattle.std.specs.List.{AllByRecursion}
-use Rattle.afs_ideal.specs.Tables.{get, AscendsFrom, Table}
-use Rattle.afs_volrows.specs.VolStates.{Transaction}
+use Rattle.spec_ideal.specs.Tables.{get, AscendsFrom, Table}
+use Rattle.spec_volrows.specs.VolStates.{Transaction}
 
 -- 1 for a volume that is offline, 2 for one that is busy
 abbrev pub IsHoldFlag : ℕ → Type 0

@@ -1,15 +1,15 @@
 -- What is looked up in the store for a call.
 use Rattle.std.specs.Prelude.{ℕ, Bool, List, [], ◌∷◌, ◌++◌, Option, Some, None, filter, map, take, if◌then◌else◌}
 use Rattle.afs_num.specs.declared.volume_calls.ListedVolume.{ListedVolume}
-use Rattle.afs_ideal.specs.Tables.{Table}
-use Rattle.afs_records.specs.Durable.{Stored}
+use Rattle.spec_ideal.specs.Tables.{Table}
+use Rattle.spec_records.specs.Durable.{Stored}
 use Rattle.afs_shelves.specs.Shelving.{stored_as}
-use Rattle.afs_volrows.specs.VolRow.{is_of_family, listed}
+use Rattle.spec_volrows.specs.VolRow.{is_of_family, volume_listed}
 use Rattle.afs_volume.specs.declared.volume.Volume.{Volume}
 
 -- what a list tells of a volume, where it is of the family
 abbrev pub listed_in : ℕ → ℕ × Stored → Option ListedVolume
-listed_in family p = if is_of_family family p then Some (listed p) else None
+listed_in family p = if is_of_family family p then Some (volume_listed p) else None
 
 -- of one in memory
 abbrev pub listed_of : ℕ → Bool → Volume → Option ListedVolume
@@ -27,4 +27,4 @@ with_one vs (Some v) = vs ++ v ∷ []
 
 -- what a list tells of the volumes before this place
 abbrev pub listed_before : ℕ → ℕ → Table Stored → List ListedVolume
-listed_before family place t = map listed (filter (is_of_family family) (take place t))
+listed_before family place t = map volume_listed (filter (is_of_family family) (take place t))

@@ -1,12 +1,12 @@
 //! What is answered or written by a verdict.
 
 ghost use Rattle.std.specs.Prelude.{◌≡◌, ◌<◌, ◌^◌, pos, IfOk, if◌then◌else◌};
-ghost use Rattle.afs_rows.specs.ServerRow.{bad_fields, not_served};
+ghost use Rattle.spec_rows.specs.ServerRow.{bad_fields, not_served};
 ghost use Rattle.afs_voldecisions.specs.Verdicts.{after_of};
 ghost use Rattle.afs_voldecisions.specs.declared.replies.Answer.TheVariants as answers;
 ghost use Rattle.afs_voldecisions.specs.declared.transactions.After.TheVariants as afters;
 ghost use Rattle.afs_voldecisions.specs.declared.verdicts.Verdict.TheVariants as verdicts;
-ghost use Rattle.afs_volrows.specs.VolSteps.{is_vol_caller, is_volume_call, when_full};
+ghost use Rattle.spec_volrows.specs.VolSteps.{is_vol_caller, is_volume_call, when_full};
 ghost use Rattle.afs_volanswers.specs.Deciding.{raised_decided, same_decided, same_planned, saving_of, IsCoded, IsFullAnswer};
 ghost use Rattle.afs_volanswers.specs.declared.decided.Decided.TheVariants as decided;
 

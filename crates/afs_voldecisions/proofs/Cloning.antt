@@ -4,14 +4,14 @@ use Rattle.std.specs.Borrow.{Bor}
 use Rattle.std.specs.Option.{option_copied}
 use Rattle.afs_num.specs.declared.records.RecordBody.TheVariants as bodies
 use Rattle.afs_num.specs.declared.volume_calls.VolReply.TheVariants as replies
-use Rattle.afs_ideal.specs.Operations.{is_last_count}
-use Rattle.afs_ideal.specs.Tables.{Table}
-use Rattle.afs_records.specs.Durable.{Stored}
-use Rattle.afs_dumps.specs.Clones.{next_release}
+use Rattle.spec_ideal.specs.Operations.{is_last_count}
+use Rattle.spec_ideal.specs.Tables.{Table}
+use Rattle.spec_records.specs.Durable.{Stored}
+use Rattle.spec_dumps.specs.Clones.{next_release}
 use Rattle.afs_shelves.specs.Shelving.{stored_as}
 use Rattle.afs_volume.specs.declared.volume.Volume.{Volume}
-use Rattle.afs_volrows.specs.VolRow as row
-use Rattle.afs_volrows.specs.VolStates.{Transaction}
+use Rattle.spec_volrows.specs.VolRow as row
+use Rattle.spec_volrows.specs.VolStates.{Transaction}
 use Rattle.afs_voldecisions.specs.Verdicts.{family_in, IsShelf, IsVerdict}
 use Rattle.afs_voldecisions.specs.declared.verdicts.Verdict.{Verdict}
 use Rattle.afs_voldecisions.proofs.Seeing.{one_of_family}
@@ -19,7 +19,7 @@ use Rattle.afs_voldecisions.proofs.Seeing.{one_of_family}
 -- of the volume of this number, with the name and kind of the one that was there
 abbrev pub cloned_again : ℕ → ℕ → Stored → Stored → row.Verdict
 cloned_again source id s old =
-    row.unless (is_last_count s.volume.release) row.no_more
+    row.refused_where (is_last_count s.volume.release) row.no_room_left
     (row.writes (replies.ReClone s.volume.counter (next_release s)) (bodies.Clone source id old.volume.name old.volume.kind (next_release s)) (Some id) row.stay)
 
 -- where no other transaction holds it

@@ -7,15 +7,15 @@ use Rattle.afs_num.specs.declared.messages.Call.TheVariants as ask
 use Rattle.afs_num.specs.declared.volume_calls.ListedVolume.{ListedVolume}
 use Rattle.afs_num.specs.declared.volume_calls.VolCall.{VolCall}
 use Rattle.afs_num.specs.declared.volume_calls.VolCall.TheVariants as calls
-use Rattle.afs_ideal.specs.Tables.{get, Table}
-use Rattle.afs_model.specs.CellRows.{call_number}
-use Rattle.afs_records.specs.Durable.{Durable, Stored}
-use Rattle.afs_fold.specs.Deeds.{has_volume, has_volume_room}
+use Rattle.spec_ideal.specs.Tables.{get, Table}
+use Rattle.spec_model.specs.CellRows.{call_number}
+use Rattle.spec_records.specs.Durable.{Durable, Stored}
+use Rattle.spec_fold.specs.Deeds.{has_volume, has_volume_room}
 use Rattle.afs_shelves.specs.Shelving.{stored_as}
 use Rattle.afs_volume.specs.declared.volume.Volume.{Volume}
-use Rattle.afs_volrows.specs.VolRow as row
-use Rattle.afs_volrows.specs.VolRow.{found}
-use Rattle.afs_volrows.specs.VolStates.{Transaction}
+use Rattle.spec_volrows.specs.VolRow as row
+use Rattle.spec_volrows.specs.VolRow.{found}
+use Rattle.spec_volrows.specs.VolStates.{Transaction}
 use Rattle.afs_voldecisions.specs.Verdicts.{family_in, is_clone, is_outside, judged_in, number_in, IsDecided, IsHeld, IsNamedBy, IsShelf, IsVerdict, Sees}
 use Rattle.afs_voldecisions.specs.declared.verdicts.Verdict.{Verdict}
 use Rattle.afs_voldecisions.proofs.Judging.{decided_of, row_in, weaker}

@@ -5,12 +5,12 @@ use Rattle.std.proofs.Math.Nat.{min-le_left}
 use Rattle.std.proofs.lemmas.Bool.Decides.{nat_tests}
 use Rattle.std.proofs.lemmas.List.{length-take}
 use Rattle.afs_num.specs.declared.volume_calls.VolReply.TheVariants as replies
-use Rattle.afs_dumps.specs.Dumps.{dump_of}
-use Rattle.afs_dumps.specs.Streams.{dump_bytes, is_last_at, piece_at}
+use Rattle.spec_dumps.specs.Dumps.{dump_of}
+use Rattle.spec_dumps.specs.Streams.{dump_bytes, is_last_at, piece_at}
 use Rattle.afs_volume.specs.Taking.{stored_of}
 use Rattle.afs_volume.specs.declared.volume.Volume.{Volume}
-use Rattle.afs_volrows.specs.VolRow as row
-use Rattle.afs_volrows.specs.VolRow.{most_piece}
+use Rattle.spec_volrows.specs.VolRow as row
+use Rattle.spec_volrows.specs.VolRow.{most_piece}
 use Rattle.afs_voldecisions.specs.Verdicts.{made_in, verdict_of, CanTell, IsReplyTo, IsVerdict, Judges}
 use Rattle.afs_voldecisions.specs.declared.verdicts.Verdict.{Verdict}
 

@@ -1,8 +1,8 @@
 -- What a volume server writes has a form in a record.
 use Rattle.std.proofs.Common.{◌≡◌, ◌≤◌, ◌<◌, ◌^◌, ℕ, Bool, true, false, List, length, Some, refl, arith, le-leb, lit<}
 use Rattle.afs_num.specs.declared.records.RecordBody.TheVariants as bodies
-use Rattle.afs_records.specs.Records.{flag_form, kind_form, most_dump, most_name, server_form}
-use Rattle.afs_shape.specs.Tables.{IsServer, IsVolumeKind}
+use Rattle.spec_records.specs.Records.{flag_form, kind_form, most_dump, most_name, server_form}
+use Rattle.spec_shape.specs.Tables.{IsServer, IsVolumeKind}
 use Rattle.afs_voldecisions.specs.Verdicts.{HasForm, IsNamed}
 
 kind_fits : (n : ℕ) → n < 2 ^ 32 → IsVolumeKind n → kind_form.Fits n

@@ -6,15 +6,15 @@ use Rattle.std.specs.Borrow.{Bor}
 use Rattle.afs_num.specs.declared.messages.Call.TheVariants as ask
 use Rattle.afs_num.specs.declared.volume_calls.VolCall.{VolCall}
 use Rattle.afs_num.specs.declared.volume_calls.VolCall.TheVariants as calls
-use Rattle.afs_ideal.specs.Tables.{get, Table}
-use Rattle.afs_model.specs.CellRows.{call_number}
-use Rattle.afs_records.specs.Durable.{Durable, Stored}
-use Rattle.afs_fold.specs.Deeds.{has_volume, has_volume_room}
+use Rattle.spec_ideal.specs.Tables.{get, Table}
+use Rattle.spec_model.specs.CellRows.{call_number}
+use Rattle.spec_records.specs.Durable.{Durable, Stored}
+use Rattle.spec_fold.specs.Deeds.{has_volume, has_volume_room}
 use Rattle.afs_shelves.specs.Shelving.{stored_as}
 use Rattle.afs_volume.specs.declared.volume.Volume.{Volume}
-use Rattle.afs_volrows.specs.VolRow as row
-use Rattle.afs_volrows.specs.VolRow.{found}
-use Rattle.afs_volrows.specs.VolStates.{Transaction}
+use Rattle.spec_volrows.specs.VolRow as row
+use Rattle.spec_volrows.specs.VolRow.{found}
+use Rattle.spec_volrows.specs.VolStates.{Transaction}
 use Rattle.afs_voldecisions.specs.Verdicts.{is_clone, is_outside, judged_in, made_in, named_in, number_in, IsDecided, IsJudged, IsMadeIn, IsMadeOrNone, IsMadeWith, IsNamedBy, IsShelf, IsVerdict, Judges}
 use Rattle.afs_voldecisions.specs.declared.verdicts.Verdict.{Verdict}
 use Rattle.afs_voldecisions.specs.declared.verdicts.Verdict.TheVariants as verdicts
@@ -66,14 +66,14 @@ row_in d ts last stamp (calls.ReClone family number id) o c = refl
 
 -- a Clone, by whether its volume is there
 pub row_of_clone : (d : Durable) (ts : Table Transaction) (last stamp : ℕ) (call : VolCall) (there : Bool) → is_clone call ≡ true → ((id : ℕ) → named_in call ≡ Some id → there ≡ has_volume id d) →
-    row.verdict d ts last stamp call ≡ row.unless there row.is_there_already (row.in_transaction d (found (row.family_of call) (number_in call) ts) (judged_in d ts call))
+    row.verdict d ts last stamp call ≡ row.refused_where there row.is_there_already (row.in_transaction d (found (row.family_of call) (number_in call) ts) (judged_in d ts call))
 row_of_clone d ts last stamp (calls.CreateVolume family id name kind flags quota) there c is = absurd cc
 row_of_clone d ts last stamp (calls.DeleteVolume family number) there c is = absurd cc
 row_of_clone d ts last stamp (calls.Restore family number offset final piece) there c is = absurd cc
 row_of_clone d ts last stamp (calls.Forward family number from server target) there c is = absurd cc
 row_of_clone d ts last stamp (calls.EndTrans family number) there c is = absurd cc
 row_of_clone d ts last stamp (calls.Clone family number id name kind) there c is =
-    ap (λ (b : Bool). row.unless b row.is_there_already (row.in_transaction d (found family number ts) (row.clones d id name kind))) (sym (is id refl))
+    ap (λ (b : Bool). row.refused_where b row.is_there_already (row.in_transaction d (found family number ts) (row.clones d id name kind))) (sym (is id refl))
 row_of_clone d ts last stamp (calls.SetFlags family number flags) there c is = absurd cc
 row_of_clone d ts last stamp (calls.GetFlags family number) there c is = absurd cc
 row_of_clone d ts last stamp (calls.TransCreate family id flags) there c is = absurd cc
@@ -128,7 +128,7 @@ module _ (has_room : Bool) (ts : Table Transaction) (t : Transaction) (v : Volum
   pub dumps_in : {E : Type 0} (r : Result Verdict E) (call : VolCall) (family number from offset : ℕ) → call ≡ calls.Dump family number from offset → IfOk r (Judges 109 v (row.dumps from offset)) → IfOk r (JudgedIn call)
   dumps_in r call family number from offset is h = in_call r call _ is h (λ x judges d is_new room held seen. judged_of _ v _ x (judges is_new t held))
 
-  pub status_in : (call : VolCall) (x : Verdict) (family number : ℕ) → call ≡ calls.GetStatus family number → Judges 113 v row.status_of x → JudgedIn call x
+  pub status_in : (call : VolCall) (x : Verdict) (family number : ℕ) → call ≡ calls.GetStatus family number → Judges 113 v row.tells_status x → JudgedIn call x
   status_in call x family number is judges = subst (λ (c : VolCall). JudgedIn c x) (sym is) (λ d is_new room held seen. judged_of _ v _ x (judges is_new t held))
 
   pub reclones_in : {E : Type 0} (r : Result Verdict E) (call : VolCall) (family number id : ℕ) → t.family ≡ row.family_of call → call ≡ calls.ReClone family number id →

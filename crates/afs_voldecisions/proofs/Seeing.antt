@@ -3,10 +3,10 @@ use Rattle.std.proofs.Common.{◌≡◌, ℕ, Bool, true, false, Option, Some, N
 use Rattle.std.specs.Prelude.{if◌then◌else◌, is_some}
 use Rattle.std.specs.Borrow.{Bor}
 use Rattle.std.specs.Option.{option_copied, option_map}
-use Rattle.afs_records.specs.Durable.{Stored}
+use Rattle.spec_records.specs.Durable.{Stored}
 use Rattle.afs_shelves.specs.Shelving.{stored_as}
 use Rattle.afs_volume.specs.declared.volume.Volume.{Volume}
-use Rattle.afs_volrows.specs.VolRow.{volume_of_family}
+use Rattle.spec_volrows.specs.VolRow.{volume_of_family}
 use Rattle.afs_voldecisions.specs.Verdicts.{family_in, IsShelf}
 
 pub seen_there : (id : ℕ) (v : Option (Bor Volume)) (o : Option Stored) → IsShelf id v o → is_some v ≡ is_some o

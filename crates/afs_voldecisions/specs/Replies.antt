@@ -2,9 +2,9 @@
 use Rattle.std.specs.Prelude.{◌≡◌, ℕ, false}
 use Rattle.afs_num.specs.declared.messages.Message.{Message}
 use Rattle.afs_num.specs.declared.types.Head.{Head}
-use Rattle.afs_model.specs.Heads.{is_zero}
-use Rattle.afs_rows.specs.ServerRow.{refusal}
-use Rattle.afs_volrows.specs.VolSteps.{vol_reply}
+use Rattle.spec_model.specs.Heads.{is_zero}
+use Rattle.spec_rows.specs.ServerRow.{refusal}
+use Rattle.spec_volrows.specs.VolSteps.{vol_reply}
 use Rattle.afs_voldecisions.specs.Verdicts.{IsReplyTo}
 use Rattle.afs_voldecisions.specs.declared.replies.Answer.{Answer}
 use Rattle.afs_voldecisions.specs.declared.replies.Answer.TheVariants as answers

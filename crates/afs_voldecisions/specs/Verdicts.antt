@@ -9,19 +9,19 @@ use Rattle.afs_num.specs.declared.volume_calls.VolCall.{VolCall}
 use Rattle.afs_num.specs.declared.volume_calls.VolCall.TheVariants as calls
 use Rattle.afs_num.specs.declared.volume_calls.VolReply.{VolReply}
 use Rattle.afs_num.specs.declared.volume_calls.VolReply.TheVariants as replies
-use Rattle.afs_shape.specs.Rows.{IsWithin}
-use Rattle.afs_shape.specs.Tables.{IsServer, IsVolumeKind}
-use Rattle.afs_ideal.specs.Tables.{get, Table}
-use Rattle.afs_model.specs.CellRows.{cell_replies, reply_number}
-use Rattle.afs_records.specs.Durable.{Durable, Stored}
-use Rattle.afs_records.specs.Records.{most_name, store_table}
-use Rattle.afs_dumps.specs.Restores.{finished}
-use Rattle.afs_fold.specs.Deeds.{has_volume_room}
+use Rattle.spec_shape.specs.Rows.{IsWithin}
+use Rattle.spec_shape.specs.Tables.{IsServer, IsVolumeKind}
+use Rattle.spec_ideal.specs.Tables.{get, Table}
+use Rattle.spec_model.specs.CellRows.{cell_replies, reply_number}
+use Rattle.spec_records.specs.Durable.{Durable, Stored}
+use Rattle.spec_records.specs.Records.{most_name, store_table}
+use Rattle.spec_dumps.specs.Restores.{restored_from}
+use Rattle.spec_fold.specs.Deeds.{has_volume_room}
 use Rattle.afs_shelves.specs.Shelving.{stored_as}
 use Rattle.afs_volume.specs.declared.volume.Volume.{Volume}
-use Rattle.afs_volrows.specs.VolRow as row
-use Rattle.afs_volrows.specs.VolRow.{found, list_of}
-use Rattle.afs_volrows.specs.VolStates.{Transaction}
+use Rattle.spec_volrows.specs.VolRow as row
+use Rattle.spec_volrows.specs.VolRow.{found, list_of}
+use Rattle.spec_volrows.specs.VolStates.{Transaction}
 use Rattle.afs_voldecisions.specs.declared.transactions.After.{After}
 use Rattle.afs_voldecisions.specs.declared.transactions.After.TheVariants as afters
 use Rattle.afs_voldecisions.specs.declared.verdicts.Dispatch.{Dispatch}
@@ -143,7 +143,7 @@ pub record Sees (d : Durable) (ts : Table Transaction) (call : VolCall) (named h
 pub record IsMadeOf (v : Volume) (id : ℕ) (dump : List ℕ) (w : Volume) : Type 0 where
   pub here : id ≡ v.head.id
   pub number : w.head.id ≡ id
-  pub made : (is_new : Bool) → finished id (stored_as is_new v) dump ≡ Ok (stored_as is_new w)
+  pub made : (is_new : Bool) → restored_from id (stored_as is_new v) dump ≡ Ok (stored_as is_new w)
 
 abbrev pub IsMadeBy : Volume → Option RecordBody → Volume → Type 0
 IsMadeBy v (Some (bodies.Restore id dump)) w = IsMadeOf v id dump w
@@ -197,6 +197,6 @@ judged_in d ts (calls.SetFlags family number flags) t s = row.sets_flags flags t
 judged_in d ts (calls.GetFlags family number) t s = row.tells (replies.GetFlags s.volume.flags)
 judged_in d ts (calls.Dump family number from offset) t s = row.dumps from offset t s
 judged_in d ts (calls.SetForwarding family number server) t s = row.writes replies.SetForwarding (bodies.Forward t.volume server) None row.stay
-judged_in d ts (calls.GetStatus family number) t s = row.status_of t s
+judged_in d ts (calls.GetStatus family number) t s = row.tells_status t s
 judged_in d ts (calls.ReClone family number id) t s = row.clones_anew number ts id t s (row.volume_of_family family (get id d.volumes))
 judged_in d ts call t s = row.refusing row.no_such

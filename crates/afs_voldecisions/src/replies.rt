@@ -2,9 +2,9 @@
 
 ghost use Rattle.std.specs.Prelude.{◌≡◌, ℕ, IfOk};
 ghost use Rattle.afs_num.specs.declared.types.Head as heads;
-ghost use Rattle.afs_model.specs.Heads.{IsSoundHead};
-ghost use Rattle.afs_volrows.specs.VolSteps.{forward_reply, vol_reply};
-ghost use Rattle.afs_rows.specs.ServerRow.{refusal};
+ghost use Rattle.spec_model.specs.Heads.{IsSoundHead};
+ghost use Rattle.spec_volrows.specs.VolSteps.{forward_reply, vol_reply};
+ghost use Rattle.spec_rows.specs.ServerRow.{refusal};
 ghost use Rattle.afs_voldecisions.specs.Replies.{answer_message, CanAnswer};
 
 use afs_callees::replies::refusal;

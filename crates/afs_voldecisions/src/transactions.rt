@@ -2,8 +2,8 @@
 
 ghost use Rattle.std.specs.Prelude.{◌≡◌, ◌+◌, [], IfOk, OnOk};
 ghost use Rattle.std.specs.Option.{option_copied};
-ghost use Rattle.afs_ideal.specs.Tables.{get, set, unset, AscendsFrom};
-ghost use Rattle.afs_volrows.specs.VolRow.{found, gave, is_held_by_other, last_after, transactions_after, without_family};
+ghost use Rattle.spec_ideal.specs.Tables.{get, set, unset, AscendsFrom};
+ghost use Rattle.spec_volrows.specs.VolRow.{found, gave, is_held_by_other, last_after, transactions_after, without_family};
 ghost use Rattle.afs_voldecisions.specs.Verdicts.{after_of};
 
 use afs_num::sequences::Octets;
@@ -26,7 +26,7 @@ pub struct Transaction {
 }
 
 impl Model for Transaction {
-    ghost use Rattle.afs_volrows.specs.VolStates.{Transaction};
+    ghost use Rattle.spec_volrows.specs.VolStates.{Transaction};
 
     ghost Value = { Transaction };
 
@@ -89,7 +89,7 @@ pub struct Transactions {
 }
 
 impl Model for Transactions {
-    ghost use Rattle.afs_ideal.specs.Tables.{AscendsFrom};
+    ghost use Rattle.spec_ideal.specs.Tables.{AscendsFrom};
     ghost use Rattle.afs_voldecisions.specs.Numbering.{Numbered};
 
     ghost Value = { Numbered };

@@ -7,20 +7,20 @@ ghost use Rattle.std.specs.Option.{option_copied};
 ghost use Rattle.afs_num.specs.declared.messages.Call.TheVariants as ask;
 ghost use Rattle.afs_num.specs.declared.records.RecordBody.TheVariants as bodies;
 ghost use Rattle.afs_num.specs.declared.volume_calls.VolReply.TheVariants as replies;
-ghost use Rattle.afs_shape.specs.Rows.{IsWithin};
-ghost use Rattle.afs_shape.specs.Tables.{IsCount, IsListedVolume, IsServer};
-ghost use Rattle.afs_ideal.specs.Operations.{is_last_count};
-ghost use Rattle.afs_model.specs.CellRows.{cell_calls, call_number};
-ghost use Rattle.afs_records.specs.Durable.{Durable, Stored};
-ghost use Rattle.afs_records.specs.Records.{most_dump};
-ghost use Rattle.afs_dumps.specs.Clones.{next_release};
-ghost use Rattle.afs_dumps.specs.Restores.{fed, finished};
-ghost use Rattle.afs_dumps.specs.Streams.{piece_at};
-ghost use Rattle.afs_fold.specs.Deeds.{has_volume, has_volume_room};
+ghost use Rattle.spec_shape.specs.Rows.{IsWithin};
+ghost use Rattle.spec_shape.specs.Tables.{IsCount, IsListedVolume, IsServer};
+ghost use Rattle.spec_ideal.specs.Operations.{is_last_count};
+ghost use Rattle.spec_model.specs.CellRows.{cell_calls, call_number};
+ghost use Rattle.spec_records.specs.Durable.{Durable, Stored};
+ghost use Rattle.spec_records.specs.Records.{most_dump};
+ghost use Rattle.spec_dumps.specs.Clones.{next_release};
+ghost use Rattle.spec_dumps.specs.Restores.{fed, restored_from};
+ghost use Rattle.spec_dumps.specs.Streams.{piece_at};
+ghost use Rattle.spec_fold.specs.Deeds.{has_volume, has_volume_room};
 ghost use Rattle.afs_shelves.specs.Shelving.{stored_as};
 ghost use Rattle.afs_volume.specs.declared.volume.Volume as seen;
-ghost use Rattle.afs_volrows.specs.VolRow as row;
-ghost use Rattle.afs_volrows.specs.VolRow.{begins_new, busy_or_offline, found, most_piece, takes_out};
+ghost use Rattle.spec_volrows.specs.VolRow as row;
+ghost use Rattle.spec_volrows.specs.VolRow.{begins_new, busy_or_offline, found, most_piece, takes_out};
 ghost use Rattle.afs_voldecisions.specs.Verdicts.{after_of, family_in, is_clone, is_outside, judged_in, made_in, named_in, number_in, verdict_of, CanTell, HasForm, IsDecided, IsHeld, IsJudged, IsNamed, IsNamedBy, IsReplyTo, IsShelf, IsVerdict, Judges, Sees};
 
 use crate::transactions::{After, Transaction, Transactions};
@@ -316,7 +316,7 @@ fn clones(
 
 /// A clone is made anew of the transaction's volume, unless that volume's release can't be raised.
 fn clones_again(alloc: Global, volume: &Volume, id: u32, old: &Volume) -> Mem<Verdict>
-    ensures { IfOk result (λ x. (is_new was_new : Bool) → IsVerdict 120 (row.unless (is_last_count volume.now.head.release) row.no_more (row.writes (replies.ReClone (stored_as is_new volume.now).volume.counter (next_release (stored_as is_new volume.now)))
+    ensures { IfOk result (λ x. (is_new was_new : Bool) → IsVerdict 120 (row.refused_where (is_last_count volume.now.head.release) row.no_room_left (row.writes (replies.ReClone (stored_as is_new volume.now).volume.counter (next_release (stored_as is_new volume.now)))
         (bodies.Clone volume.now.head.id id (stored_as was_new old.now).volume.name (stored_as was_new old.now).volume.kind (next_release (stored_as is_new volume.now))) (Some id) row.stay)) x) }
 {
     let head = volume.head();
@@ -421,7 +421,7 @@ fn restoring(alloc: Global, number: u32, id: u32, dump: Octets, made: Volume) ->
 /// The last piece, with all bytes that were given: the dump is restored, or it is refused and all of it forgotten.
 fn whole_given(alloc: Global, number: u32, given: Octets, volume: &Volume) -> Mem<Verdict>
     requires { length given ≤ most_dump }
-    ensures { IfOk result (λ x. (is_new : Bool) → IsJudged 102 volume.now (row.whole_given number volume.now.head.id given (finished volume.now.head.id (stored_as is_new volume.now) given)) x) }
+    ensures { IfOk result (λ x. (is_new : Bool) → IsJudged 102 volume.now (row.whole_given number volume.now.head.id given (restored_from volume.now.head.id (stored_as is_new volume.now) given)) x) }
 {
     match restore(alloc, given.as_slice(), volume) {
         Ok(made) => Ok(restoring(alloc, number, volume.head().id, given, made)),
@@ -529,7 +529,7 @@ fn sets_flags(flags: u32, volume: &Volume) -> Verdict
 
 /// GetStatus.
 fn status_of(volume: &Volume) -> Verdict
-    ensures { Judges 113 volume.now row.status_of result }
+    ensures { Judges 113 volume.now row.tells_status result }
 {
     let head = volume.head();
     let reply = VolReply::GetStatus {

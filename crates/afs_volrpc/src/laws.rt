@@ -5,9 +5,9 @@ ghost use Rattle.afs_num.specs.declared.types.Head.{Head};
 ghost use Rattle.afs_num.specs.declared.volume_calls.VolCall.{VolCall};
 ghost use Rattle.afs_num.specs.declared.volume_calls.VolReply.{VolReply};
 ghost use Rattle.afs_fields.specs.TableRows.{rows_of};
-ghost use Rattle.afs_shape.specs.Rows.{table_rows};
-ghost use Rattle.afs_model.specs.Rpc.{SpellsCall, SpellsReply};
-ghost use Rattle.afs_model.specs.VolRows.{vol_calls, vol_replies};
+ghost use Rattle.spec_shape.specs.Rows.{table_rows};
+ghost use Rattle.spec_model.specs.Rpc.{SpellsCall, SpellsReply};
+ghost use Rattle.spec_model.specs.VolRows.{vol_calls, vol_replies};
 
 use crate::tables::{CALLS, REPLIES};
 

@@ -5,14 +5,14 @@ ghost use Rattle.std.specs.Option.{option_copied};
 ghost use Rattle.afs_num.specs.declared.types.Half.TheVariants as halves;
 ghost use Rattle.afs_num.specs.declared.types.Head.{Head};
 ghost use Rattle.afs_num.specs.declared.volume_calls.VolReply.{VolReply};
-ghost use Rattle.afs_model.specs.Rpc.{spelled_reply, SpellsReply, ReadsReply, IsValueOrNoMemory, CanAnswer, IsHeadFor, IsOpcodeOf};
-ghost use Rattle.afs_model.specs.VolRows.{vol_replies};
+ghost use Rattle.spec_model.specs.Rpc.{spelled_reply, SpellsReply, ReadsReply, IsValueOrNoMemory, CanAnswer, IsHeadFor, IsOpcodeOf};
+ghost use Rattle.spec_model.specs.VolRows.{vol_replies};
 
 use crate::tables::VolReplies;
 use afs_num::sequences::Octets;
 use afs_num::types::{Code, Head, Mem};
 use afs_num::volume_calls::VolReply;
-use afs_shape::faults::ShapeFault;
+use spec_shape::faults::ShapeFault;
 use std::alloc::Global;
 
 /// The reply of these bytes: its header, its code and, exactly where that is 0, its fields. `Head` where the header

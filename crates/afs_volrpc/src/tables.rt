@@ -1,16 +1,16 @@
 //! The two tables: a row for each opcode, with the message's name and its fields in order, each of its kind.
 
-ghost use Rattle.afs_model.specs.VolRows.{vol_calls, vol_replies};
-ghost use Rattle.afs_model.proofs.VolMade.{calls_sound, replies_sound};
+ghost use Rattle.spec_model.specs.VolRows.{vol_calls, vol_replies};
+ghost use Rattle.spec_model.proofs.VolMade.{calls_sound, replies_sound};
 
 use afs_fields::messages::Messages;
 use afs_fields::tables::{Shape, Table};
 use afs_fields::{message_read, room_of, shape_of, table_of, written_of};
 use afs_num::types::Mem;
 use afs_num::volume_calls::{VolCall, VolReply};
-use afs_shape::faults::ShapeFault;
 use afs_xdr::reading::Reader;
 use afs_xdr::writing::Writer;
+use spec_shape::faults::ShapeFault;
 use std::alloc::Global;
 
 /// A piece of a dump, in bytes.
@@ -98,7 +98,7 @@ impl Messages for VolCalls {
         with_calls!(room_of(call, VolCall))
     }
 
-    #[tactic(auto, using(afs_shape::proofs::Spellable::parts_spellable))]
+    #[tactic(auto, using(spec_shape::proofs::Spellable::parts_spellable))]
     fn write(call: &VolCall, w: &mut Writer) -> Mem<()> {
         with_calls!(written_of(call, w, VolCall))
     }
@@ -126,7 +126,7 @@ impl Messages for VolReplies {
         with_replies!(room_of(reply, VolReply))
     }
 
-    #[tactic(auto, using(afs_shape::proofs::Spellable::parts_spellable))]
+    #[tactic(auto, using(spec_shape::proofs::Spellable::parts_spellable))]
     fn write(reply: &VolReply, w: &mut Writer) -> Mem<()> {
         with_replies!(written_of(reply, w, VolReply))
     }

@@ -5,11 +5,11 @@ use Rattle.afs_num.specs.declared.records.RecordBody.{RecordBody}
 use Rattle.afs_num.specs.declared.records.RecordBody.TheVariants as bodies
 use Rattle.afs_num.specs.declared.records.RecordHead.{RecordHead}
 use Rattle.afs_num.specs.declared.types.Node.{Node}
-use Rattle.afs_dumps.specs.Restores.{finished}
-use Rattle.afs_fold.specs.Deeds.{can_take, clone_made, clone_put, done_by, flagged, on_stored, or_as_was}
-use Rattle.afs_fold.specs.Effects.{effect_by}
-use Rattle.afs_ideal.specs.Tables.{get, set}
-use Rattle.afs_records.specs.Durable.{with_stamp, Durable, Stored}
+use Rattle.spec_dumps.specs.Restores.{restored_from}
+use Rattle.spec_fold.specs.Deeds.{can_take, clone_made, clone_put, done_by, flagged, on_stored, or_as_was}
+use Rattle.spec_fold.specs.Effects.{effect_by}
+use Rattle.spec_ideal.specs.Tables.{get, set}
+use Rattle.spec_records.specs.Durable.{with_stamp, Durable, Stored}
 
 -- with the boot, the replies, the journal and the capacity of this one
 abbrev pub like : Durable → Durable → Durable
@@ -34,7 +34,7 @@ done_like r d (bodies.Boot boot) = refl
 done_like r d (bodies.Create id family name kind flags quota is_new) = refl
 done_like r d (bodies.Delete id) = refl
 done_like r d (bodies.Clone source id name kind release) = clone_like r d source id name kind release (get source d.volumes)
-done_like r d (bodies.Restore id dump) = stored_like r d id (λ s. or_as_was s (finished id s dump)) (get id d.volumes)
+done_like r d (bodies.Restore id dump) = stored_like r d id (λ s. or_as_was s (restored_from id s dump)) (get id d.volumes)
 done_like r d (bodies.Flags id flags) = stored_like r d id (flagged flags) (get id d.volumes)
 done_like r d (bodies.Forward id to) = refl
 done_like r d bodies.Stamp = refl

@@ -8,11 +8,11 @@ use Rattle.afs_num.specs.declared.messages.Received.TheVariants.{Nothing, Unread
 use Rattle.afs_num.specs.declared.types.Head.{Head}
 use Rattle.afs_num.specs.declared.volume_calls.VolCall.{VolCall}
 use Rattle.afs_server_parts.specs.Heard.{IsUnder}
-use Rattle.afs_model.specs.CellRows.{cell_calls}
-use Rattle.afs_model.specs.Messages.{IsSoundCarried}
-use Rattle.afs_records.specs.Durable.{Durable}
-use Rattle.afs_shape.specs.Rows.{IsWithin}
-use Rattle.afs_volrows.specs.VolStates.{VolState}
+use Rattle.spec_model.specs.CellRows.{cell_calls}
+use Rattle.spec_model.specs.Messages.{IsSoundCarried}
+use Rattle.spec_records.specs.Durable.{Durable}
+use Rattle.spec_shape.specs.Rows.{IsWithin}
+use Rattle.spec_volrows.specs.VolStates.{VolState}
 use Rattle.afs_volanswers.specs.Deciding.{call_carried, call_in, full_carried, full_for, full_then, IsOfVolumes, IsVolumeCall}
 
 some_is : {A : Type 0} (x y : A) → ◌≡◌ {A = Option A} (Some x) (Some y) → x ≡ y

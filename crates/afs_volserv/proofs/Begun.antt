@@ -3,14 +3,14 @@ use Rattle.std.proofs.Common.{◌≡◌, ◌≤◌, ◌<◌, ◌+◌, ℕ, [], r
 use Rattle.std.specs.Prelude.{min, Result, Err}
 use Rattle.std.proofs.Math.Nat.{min-le_left, min-le_right}
 use Rattle.afs_num.specs.Nodes.{IsNode}
-use Rattle.afs_ideal.specs.Tables.{Table}
-use Rattle.afs_records.specs.Durable.{Stored}
-use Rattle.afs_history.specs.declared.lines.Outs.{Outs}
+use Rattle.spec_ideal.specs.Tables.{Table}
+use Rattle.spec_records.specs.Durable.{Stored}
+use Rattle.spec_history.specs.declared.lines.Outs.{Outs}
 use Rattle.afs_callbacks.specs.States.{CallbackState}
 use Rattle.afs_server_parts.specs.declared.faults.NodeFault.{NodeFault}
 use Rattle.afs_server_parts.specs.declared.faults.NodeFault.TheVariants as faults
-use Rattle.afs_volrows.specs.VolLaws.{AreApart}
-use Rattle.afs_volrows.specs.VolSteps.{VolTurn}
+use Rattle.spec_volrows.specs.VolLaws.{AreApart}
+use Rattle.spec_volrows.specs.VolSteps.{VolTurn}
 use Rattle.afs_volserv.specs.Handling.{HandlesVolumes}
 use Rattle.afs_volserv.specs.Seen.{ServesVolumes, VolMemory}
 use Rattle.afs_volstore.specs.Stores.{Store}

@@ -7,16 +7,16 @@ use Rattle.afs_num.specs.declared.messages.Received.TheVariants.{Whole}
 use Rattle.afs_num.specs.declared.records.RecordBody.{RecordBody}
 use Rattle.afs_num.specs.declared.records.RecordBody.TheVariants as bodies
 use Rattle.afs_num.specs.declared.types.Head.{Head}
-use Rattle.afs_ideal.specs.Tables.{set, Table}
-use Rattle.afs_fold.specs.Deeds.{can_take, done_by}
-use Rattle.afs_fold.specs.Fold.{body_taken, folded}
+use Rattle.spec_ideal.specs.Tables.{set, Table}
+use Rattle.spec_fold.specs.Deeds.{can_take, done_by}
+use Rattle.spec_fold.specs.Fold.{body_taken, folded}
 use Rattle.afs_message.specs.Spelled.{message_in}
-use Rattle.afs_model.specs.Messages.{received, spelled}
-use Rattle.afs_records.specs.Durable as disk
-use Rattle.afs_records.specs.Durable.{placing, with_journal, with_stamp, Durable}
-use Rattle.afs_rows.specs.ServerRow.{seat_for, seat_placed}
-use Rattle.afs_rows.specs.States.{durable_of}
-use Rattle.afs_volrows.specs.VolSteps.{deed_done, deed_head, deed_record, Deed}
+use Rattle.spec_model.specs.Messages.{received, spelled}
+use Rattle.spec_records.specs.Durable as disk
+use Rattle.spec_records.specs.Durable.{placing, with_journal, with_stamp, Durable}
+use Rattle.spec_rows.specs.ServerRow.{seat_for, seat_placed}
+use Rattle.spec_rows.specs.States.{durable_of}
+use Rattle.spec_volrows.specs.VolSteps.{deed_done, deed_head, deed_record, Deed}
 use Rattle.afs_volserv.proofs.Alike.{deed_like, like}
 use Rattle.afs_sharing.specs.Lasting.{lasting_of, KeepsForNodes}
 use Rattle.afs_saving.specs.Kept.{or_loc, seat_kept, AreToNodes}

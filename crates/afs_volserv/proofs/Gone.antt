@@ -3,9 +3,9 @@ use Rattle.std.proofs.Common.{◌≡◌, ◌≤◌, ℕ, ◌++◌, Option, Some,
 use Rattle.std.specs.Prelude.{not}
 use Rattle.std.specs.List.{All}
 use Rattle.std.proofs.lemmas.List.Elements.{All-filter}
-use Rattle.afs_breaks.specs.Promises.{expired, is_on, Lists}
-use Rattle.afs_breaks.specs.declared.types.Promise.{Promise}
-use Rattle.afs_volrows.specs.VolSteps.{owes_of, withdraws_from}
+use Rattle.spec_breaks.specs.Promises.{expired, promise_on_volume, Lists}
+use Rattle.spec_breaks.specs.declared.types.Promise.{Promise}
+use Rattle.spec_volrows.specs.VolSteps.{owes_of, withdraws_from}
 use Rattle.afs_promise.proofs.Lists.{volume_both}
 use Rattle.afs_callbacks.proofs.Lasting.{lasting_promised}
 use Rattle.afs_callbacks.specs.States.{IsPromiseToNode}
@@ -17,7 +17,7 @@ gone_owed (Some id) l = refl
 
 gone_promised : (w : Option ℕ) (l : Lists) → All IsPromiseToNode l.promises → All IsPromiseToNode (withdraws_from w l).promises
 gone_promised None l all = all
-gone_promised (Some id) l all = All-filter (λ (p : Promise). not (is_on id p)) IsPromiseToNode l.promises all
+gone_promised (Some id) l all = All-filter (λ (p : Promise). not (promise_on_volume id p)) IsPromiseToNode l.promises all
 
 gone_drawn : (w : Option ℕ) (l : Lists) → breaks_drawn (withdraws_from w l) ≡ breaks_drawn l
 gone_drawn None l = refl

@@ -2,12 +2,12 @@
 use Rattle.std.proofs.Common.{◌≡◌, ◌≤◌, ◌<◌, ◌+◌, ◌-◌, ℕ, zero, suc, Bool, true, false, cond, [], ◌∷◌, length, drop, get_or, drop-cons, Option, Some, None, is_some, nat_eq, refl, sym, ap, subst, ◌∙◌, arith, eqb-true, eq-eqb}
 use Rattle.std.specs.Prelude.{min}
 use Rattle.std.proofs.Math.Nat.{min-le_left, min-le_right}
-use Rattle.afs_ideal.specs.Tables.{get, set, unset, AscendsFrom, Table}
-use Rattle.afs_ideal.proofs.Tables.{ascends_lower, ascends_set, ascends_unset, get_below, get_set, get_unset}
-use Rattle.afs_records.proofs.Kept.{same_tables}
-use Rattle.afs_volrows.specs.VolRow.{holds_of}
-use Rattle.afs_volrows.specs.VolStates.{Transaction}
-use Rattle.afs_volrows.proofs.VolApart.{behind_found}
+use Rattle.spec_ideal.specs.Tables.{get, set, unset, AscendsFrom, Table}
+use Rattle.spec_ideal.proofs.Tables.{ascends_lower, ascends_set, ascends_unset, get_below, get_set, get_unset}
+use Rattle.spec_records.proofs.Kept.{same_tables}
+use Rattle.spec_volrows.specs.VolRow.{holds_of}
+use Rattle.spec_volrows.specs.VolStates.{Transaction}
+use Rattle.spec_volrows.proofs.VolApart.{behind_found}
 use Rattle.afs_volanswers.specs.Flagged.{AreAlone, AreFlagged, IsHoldFlag}
 
 first_there : (p : ℕ × Transaction) (ps : Table Transaction) → get p.0 (p ∷ ps) ≡ Some p.1

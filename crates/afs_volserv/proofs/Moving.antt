@@ -6,11 +6,11 @@ use Rattle.afs_num.specs.Nodes.{same_node}
 use Rattle.afs_num.specs.declared.messages.Carried.TheVariants as carried
 use Rattle.afs_num.specs.declared.types.Head.{Head}
 use Rattle.afs_num.specs.declared.types.Node.{Node}
-use Rattle.afs_history.specs.declared.lines.Line.{Line}
-use Rattle.afs_history.specs.declared.lines.Outs.{Outs}
-use Rattle.afs_model.specs.Calls.{is_sent_again, last_timeout}
-use Rattle.afs_rows.specs.Callbacks.{put_at, timeout_line}
-use Rattle.afs_rows.specs.States.{Seat}
+use Rattle.spec_history.specs.declared.lines.Line.{Line}
+use Rattle.spec_history.specs.declared.lines.Outs.{Outs}
+use Rattle.spec_model.specs.Calls.{is_sent_again, last_timeout}
+use Rattle.spec_rows.specs.Callbacks.{put_at, timeout_line}
+use Rattle.spec_rows.specs.States.{Seat}
 use Rattle.afs_callees.specs.Called.{call_to, known_to, Callee}
 use Rattle.afs_server_parts.specs.declared.ending.Ended.{Ended}
 use Rattle.afs_callbacks.specs.States.{CallbackState}
@@ -19,10 +19,10 @@ use Rattle.afs_sendings.specs.Pieces.{adds, adds_by, call_or_none, call_seen, du
 use Rattle.afs_sendings.specs.Sendings.{first_of, rest_of}
 use Rattle.afs_sendings.specs.declared.pieces.Pieces.{Pieces}
 use Rattle.afs_sendings.proofs.Ways.{retried, turned_by}
-use Rattle.afs_volrows.specs.VolStates.{Sending}
-use Rattle.afs_volrows.specs.VolSteps.{given_up, is_awaited, vol_renews, vol_told_by, VolTurn}
+use Rattle.spec_volrows.specs.VolStates.{Sending}
+use Rattle.spec_volrows.specs.VolSteps.{given_up, is_awaited, vol_renews, vol_told_by, VolTurn}
 use Rattle.afs_volserv.specs.Handling.{backs_then, vol_answered_then, vol_noticed_then, vol_timed_then, IsStep}
-use Rattle.afs_volserv.specs.Seen.{vol_seen, AreAsked, CanRelease, IsAsked, ServesVolumes, StandsBeside, VolMemory}
+use Rattle.afs_volserv.specs.Seen.{vol_seen, AreAskedByForward, CanRelease, IsAskedByForward, ServesVolumes, StandsBeside, VolMemory}
 use Rattle.afs_volserv.specs.Sending.{answered_then, ended_then, heard_by, is_heard, renewed_then, rests_then, way_before, went_then, IsSent}
 use Rattle.afs_volserv.proofs.Stepping.{can_still, kept_after, serves_as, stepped, turn_of, with_holds}
 use Rattle.afs_sharing.specs.Lasting.{lasting_of}
@@ -30,14 +30,14 @@ use Rattle.afs_sharing.specs.Lasting.{lasting_of}
 -- ---- the step
 
 pub moved_step : {D : Type 0} (m new : VolMemory) (k l : CallbackState) (s u : Store D) (now : ℕ) (ls : List Line) (w : Way) (p : Pieces) (callees : List (Callee (List Sending))) (e : Ended) (outs : Outs) (seats : List Seat) →
-    way_of p ≡ w → callees ≡ p.callees.items → IsSent now p.last p.sent k s e → w.last ≤ s.drawn + 1 → AreTo (call_to p.callees.items) → AreAsked w.calls → l ≡ kept_after now k e → u ≡ record s { drawn = e.last } → outs ≡ record e.outs { lines = ls } →
+    way_of p ≡ w → callees ≡ p.callees.items → IsSent now p.last p.sent k s e → w.last ≤ s.drawn + 1 → AreTo (call_to p.callees.items) → AreAskedByForward w.calls → l ≡ kept_after now k e → u ≡ record s { drawn = e.last } → outs ≡ record e.outs { lines = ls } →
     new ≡ record m { seats = seats; callees = callees } → StandsBeside k s → ServesVolumes m s → IsStep (turned_by (lasting_of s.durable) (record (vol_seen m) { seats = seats }) (backs_then k s now) ls w) m new k l s u outs
 moved_step {D} m new k l s u now ls w p callees e outs seats way same plan most to asked kept store given is stands serves =
     let moved = with_holds s u e.last store in
     let mine = record m { seats = seats; callees = p.callees.items } in
     let all : new ≡ mine = is ∙ (λ i. record m { seats = seats; callees = same i }) in
     let few : p.last ≤ s.drawn + 1 = subst (λ (n : ℕ). n ≤ s.drawn + 1) (ap (λ (x : Way). x.last) (sym way)) most in
-    let their : AreAsked (call_to p.callees.items) = subst AreAsked (ap (λ (x : Way). x.calls) (sym way)) asked in
+    let their : AreAskedByForward (call_to p.callees.items) = subst AreAskedByForward (ap (λ (x : Way). x.calls) (sym way)) asked in
     let there : ServesVolumes mine u = serves_as m mine s u e.last moved serves refl to their serves.apart serves.flagged (ap (λ (x : Store D). x.holds.table) store ∙ serves.holds) in
     let made = stepped k l s u now p.last p.sent e plan kept moved m new ls outs stands few given (subst (λ (x : VolMemory). ServesVolumes x u) (sym all) there) (ap (λ (x : VolMemory). x.boot) all) (λ more. subst CanRelease (sym all) (can_still m more)) in
     let seen = subst (λ (x : VolMemory). IsStep (turn_of (vol_seen x) k s now p.last ls p.sent) m new k l s u outs) all made in
@@ -76,55 +76,55 @@ adds_on me boot n x w = adds_by_least me boot n x w (w.calls n)
 
 -- ---- dumps that Forwards asked for
 
-asked_at : (b : Bool) (o p : Option Piece) → AllByRecursion IsAsked (dumps_of o) → AllByRecursion IsAsked (dumps_of p) → AllByRecursion IsAsked (dumps_of (cond b o p))
+asked_at : (b : Bool) (o p : Option Piece) → AllByRecursion IsAskedByForward (dumps_of o) → AllByRecursion IsAskedByForward (dumps_of p) → AllByRecursion IsAskedByForward (dumps_of (cond b o p))
 asked_at true o p here there = here
 asked_at false o p here there = there
 
-pub asked_put : (n : Node) (o : Option Piece) (calls : Node → Option Piece) → AllByRecursion IsAsked (dumps_of o) → AreAsked calls → AreAsked (put_at n o calls)
+pub asked_put : (n : Node) (o : Option Piece) (calls : Node → Option Piece) → AllByRecursion IsAskedByForward (dumps_of o) → AreAskedByForward calls → AreAskedByForward (put_at n o calls)
 asked_put n o calls here all = λ m. asked_at (same_node n m) o (calls m) here (all m)
 
-pub starts_asked : (me : Node) (boot : ℕ) (n : Node) (xs : List Sending) (w : Way) → AllByRecursion IsAsked xs → AreAsked w.calls → AreAsked (starts me boot n xs w).calls
+pub starts_asked : (me : Node) (boot : ℕ) (n : Node) (xs : List Sending) (w : Way) → AllByRecursion IsAskedByForward xs → AreAskedByForward w.calls → AreAskedByForward (starts me boot n xs w).calls
 starts_asked me boot n [] w here all = asked_put n None w.calls tt all
 starts_asked me boot n (x ∷ xs) w here all = asked_put n (Some (first_call w.last (x ∷ xs))) w.calls here all
 
-asked_behind : (xs : List Sending) (x : Sending) → AllByRecursion IsAsked xs → IsAsked x → AllByRecursion IsAsked (xs ++ x ∷ [])
+asked_behind : (xs : List Sending) (x : Sending) → AllByRecursion IsAskedByForward xs → IsAskedByForward x → AllByRecursion IsAskedByForward (xs ++ x ∷ [])
 asked_behind [] x all one = (one, tt)
 asked_behind (y ∷ ys) x all one = (all.0, asked_behind ys x all.1 one)
 
-adds_by_asked : (me : Node) (boot : ℕ) (n : Node) (x : Sending) (w : Way) (o : Option Piece) → AllByRecursion IsAsked (dumps_of o) → IsAsked x → AreAsked w.calls → AreAsked (adds_by me boot n x w o).calls
+adds_by_asked : (me : Node) (boot : ℕ) (n : Node) (x : Sending) (w : Way) (o : Option Piece) → AllByRecursion IsAskedByForward (dumps_of o) → IsAskedByForward x → AreAskedByForward w.calls → AreAskedByForward (adds_by me boot n x w o).calls
 adds_by_asked me boot n x w None there one all = starts_asked me boot n (x ∷ []) w (one, tt) all
 adds_by_asked me boot n x w (Some c) there one all = asked_put n (Some (record c { content = c.content ++ x ∷ [] })) w.calls (asked_behind c.content x there one) all
 
-pub adds_asked : (me : Node) (boot : ℕ) (n : Node) (x : Sending) (w : Way) → IsAsked x → AreAsked w.calls → AreAsked (adds me boot n x w).calls
+pub adds_asked : (me : Node) (boot : ℕ) (n : Node) (x : Sending) (w : Way) → IsAskedByForward x → AreAskedByForward w.calls → AreAskedByForward (adds me boot n x w).calls
 adds_asked me boot n x w one all = adds_by_asked me boot n x w (w.calls n) (all n) one all
 
-rest_asked : (xs : List Sending) → AllByRecursion IsAsked xs → AllByRecursion IsAsked (rest_of xs)
+rest_asked : (xs : List Sending) → AllByRecursion IsAskedByForward xs → AllByRecursion IsAskedByForward (rest_of xs)
 rest_asked [] all = tt
 rest_asked (x ∷ xs) all = all.1
 
 some_is : {A : Type 0} (x y : A) → Some x ≡ Some y → x ≡ y
 some_is {A} x y e = cc
 
-first_asked : (xs : List Sending) (x : Sending) → first_of xs ≡ Some x → AllByRecursion IsAsked xs → IsAsked x
+first_asked : (xs : List Sending) (x : Sending) → first_of xs ≡ Some x → AllByRecursion IsAskedByForward xs → IsAskedByForward x
 first_asked [] x e all = absurd cc
-first_asked (y ∷ ys) x e all = subst IsAsked (some_is y x e) all.0
+first_asked (y ∷ ys) x e all = subst IsAskedByForward (some_is y x e) all.0
 
 -- what is known of the call to a server
 pub record Knows (n : Node) (c : Piece) (x : Sending) : Type 0 where
   pub node : IsServerNode n
-  pub first : IsAsked x
-  pub rest : AllByRecursion IsAsked (rest_of c.content)
-  pub all : AllByRecursion IsAsked c.content
+  pub first : IsAskedByForward x
+  pub rest : AllByRecursion IsAskedByForward (rest_of c.content)
+  pub all : AllByRecursion IsAskedByForward c.content
 
 pub called_node : {D : Type 0} (m : VolMemory) (s : Store D) (n : Node) (c : Piece) → ServesVolumes m s → call_to m.callees n ≡ Some c → IsServerNode n
 called_node {D} m s n c serves is = subst (IsToOrNone n) is (serves.calls n)
 
 pub knows : {D : Type 0} (m : VolMemory) (s : Store D) (n : Node) (c : Piece) (x : Sending) → ServesVolumes m s → call_to m.callees n ≡ Some c → first_of c.content ≡ Some x → Knows n c x
 knows {D} m s n c x serves is first =
-    let all : AllByRecursion IsAsked c.content = subst (λ (o : Option Piece). AllByRecursion IsAsked (dumps_of o)) is (serves.asked n) in
+    let all : AllByRecursion IsAskedByForward c.content = subst (λ (o : Option Piece). AllByRecursion IsAskedByForward (dumps_of o)) is (serves.asked n) in
     record { node = called_node m s n c serves is; first = first_asked c.content x first all; rest = rest_asked c.content all; all = all }
 
-pub moved_asked : (x : Sending) (n : ℕ) (left : List ℕ) → IsAsked x → IsAsked (record x { at = n; left = left })
+pub moved_asked : (x : Sending) (n : ℕ) (left : List ℕ) → IsAskedByForward x → IsAskedByForward (record x { at = n; left = left })
 moved_asked x n left h = record { head = h.head; forward = h.forward }
 
 chosen : {A : Type 0} (b : Bool) (x y : A) → b ≡ true → x ≡ cond b x y

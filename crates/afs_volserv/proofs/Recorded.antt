@@ -7,14 +7,14 @@ use Rattle.afs_num.specs.declared.records.RecordBody.TheVariants as bodies
 use Rattle.afs_num.specs.declared.types.Head.{Head}
 use Rattle.afs_num.specs.declared.types.Node.{Node}
 use Rattle.afs_num.specs.declared.types.Node.TheVariants.{Admin, Client, Loc, Server}
-use Rattle.afs_fold.specs.Deeds.{can_take}
-use Rattle.afs_records.specs.Changes.{keeping}
-use Rattle.afs_records.specs.Durable.{Durable}
-use Rattle.afs_records.specs.Records.{caller_form, head_form, may_call, row, FitsRecord}
-use Rattle.afs_rows.specs.ServerRow.{key_of}
-use Rattle.afs_records.proofs.Callers.{caller_fits}
+use Rattle.spec_fold.specs.Deeds.{can_take}
+use Rattle.spec_records.specs.Changes.{keeping}
+use Rattle.spec_records.specs.Durable.{Durable}
+use Rattle.spec_records.specs.Records.{caller_form, head_form, may_call, row, FitsRecord}
+use Rattle.spec_model.specs.Calls.{key_of}
+use Rattle.spec_records.proofs.Callers.{caller_fits}
 use Rattle.afs_voldecisions.specs.Verdicts.{HasForm}
-use Rattle.afs_volrows.specs.VolSteps.{is_vol_caller}
+use Rattle.spec_volrows.specs.VolSteps.{is_vol_caller}
 use Rattle.afs_volstore.specs.Stores.{IsNoChange}
 
 -- the number of a server is its place, and servers are from 1 on

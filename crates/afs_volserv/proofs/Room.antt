@@ -2,7 +2,7 @@
 use Rattle.std.proofs.Common.{◌≡◌, ◌≤◌, ◌<◌, ◌+◌, ◌++◌, ℕ, length, min, Option, Some, None, ap, ◌∙◌, arith}
 use Rattle.std.proofs.Math.Nat.{le-min, min-le_left, min-le_right}
 use Rattle.std.proofs.lemmas.List.{length-append}
-use Rattle.afs_rows.specs.States.{Held}
+use Rattle.spec_rows.specs.States.{Held}
 use Rattle.afs_sendings.specs.Held.{Waiting}
 use Rattle.afs_volserv.specs.Saving.{held_or_none}
 

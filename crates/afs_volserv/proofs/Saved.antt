@@ -7,19 +7,19 @@ use Rattle.afs_num.specs.declared.messages.Message.{Message}
 use Rattle.afs_num.specs.declared.messages.Received.TheVariants.{Whole}
 use Rattle.afs_num.specs.declared.records.StoreRecord.{StoreRecord}
 use Rattle.afs_num.specs.declared.types.Head.{Head}
-use Rattle.afs_history.specs.declared.lines.Line.{Line}
-use Rattle.afs_history.specs.declared.lines.Outs.{Outs}
-use Rattle.afs_breaks.specs.Promises.{expired, lasting_breaks, Lists}
-use Rattle.afs_breaks.specs.declared.types.OwedBreak.{OwedBreak}
-use Rattle.afs_fold.specs.Deeds.{done_by}
-use Rattle.afs_fold.specs.Effects.{effect_of}
-use Rattle.afs_fold.specs.Fold.{folded}
-use Rattle.afs_ideal.specs.Tables.{Table}
+use Rattle.spec_history.specs.declared.lines.Line.{Line}
+use Rattle.spec_history.specs.declared.lines.Outs.{Outs}
+use Rattle.spec_breaks.specs.Promises.{expired, lasting_breaks, Lists}
+use Rattle.spec_breaks.specs.declared.types.OwedBreak.{OwedBreak}
+use Rattle.spec_fold.specs.Deeds.{done_by}
+use Rattle.spec_fold.specs.Effects.{effect_of}
+use Rattle.spec_fold.specs.Fold.{folded}
+use Rattle.spec_ideal.specs.Tables.{Table}
 use Rattle.afs_memory.specs.Telling.{in_words}
-use Rattle.afs_model.specs.Messages.{parcels_read, received, spelled}
-use Rattle.afs_records.specs.Durable.{Durable, Stored}
-use Rattle.afs_rows.specs.Callbacks.{owe_line}
-use Rattle.afs_rows.specs.States.{durable_of, Backs, Held, Lasting}
+use Rattle.spec_model.specs.Messages.{parcels_read, received, spelled}
+use Rattle.spec_records.specs.Durable.{Durable, Stored}
+use Rattle.spec_rows.specs.Callbacks.{owe_line}
+use Rattle.spec_rows.specs.States.{durable_of, Backs, Held, Lasting}
 use Rattle.afs_callees.specs.Called.{call_to, known_to, AreGoodCalls, Callee}
 use Rattle.afs_server_parts.specs.Ending.{backs_left, IsPlan}
 use Rattle.afs_server_parts.specs.Turning.{sent_turns, IsBreakToNode}
@@ -27,15 +27,15 @@ use Rattle.afs_callbacks.proofs.Drawing.{pumped_draws}
 use Rattle.afs_callbacks.specs.Answering.{with_lists}
 use Rattle.afs_callbacks.specs.States.{backs_at, CallbackState, IsPromiseToNode}
 use Rattle.afs_sendings.specs.Pieces.{AreTo}
-use Rattle.afs_volrows.specs.VolLaws.{AreApart}
-use Rattle.afs_volrows.specs.VolRow.{holds_of}
-use Rattle.afs_volrows.specs.VolStates.{Sending, VolState}
-use Rattle.afs_volrows.specs.VolSteps.{deed_done, deed_head, deed_lines, deed_record, owes_of, saves, vol_answers, vol_seated, withdraws_from, with_transactions, Deed, VolTurn}
+use Rattle.spec_volrows.specs.VolLaws.{AreApart}
+use Rattle.spec_volrows.specs.VolRow.{holds_of}
+use Rattle.spec_volrows.specs.VolStates.{Sending, VolState}
+use Rattle.spec_volrows.specs.VolSteps.{deed_done, deed_head, deed_lines, deed_record, owes_of, saves, vol_answers, vol_seated, withdraws_from, with_transactions, Deed, VolTurn}
 use Rattle.afs_voldecisions.specs.Numbering.{Numbered}
 use Rattle.afs_volanswers.specs.Deciding.{deed_of, CanBeSaved}
 use Rattle.afs_volserv.specs.Handling.{backs_then, vol_turn_then, DrawsFew, IsLeftAgain, IsToldAgain, IsVolumeStep, MakesVolumes}
 use Rattle.afs_volserv.specs.Saving.{held_on, held_or_none, sent_now, waits_by, IsPlanned, IsPut, IsTaken, IsWithdrawn}
-use Rattle.afs_volserv.specs.Seen.{vol_seen, AreAsked, ServesVolumes, StandsBeside, VolMemory}
+use Rattle.afs_volserv.specs.Seen.{vol_seen, AreAskedByForward, ServesVolumes, StandsBeside, VolMemory}
 use Rattle.afs_volanswers.specs.Flagged.{AreFlagged}
 use Rattle.afs_volanswers.specs.declared.decided.Saving.{Saving}
 use Rattle.afs_volserv.specs.declared.saving.Planned.{Planned}
@@ -171,7 +171,7 @@ module _ {D : Type 0} (now : ℕ) (head : Head) (x : Saving) (old : VolMemory) (
             boot = boot_now ∙ (serves.boot ∙ sym (ap (λ (d : Lasting). d.boot) lasting_now));
             kept = kept_left head deed s.durable u.durable can.taken node serves.kept (folds_so u.durable put.folds);
             calls = subst (λ (cs : List (Callee (List Sending))). AreTo (call_to cs)) (sym callees) serves.calls;
-            asked = subst (λ (cs : List (Callee (List Sending))). AreAsked (call_to cs)) (sym callees) serves.asked;
+            asked = subst (λ (cs : List (Callee (List Sending))). AreAskedByForward (call_to cs)) (sym callees) serves.asked;
             apart = subst (λ (v : Table Stored). AreApart v new.last new.transactions) volumes_now (subst (λ (ts : Numbered). AreApart (done_by x.body s.durable).volumes ts.last ts.table) last_now can.apart);
             flagged = subst (λ (ts : Numbered). AreFlagged ts.table) last_now can.flagged;
             holds = put.holds ∙ ap (λ (ts : Numbered). holds_of ts.table) (plan.transactions ∙ last_now);

@@ -1,19 +1,19 @@
 -- A step that leaves what is on the disk as it is, is the row's.
 use Rattle.std.proofs.Common.{◌≡◌, ◌≤◌, ◌<◌, ◌+◌, ℕ, Bool, true, false, cond, List, [], ◌∷◌, ◌++◌, length, filter, not, nat_eq, nat_lt, Option, Some, None, refl, sym, ap, subst, ◌∙◌, arith, eqb-true}
 use Rattle.std.specs.Prelude.{◌&&◌, ◌==◌}
-use Rattle.afs_model.specs.Messages.{messages_spelled, parcels_read}
+use Rattle.spec_model.specs.Messages.{messages_spelled, parcels_read}
 use Rattle.afs_sendings.specs.Pieces.{AreTo}
 use Rattle.afs_num.specs.declared.messages.Message.{Message}
-use Rattle.afs_history.specs.declared.lines.Line.{Line}
-use Rattle.afs_history.specs.declared.lines.Outs.{Outs}
-use Rattle.afs_breaks.specs.Promises.{expired}
-use Rattle.afs_breaks.specs.declared.types.Promise.{Promise}
-use Rattle.afs_ideal.specs.Tables.{get, set, Table}
-use Rattle.afs_rows.specs.Callbacks as row
-use Rattle.afs_rows.specs.Callbacks.{pumped}
-use Rattle.afs_rows.specs.States.{Backs, Held}
-use Rattle.afs_rows.specs.ServerRow.{seat_for}
-use Rattle.afs_model.specs.Calls.{call_seated}
+use Rattle.spec_history.specs.declared.lines.Line.{Line}
+use Rattle.spec_history.specs.declared.lines.Outs.{Outs}
+use Rattle.spec_breaks.specs.Promises.{expired}
+use Rattle.spec_breaks.specs.declared.types.Promise.{Promise}
+use Rattle.spec_ideal.specs.Tables.{get, set, Table}
+use Rattle.spec_rows.specs.Callbacks as row
+use Rattle.spec_rows.specs.Callbacks.{pumped}
+use Rattle.spec_rows.specs.States.{Backs, Held}
+use Rattle.spec_rows.specs.ServerRow.{seat_for}
+use Rattle.spec_model.specs.Calls.{call_seated}
 use Rattle.afs_num.specs.declared.types.Head.{Head}
 use Rattle.afs_callees.specs.Called.{call_to}
 use Rattle.afs_server_parts.specs.Turning.{sent_turns}
@@ -23,13 +23,13 @@ use Rattle.afs_callbacks.proofs.Drawing.{pumped_draws}
 use Rattle.afs_callbacks.proofs.Lasting.{lasting_promised}
 use Rattle.afs_callbacks.proofs.Withdrawn.{filter_few}
 use Rattle.afs_volstore.specs.Stores.{Store}
-use Rattle.afs_volrows.specs.VolLaws.{AreApart}
-use Rattle.afs_volrows.specs.VolRow.{gave, holds_of, transactions_after, After}
-use Rattle.afs_volrows.specs.VolRow as row_after
-use Rattle.afs_volrows.specs.VolStates.{Transaction, VolState}
-use Rattle.afs_volrows.specs.VolSteps.{held_vol, replies_to, vol_repeats, vol_turn, VolTurn}
+use Rattle.spec_volrows.specs.VolLaws.{AreApart}
+use Rattle.spec_volrows.specs.VolRow.{gave, holds_of, transactions_after, After}
+use Rattle.spec_volrows.specs.VolRow as row_after
+use Rattle.spec_volrows.specs.VolStates.{Transaction, VolState}
+use Rattle.spec_volrows.specs.VolSteps.{held_vol, replies_to, vol_repeats, vol_turn, VolTurn}
 use Rattle.afs_volserv.specs.Handling.{backs_then, DrawsFew, IsStep}
-use Rattle.afs_volserv.specs.Seen.{vol_seen, AreAsked, CanRelease, ServesVolumes, StandsBeside, VolMemory}
+use Rattle.afs_volserv.specs.Seen.{vol_seen, AreAskedByForward, CanRelease, ServesVolumes, StandsBeside, VolMemory}
 use Rattle.afs_volanswers.specs.Flagged.{AreAlone, AreFlagged}
 use Rattle.afs_volserv.specs.Sending.{again_then, rests_then, sent_then, waits_again, waits_then, IsSent}
 use Rattle.afs_sharing.specs.Lasting.{lasting_of}
@@ -43,7 +43,7 @@ abbrev pub turn_of : {D : Type 0} → VolState → CallbackState → Store D →
 turn_of {D} v k s now last ls ms = record { lasting = lasting_of s.durable; vol = v; backs = record (backs_then k s now) { last_call = last }; lines = ls; sent = ms }
 
 module _ {D : Type 0} (k l : CallbackState) (s u : Store D) (now last : ℕ) (ms : List Message) (e : Ended) (plan : IsSent now last ms k s e) (kept : l ≡ kept_after now k e) (store : u ≡ record s { drawn = e.last; holds = u.holds }) where
-  turn : row.Turn
+  turn : row.CallbackStep
   turn = sent_turns ms (record (backs_then k s now) { last_call = last })
 
   drawn : u.drawn ≡ e.last
@@ -83,7 +83,7 @@ module _ {D : Type 0} (k l : CallbackState) (s u : Store D) (now last : ℕ) (ms
 -- ---- what a server and its store keep together
 
 module _ {D : Type 0} (old new : VolMemory) (s u : Store D) (n : ℕ) (store : u ≡ record s { drawn = n; holds = u.holds }) (h : ServesVolumes old s) where
-  pub serves_as : new.boot ≡ old.boot → AreTo (call_to new.callees) → AreAsked (call_to new.callees) → AreApart s.durable.volumes new.last new.transactions → AreFlagged new.transactions → u.holds.table ≡ holds_of new.transactions → ServesVolumes new u
+  pub serves_as : new.boot ≡ old.boot → AreTo (call_to new.callees) → AreAskedByForward (call_to new.callees) → AreApart s.durable.volumes new.last new.transactions → AreFlagged new.transactions → u.holds.table ≡ holds_of new.transactions → ServesVolumes new u
   serves_as boot to asked apart flagged holds = subst (λ (x : Store D). ServesVolumes new x) (sym store) (record {
     node = h.node;
     boot = boot ∙ h.boot;

@@ -13,19 +13,19 @@ use Rattle.afs_num.specs.declared.records.StoreRecord.{StoreRecord}
 use Rattle.afs_num.specs.declared.types.Head.{Head}
 use Rattle.afs_num.specs.declared.types.Node.{Node}
 use Rattle.afs_disk.specs.declared.disk.Disk.{Ghosts}
-use Rattle.afs_history.specs.declared.lines.Line.{Line}
-use Rattle.afs_history.specs.declared.lines.Outs.{Outs}
-use Rattle.afs_fold.specs.Effects.{effect_of}
-use Rattle.afs_fold.specs.Fold.{folded}
+use Rattle.spec_history.specs.declared.lines.Line.{Line}
+use Rattle.spec_history.specs.declared.lines.Outs.{Outs}
+use Rattle.spec_fold.specs.Effects.{effect_of}
+use Rattle.spec_fold.specs.Fold.{folded}
 use Rattle.afs_memory.specs.Telling.{in_words}
-use Rattle.afs_records.specs.Durable.{Durable}
-use Rattle.afs_rows.specs.States.{Backs, Lasting, ServerState}
+use Rattle.spec_records.specs.Durable.{Durable}
+use Rattle.spec_rows.specs.States.{Backs, Lasting, ServerState}
 use Rattle.afs_callbacks.specs.States.{CallbackState}
 use Rattle.afs_saving.proofs.Still.{is_same, none_prepared, prepared_still}
 use Rattle.afs_server_parts.specs.declared.faults.NodeFault.{NodeFault}
 use Rattle.afs_server_parts.specs.declared.faults.NodeFault.TheVariants as faults
-use Rattle.afs_volrows.specs.VolStates.{PieceCall, VolState}
-use Rattle.afs_volrows.specs.VolSteps.{dispatches, drops, repeats, replies_to, saves, tells_boot, vol_begun_after, vol_called, vol_decides, vol_device_calls, vol_hears, vol_rests, vol_told, vol_told_by, vol_turn, vol_turned, vol_turned_by, VolDecision, VolTurn}
+use Rattle.spec_volrows.specs.VolStates.{PieceCall, VolState}
+use Rattle.spec_volrows.specs.VolSteps.{dispatches, drops, repeats, replies_to, saves, tells_boot, vol_begun_after, vol_called, vol_decides, vol_device_calls, vol_hears, vol_rests, vol_told, vol_told_by, vol_turn, vol_turned, vol_turned_by, VolDecision, VolTurn}
 use Rattle.afs_volanswers.specs.Deciding.{decision_of, leaves_disk}
 use Rattle.afs_volserv.specs.Handling.{vol_record, DoesVolumes, DrawsFew, HandlesVolumes, IsStep, IsToldAgain, IsVolumeStep, StaysInOrder, TookVolumes}
 use Rattle.afs_volserv.specs.Seen.{VolMemory}
@@ -33,7 +33,7 @@ use Rattle.afs_volanswers.specs.declared.decided.Decided.{Decided}
 use Rattle.afs_volanswers.specs.declared.decided.Decided.TheVariants as decided
 use Rattle.afs_volstore.specs.Stores.{Store}
 use Rattle.afs_volstore.specs.VolumeFold.{volume_fold}
-use Rattle.afs_sharing.specs.Stores.{IsDone, SameStore, OnDisk, LeavesPrepared}
+use Rattle.afs_sharing.specs.Stores.{IsKeptBehind, SameStore, OnDisk, LeavesPrepared}
 use Rattle.afs_saving.specs.Saving.{IsWritten, calls_for}
 use Rattle.afs_sharing.specs.Lasting.{lasting_of}
 
@@ -108,7 +108,7 @@ step_made {D} d t old new k l s u outs none is =
       order = is.order;
       draws = is.draws;
       store = is.store ∙ (λ i. record s { durable = sym durable i; disk = sym disk i; prepared = sym prepared i; count = sym count i; drawn = u.drawn; holds = u.holds });
-      done = subst (λ (r : Option StoreRecord). IsDone r s u) (sym none) (durable, count);
+      done = subst (λ (r : Option StoreRecord). IsKeptBehind r s u) (sym none) (durable, count);
       prepared = prepared_still {T = Outs} (vol_record d) s.prepared u.prepared (Ok outs) none prepared;
       effects = told_none d s none;
     }
@@ -142,7 +142,7 @@ module _ {D : Type 0} (d : VolDecision) (t : VolTurn) (old new : VolMemory) (k l
   store_so (Ok outs) is = is.store
   store_so (Err fault) is = tt
 
-  pub done_so : (result : Result Outs NodeFault) → Does result → OnOk result (IsDone (vol_record d) s u)
+  pub done_so : (result : Result Outs NodeFault) → Does result → OnOk result (IsKeptBehind (vol_record d) s u)
   done_so (Ok outs) is = is.done
   done_so (Err fault) is = tt
 

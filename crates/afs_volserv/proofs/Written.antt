@@ -7,22 +7,22 @@ use Rattle.afs_num.specs.declared.records.StoreRecord.{StoreRecord}
 use Rattle.afs_num.specs.declared.types.Head.{Head}
 use Rattle.afs_num.specs.declared.types.Node.{Node}
 use Rattle.afs_num.specs.declared.volume_calls.VolCall.{VolCall}
-use Rattle.afs_history.specs.declared.lines.Line.{Line}
-use Rattle.afs_history.specs.declared.lines.Outs.{Outs}
-use Rattle.afs_breaks.specs.Promises.{lasting_breaks}
-use Rattle.afs_fold.specs.Effects.{effect_of}
-use Rattle.afs_fold.specs.Fold.{folded}
+use Rattle.spec_history.specs.declared.lines.Line.{Line}
+use Rattle.spec_history.specs.declared.lines.Outs.{Outs}
+use Rattle.spec_breaks.specs.Promises.{lasting_breaks}
+use Rattle.spec_fold.specs.Effects.{effect_of}
+use Rattle.spec_fold.specs.Fold.{folded}
 use Rattle.afs_memory.specs.Telling.{in_words}
-use Rattle.afs_records.specs.Durable.{has_room, Durable}
-use Rattle.afs_rows.specs.Callbacks.{owe_line}
+use Rattle.spec_records.specs.Durable.{has_room, Durable}
+use Rattle.spec_rows.specs.Callbacks.{owe_line}
 use Rattle.afs_callbacks.specs.States.{CallbackState, IsToNodes}
 use Rattle.afs_saving.proofs.Still.{behind, is_still, prepared_still}
 use Rattle.afs_server_parts.specs.declared.faults.NodeFault.{NodeFault}
 use Rattle.afs_server_parts.specs.declared.faults.NodeFault.TheVariants as faults
-use Rattle.afs_volrows.specs.VolLaws.{AreApart}
-use Rattle.afs_volrows.specs.VolRow as row
-use Rattle.afs_volrows.specs.VolStates.{VolState}
-use Rattle.afs_volrows.specs.VolSteps.{deed_record, not_written, saves, written, VolDecision, VolTurn}
+use Rattle.spec_volrows.specs.VolLaws.{AreApart}
+use Rattle.spec_volrows.specs.VolRow as row
+use Rattle.spec_volrows.specs.VolStates.{VolState}
+use Rattle.spec_volrows.specs.VolSteps.{deed_record, not_written, saves, written, VolDecision, VolTurn}
 use Rattle.afs_voldecisions.specs.Numbering.{Numbered}
 use Rattle.afs_volanswers.specs.Deciding.{deed_of, full_for, CanBeSaved}
 use Rattle.afs_volserv.specs.Handling.{vol_record, vol_turn_then, DoesVolumes, IsVolumeStep, StepsVolumes, TookVolumes}
@@ -38,7 +38,7 @@ use Rattle.afs_volstore.specs.VolumeFold.{volume_fold}
 use Rattle.afs_disk.specs.Words.{SameDiskBy}
 use Rattle.afs_journal.specs.Words.{SameCountsBy}
 use Rattle.afs_sharing.specs.Callers.{IsToRun}
-use Rattle.afs_sharing.specs.Stores.{IsClosed, IsDone, SameStore, OnDisk, Prepares}
+use Rattle.afs_sharing.specs.Stores.{IsClosed, IsKeptBehind, SameStore, OnDisk, Prepares}
 use Rattle.afs_saving.specs.Saving.{IsStill}
 use Rattle.afs_sharing.specs.Lasting.{KeepsForNodes}
 
@@ -192,7 +192,7 @@ module _ {D : Type 0} (now : ℕ) (head : Head) (call : VolCall) (old new : VolM
         order = is.order;
         draws = record { calls = is.draws.calls; breaks = is.draws.breaks };
         store = is.store ∙ (λ i. record s { durable = sym durable i; disk = disk i; prepared = prepared i; count = sym count i; drawn = u.drawn; holds = u.holds });
-        done = subst (λ (o : Option StoreRecord). IsDone o s u) (sym no_record) (durable, count);
+        done = subst (λ (o : Option StoreRecord). IsKeptBehind o s u) (sym no_record) (durable, count);
         prepared = prepared_still {T = Outs} (vol_record full) s.prepared u.prepared (Ok outs) no_record (sym prepared ∙ left);
         effects = λ r recorded. let none : ◌≡◌ {A = Option StoreRecord} None (Some r) = sym no_record ∙ recorded in absurd cc;
       }

@@ -6,24 +6,24 @@ use Rattle.afs_num.specs.declared.records.StoreRecord.{StoreRecord}
 use Rattle.afs_num.specs.declared.types.Head.{Head}
 use Rattle.afs_num.specs.declared.types.Node.{Node}
 use Rattle.afs_disk.specs.declared.disk.Disk.{Ghosts}
-use Rattle.afs_history.specs.declared.lines.Line.{Line}
-use Rattle.afs_history.specs.declared.lines.Outs.{Outs}
-use Rattle.afs_model.specs.Messages.{messages_spelled, parcels_read, received_by}
-use Rattle.afs_records.specs.Durable.{Durable}
-use Rattle.afs_fold.specs.Effects.{effect_of}
-use Rattle.afs_fold.specs.Fold.{folded}
+use Rattle.spec_history.specs.declared.lines.Line.{Line}
+use Rattle.spec_history.specs.declared.lines.Outs.{Outs}
+use Rattle.spec_model.specs.Messages.{messages_spelled, parcels_read, received_by}
+use Rattle.spec_records.specs.Durable.{Durable}
+use Rattle.spec_fold.specs.Effects.{effect_of}
+use Rattle.spec_fold.specs.Fold.{folded}
 use Rattle.afs_memory.specs.Telling.{in_words}
-use Rattle.afs_rows.specs.Callbacks as row
-use Rattle.afs_rows.specs.Callbacks.{pumped}
-use Rattle.afs_rows.specs.States.{Backs, ServerState}
-use Rattle.afs_volrows.specs.VolStates.{PieceCall, Sending}
-use Rattle.afs_volrows.specs.VolSteps.{deed_record, saves, vol_begun_after, vol_decides, vol_timed, vol_told, vol_turn, vol_turned, VolDecision, VolTurn}
+use Rattle.spec_rows.specs.Callbacks as row
+use Rattle.spec_rows.specs.Callbacks.{pumped}
+use Rattle.spec_rows.specs.States.{Backs, ServerState}
+use Rattle.spec_volrows.specs.VolStates.{PieceCall, Sending}
+use Rattle.spec_volrows.specs.VolSteps.{deed_record, saves, vol_begun_after, vol_decides, vol_timed, vol_told, vol_turn, vol_turned, VolDecision, VolTurn}
 use Rattle.afs_callbacks.specs.States.{backs_at, CallbackState}
 use Rattle.afs_volstore.specs.Stores.{Store}
 use Rattle.afs_server_parts.specs.declared.faults.NodeFault.{NodeFault}
 use Rattle.afs_server_parts.specs.declared.faults.NodeFault.TheVariants as faults
 use Rattle.afs_volserv.specs.Seen.{durable_seen, vol_seen, CanRelease, ServesVolumes, StandsBeside, VolMemory}
-use Rattle.afs_sharing.specs.Stores.{IsClosed, IsDone, SameStore, OnDisk, LeavesPrepared}
+use Rattle.afs_sharing.specs.Stores.{IsClosed, IsKeptBehind, SameStore, OnDisk, LeavesPrepared}
 use Rattle.afs_sharing.specs.Lasting.{lasting_of}
 
 -- the calls that it serves
@@ -69,7 +69,7 @@ vol_turned_then {D} m k s clock bytes = vol_turned_by m k s clock (received_by v
 -- ---- the step
 
 -- what the file server then does with promises and breaks
-abbrev pub turn_behind : VolTurn → row.Turn
+abbrev pub turn_behind : VolTurn → row.CallbackStep
 turn_behind t = record { backs = t.backs; lines = []; sent = t.sent; outs = [] }
 
 -- The step was made: what it leaves of the volume server, of the disk, and of promises and breaks; its lines; and what it sends, with the
@@ -137,7 +137,7 @@ pub record IsVolumeStep {D : Type 0} (d : VolDecision) (t : VolTurn) (old new : 
   pub order : StaysInOrder old new l u
   pub draws : DrawsFew k l s u
   pub store : u ≡ record s { durable = u.durable; disk = u.disk; prepared = u.prepared; count = u.count; drawn = u.drawn; holds = u.holds }
-  pub done : IsDone (vol_record d) s u
+  pub done : IsKeptBehind (vol_record d) s u
   pub prepared : LeavesPrepared (vol_record d) s u (Ok outs)
   pub effects : IsToldAgain d s
 

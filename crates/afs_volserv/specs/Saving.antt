@@ -3,19 +3,19 @@ use Rattle.std.specs.Prelude.{◌≡◌, ◌≤◌, ◌<◌, ◌+◌, ◌++◌, 
 use Rattle.afs_num.specs.declared.messages.Message.{Message}
 use Rattle.afs_num.specs.declared.messages.Received.TheVariants.{Whole}
 use Rattle.afs_num.specs.declared.types.Head.{Head}
-use Rattle.afs_history.specs.declared.lines.Line.{Line}
-use Rattle.afs_history.specs.declared.lines.Outs.{Outs}
-use Rattle.afs_breaks.specs.Promises.{expired, lasting_breaks, Lists}
-use Rattle.afs_breaks.specs.declared.types.OwedBreak.{OwedBreak}
-use Rattle.afs_fold.specs.Fold.{folded}
-use Rattle.afs_model.specs.Calls.{call_seated}
-use Rattle.afs_model.specs.Messages.{received, spelled}
-use Rattle.afs_records.specs.Records.{FitsRecord}
-use Rattle.afs_rows.specs.Callbacks.{alls, numbers}
-use Rattle.afs_rows.specs.ServerRow.{seat_for}
-use Rattle.afs_rows.specs.States.{Held}
-use Rattle.afs_volrows.specs.VolRow.{holds_of}
-use Rattle.afs_volrows.specs.VolSteps.{deed_record, held_vol, owes_of, withdraws_from}
+use Rattle.spec_history.specs.declared.lines.Line.{Line}
+use Rattle.spec_history.specs.declared.lines.Outs.{Outs}
+use Rattle.spec_breaks.specs.Promises.{expired, lasting_breaks, Lists}
+use Rattle.spec_breaks.specs.declared.types.OwedBreak.{OwedBreak}
+use Rattle.spec_fold.specs.Fold.{folded}
+use Rattle.spec_model.specs.Calls.{call_seated}
+use Rattle.spec_model.specs.Messages.{received, spelled}
+use Rattle.spec_records.specs.Records.{FitsRecord}
+use Rattle.spec_rows.specs.Callbacks.{alls, break_numbers}
+use Rattle.spec_rows.specs.ServerRow.{seat_for}
+use Rattle.spec_rows.specs.States.{Held}
+use Rattle.spec_volrows.specs.VolRow.{holds_of}
+use Rattle.spec_volrows.specs.VolSteps.{deed_record, held_vol, owes_of, withdraws_from}
 use Rattle.afs_server_parts.specs.Ending.{IsPlan}
 use Rattle.afs_server_parts.specs.Turning.{sent_turns}
 use Rattle.afs_callbacks.specs.Answering.{with_lists}
@@ -53,7 +53,7 @@ abbrev pub breaks_by : ℕ → Option ℕ → CallbackState → List OwedBreak
 breaks_by now withdraws k = owes_of withdraws (expired now k.lists)
 
 abbrev pub waits_by : ℕ → List OwedBreak → CallbackState → List ℕ
-waits_by now breaks k = numbers breaks ++ alls (lasting_breaks now k.lists.owed)
+waits_by now breaks k = break_numbers breaks ++ alls (lasting_breaks now k.lists.owed)
 
 -- what comes of it that these messages go out and these breaks become owed, whatever is promised besides
 pub record IsPlanBeside {D : Type 0} (now : ℕ) (ms : List Message) (breaks : List OwedBreak) (k : CallbackState) (s : Store D) (p : Planned) : Type 0 where

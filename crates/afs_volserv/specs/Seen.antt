@@ -5,14 +5,14 @@ use Rattle.std.specs.Option.{option_map}
 use Rattle.afs_num.specs.Nodes.{IsNode}
 use Rattle.afs_num.specs.declared.types.Key.{Key}
 use Rattle.afs_num.specs.declared.types.Node.{Node}
-use Rattle.afs_ideal.specs.Tables.{Table}
-use Rattle.afs_model.specs.Heads.{IsSoundHead}
-use Rattle.afs_records.specs.Durable.{Durable}
-use Rattle.afs_rows.specs.States.{durable_of, Held, Seat}
+use Rattle.spec_ideal.specs.Tables.{Table}
+use Rattle.spec_model.specs.Heads.{IsSoundHead}
+use Rattle.spec_records.specs.Durable.{Durable}
+use Rattle.spec_rows.specs.States.{durable_of, Held, Seat}
 use Rattle.afs_callees.specs.Called.{call_to, known_to, Callee}
-use Rattle.afs_volrows.specs.VolLaws.{AreApart}
-use Rattle.afs_volrows.specs.VolRow.{holds_of}
-use Rattle.afs_volrows.specs.VolStates.{Sending, Transaction, VolState}
+use Rattle.spec_volrows.specs.VolLaws.{AreApart}
+use Rattle.spec_volrows.specs.VolRow.{holds_of}
+use Rattle.spec_volrows.specs.VolStates.{Sending, Transaction, VolState}
 use Rattle.afs_sendings.specs.Pieces.{calls_in, sendings_in, AreTo, Piece}
 use Rattle.afs_callbacks.specs.States.{CallbackState, IsPromiseToNode, IsToNodes}
 use Rattle.afs_volstore.specs.Stores.{Store}
@@ -55,12 +55,12 @@ waits_by me m n = option_map (key_called me m.boot) (call_to m.callees n)
 -- ---- what it keeps in order
 
 -- a dump that is sent was asked for by a Forward of a node of the cell
-pub record IsAsked (x : Sending) : Type 0 where
+pub record IsAskedByForward (x : Sending) : Type 0 where
   pub head : IsSoundHead x.head
   pub forward : x.head.opcode ≡ 103
 
-abbrev pub AreAsked : (Node → Option Piece) → Type 0
-AreAsked calls = (n : Node) → AllByRecursion IsAsked (sendings_in calls n)
+abbrev pub AreAskedByForward : (Node → Option Piece) → Type 0
+AreAskedByForward calls = (n : Node) → AllByRecursion IsAskedByForward (sendings_in calls n)
 
 -- What a volume server and its store keep together: the boot; that its calls go to servers of the cell, with dumps that Forwards asked for;
 -- that each transaction is on a volume of the disk, no two on one, and that the store holds these volumes.
@@ -69,7 +69,7 @@ pub record ServesVolumes {D : Type 0} (m : VolMemory) (s : Store D) : Type 0 whe
   pub boot : m.boot ≡ s.durable.boot
   pub kept : KeepsForNodes s.durable
   pub calls : AreTo (call_to m.callees)
-  pub asked : AreAsked (call_to m.callees)
+  pub asked : AreAskedByForward (call_to m.callees)
   pub apart : AreApart s.durable.volumes m.last m.transactions
   pub flagged : AreFlagged m.transactions
   pub holds : s.holds.table ≡ holds_of m.transactions

@@ -4,18 +4,18 @@ use Rattle.afs_num.specs.Nodes.{same_node}
 use Rattle.afs_num.specs.declared.messages.Message.{Message}
 use Rattle.afs_num.specs.declared.types.Head.{Head}
 use Rattle.afs_num.specs.declared.types.Node.{Node}
-use Rattle.afs_breaks.specs.declared.types.OwedBreak.{OwedBreak}
-use Rattle.afs_history.specs.declared.lines.Line.{Line}
-use Rattle.afs_rows.specs.Callbacks.{alls, is_ready}
-use Rattle.afs_rows.specs.States.{Held}
+use Rattle.spec_breaks.specs.declared.types.OwedBreak.{OwedBreak}
+use Rattle.spec_history.specs.declared.lines.Line.{Line}
+use Rattle.spec_rows.specs.Callbacks.{alls, is_ready}
+use Rattle.spec_rows.specs.States.{Held}
 use Rattle.afs_callees.specs.Called.{call_to, known_to}
 use Rattle.afs_server_parts.specs.Ending.{IsPlan}
 use Rattle.afs_server_parts.specs.Turning.{sent_turns}
 use Rattle.afs_server_parts.specs.declared.ending.Ended.{Ended}
 use Rattle.afs_callbacks.specs.States.{CallbackState}
 use Rattle.afs_sendings.specs.Pieces.{call_seen, Piece, Way}
-use Rattle.afs_volrows.specs.VolStates.{Sending}
-use Rattle.afs_volrows.specs.VolSteps.{answered_by, ends_sending, goes_on, held_vol, is_awaited, vol_answers, vol_renews, vol_rests, VolTurn}
+use Rattle.spec_volrows.specs.VolStates.{Sending}
+use Rattle.spec_volrows.specs.VolSteps.{answered_by, ends_sending, sending_goes_on, held_vol, is_awaited, vol_answers, vol_renews, vol_rests, VolTurn}
 use Rattle.afs_volstore.specs.Stores.{Store}
 use Rattle.afs_volserv.specs.Handling.{backs_then}
 use Rattle.afs_volserv.specs.Seen.{vol_seen, VolMemory}
@@ -75,7 +75,7 @@ ended_then {D} m k s clock ls n rest first code = ends_sending s.node (lasting_o
 
 -- a piece of it went, and the next one follows
 abbrev pub went_then : {D : Type 0} → VolMemory → CallbackState → Store D → ℕ → Node → List Sending → Sending → VolTurn
-went_then {D} m k s clock n rest first = goes_on s.node (lasting_of s.durable) (vol_seen m) (backs_then k s clock) n rest first
+went_then {D} m k s clock n rest first = sending_goes_on s.node (lasting_of s.durable) (vol_seen m) (backs_then k s clock) n rest first
 
 -- the node told this boot number, and the call to it is sent again
 abbrev pub renewed_then : {D : Type 0} → VolMemory → CallbackState → Store D → ℕ → Node → ℕ → Piece → VolTurn

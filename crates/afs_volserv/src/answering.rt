@@ -2,14 +2,14 @@
 
 ghost use Rattle.std.specs.Prelude.{◌≡◌, ◌<◌, ◌≤◌, ◌+◌, ◌++◌, ◌∷◌, [], false, length, true, IfOk, OnErr, OnOk};
 ghost use Rattle.afs_num.specs.Nodes.{IsNode};
-ghost use Rattle.afs_model.specs.Calls.{call_seat, call_seated};
-ghost use Rattle.afs_model.specs.Heads.{IsSoundHead};
-ghost use Rattle.afs_rows.specs.Callbacks.{held_under, is_seat_of, key_answered};
-ghost use Rattle.afs_rows.specs.ServerRow.{seat_for};
+ghost use Rattle.spec_model.specs.Calls.{call_seat, call_seated};
+ghost use Rattle.spec_model.specs.Heads.{IsSoundHead};
+ghost use Rattle.spec_rows.specs.Callbacks.{held_under, is_seat_of, key_answered};
+ghost use Rattle.spec_rows.specs.ServerRow.{seat_for};
 ghost use Rattle.afs_voldecisions.specs.Replies.{answer_message, CanAnswer};
 ghost use Rattle.afs_voldecisions.specs.Verdicts.{after_of};
-ghost use Rattle.afs_volrows.specs.VolRow.{holds_of, last_after, transactions_after};
-ghost use Rattle.afs_volrows.specs.VolSteps.{drops, held_vol, repeats, tells_boot};
+ghost use Rattle.spec_volrows.specs.VolRow.{holds_of, last_after, transactions_after};
+ghost use Rattle.spec_volrows.specs.VolSteps.{drops, held_vol, repeats, tells_boot};
 ghost use Rattle.afs_volanswers.specs.Deciding.{answers_of, CanBecome};
 ghost use Rattle.afs_volserv.specs.Handling.{backs_then, vol_turn_then, StepsVolumes};
 ghost use Rattle.afs_volserv.specs.Seen.{CanRelease, HasRoom, ServesVolumes, StandsBeside};
@@ -24,7 +24,6 @@ use crate::server::VolServer;
 use afs_callbacks::Callbacks;
 use afs_callees::replies::{key, notice};
 use afs_disk::Disk;
-use afs_history::lines::Outs;
 use afs_message::spelled::{Sent, SpelledMessage};
 use afs_num::sequences::Sequence;
 use afs_num::types::{Head, Mem};
@@ -36,6 +35,7 @@ use afs_sharing::answering::is_last_change;
 use afs_voldecisions::replies::{Answer, answered};
 use afs_voldecisions::transactions::{After, Transactions};
 use afs_volstore::VolStore;
+use spec_history::lines::Outs;
 
 impl VolServer {
     /// These messages go out, and nothing else happens.

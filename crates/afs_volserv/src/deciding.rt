@@ -2,16 +2,16 @@
 
 ghost use Rattle.std.specs.Prelude.{◌≡◌, ◌<◌, ℕ, IfOk, if◌then◌else◌};
 ghost use Rattle.afs_num.specs.declared.messages.Call.TheVariants as ask;
-ghost use Rattle.afs_shape.specs.Rows.{IsWithin};
+ghost use Rattle.spec_shape.specs.Rows.{IsWithin};
 ghost use Rattle.afs_call.specs.Admitting.{means};
 ghost use Rattle.afs_server_parts.specs.Heard.{IsUnder};
-ghost use Rattle.afs_model.specs.Calls.{admitted, call_seat, paired, runs};
-ghost use Rattle.afs_model.specs.CellRows.{cell_calls, call_number};
-ghost use Rattle.afs_model.specs.Messages.{IsSoundCarried};
+ghost use Rattle.spec_model.specs.Calls.{admitted, call_seat, paired, runs};
+ghost use Rattle.spec_model.specs.CellRows.{cell_calls, call_number};
+ghost use Rattle.spec_model.specs.Messages.{IsSoundCarried};
 ghost use Rattle.afs_voldecisions.specs.Replies.{answer_message, CanAnswer};
 ghost use Rattle.afs_voldecisions.specs.Verdicts.{after_of};
-ghost use Rattle.afs_volrows.specs.VolRow.{without_family};
-ghost use Rattle.afs_volrows.specs.VolSteps.{judged, vol_admits, vol_called, vol_carried, vol_received};
+ghost use Rattle.spec_volrows.specs.VolRow.{without_family};
+ghost use Rattle.spec_volrows.specs.VolSteps.{judged, vol_admits, vol_called, vol_carried, vol_received};
 ghost use Rattle.afs_volanswers.specs.Deciding.{answers_of, decision_of, full_carried, full_for, full_then, raised_judged, same_judged, CanBecome, CanBeDone, IsAskedBy, IsAskedIn, IsOfCaller, Runs};
 ghost use Rattle.afs_volserv.specs.Seen.{durable_seen, vol_seen, ServesVolumes};
 

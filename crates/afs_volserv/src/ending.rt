@@ -1,18 +1,18 @@
 //! The end of a step: what is left of it in memory.
 
 ghost use Rattle.std.specs.Prelude.{◌≡◌, ◌≤◌, IfOk};
-ghost use Rattle.afs_breaks.specs.Promises.{expired};
+ghost use Rattle.spec_breaks.specs.Promises.{expired};
 ghost use Rattle.afs_volserv.specs.Seen.{StandsBeside};
 ghost use Rattle.afs_volserv.specs.Sending.{IsSent};
 
 use afs_callbacks::Callbacks;
 use afs_disk::Disk;
-use afs_history::lines::Outs;
 use afs_message::spelled::Sent;
 use afs_num::types::Mem;
 use afs_server_parts::ending::Ended;
 use afs_sharing::drawing::{draw, stand_at};
 use afs_volstore::VolStore;
+use spec_history::lines::Outs;
 
 /// What comes of it that these messages go out, where the node's own calls are drawn up to this number.
 pub(crate) fn plan_sent<D: Disk>(

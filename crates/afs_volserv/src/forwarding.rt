@@ -2,17 +2,16 @@
 
 ghost use Rattle.std.specs.Prelude.{◌≡◌, ◌≤◌, ◌+◌, ◌∷◌, [], Some, false, true, IfOk, OnErr, OnOk};
 ghost use Rattle.afs_num.specs.declared.types.Node.TheVariants as nodes;
-ghost use Rattle.afs_breaks.specs.Promises.{expired};
-ghost use Rattle.afs_model.specs.Calls.{call_seat, finished, is_sent_again, paired, runs, started};
-ghost use Rattle.afs_model.specs.Heads.{IsSoundHead};
-ghost use Rattle.afs_rows.specs.Callbacks.{timeout_line};
-ghost use Rattle.afs_rows.specs.ServerRow.{key_of};
-ghost use Rattle.afs_shape.specs.Tables.{IsServer};
+ghost use Rattle.spec_breaks.specs.Promises.{expired};
+ghost use Rattle.spec_model.specs.Calls.{call_seat, finished, is_sent_again, paired, runs, started, key_of};
+ghost use Rattle.spec_model.specs.Heads.{IsSoundHead};
+ghost use Rattle.spec_rows.specs.Callbacks.{timeout_line};
+ghost use Rattle.spec_shape.specs.Tables.{IsServer};
 ghost use Rattle.afs_callees.specs.Called.{call_to};
 ghost use Rattle.afs_sendings.specs.Pieces.{adds, call_seen, ends, ends_with, renews, retries, starts, way_of, AreTo, IsServerNode};
 ghost use Rattle.afs_sendings.specs.Sendings.{first_of, rest_of};
 ghost use Rattle.afs_voldecisions.specs.Verdicts.{dispatch_of};
-ghost use Rattle.afs_volrows.specs.VolSteps.{dispatches, forward_reply, given_up, is_awaited, moved_on, sending_of, sent_whole};
+ghost use Rattle.spec_volrows.specs.VolSteps.{dispatches, forward_reply, given_up, is_awaited, piece_gone, sending_of, sent_whole};
 ghost use Rattle.afs_volserv.specs.Handling.{vol_answered_then, vol_noticed_then, vol_timed_then, vol_turn_then, StepsVolumes};
 ghost use Rattle.afs_volserv.specs.Seen.{ServesVolumes, StandsBeside};
 ghost use Rattle.afs_volserv.specs.Sending.{answered_then, ended_then, heard_by, is_heard, renewed_then, way_before, went_then, IsSent};
@@ -26,7 +25,6 @@ use afs_callees::callees::find_call;
 use afs_callees::replies::key;
 use afs_callees::telling::tell_timeout;
 use afs_disk::Disk;
-use afs_history::lines::{Lines, Outs};
 use afs_message::spelled::SpelledMessage;
 use afs_num::types::{Head, Key, Mem, Node};
 use afs_sendings::pieces::Pieces;
@@ -36,6 +34,7 @@ use afs_sharing::drawing::stand;
 use afs_voldecisions::replies::{answered, forwarded};
 use afs_voldecisions::verdicts::Dispatch;
 use afs_volstore::VolStore;
+use spec_history::lines::{Lines, Outs};
 use std::alloc::Global;
 
 /// A call was given up.
@@ -299,7 +298,7 @@ impl VolServer {
         requires callee { IsServerNode node }
         requires first { first_of call.now.content ≡ Some first.now }
         requires whole { sent_whole first.now ≡ false }
-        ensures way { IfOk result (λ p. way_of p ≡ starts store.now.node store.now.durable.boot node (moved_on first.now ∷ rest_of call.now.content) (way_before self.now store.now)) }
+        ensures way { IfOk result (λ p. way_of p ≡ starts store.now.node store.now.durable.boot node (piece_gone first.now ∷ rest_of call.now.content) (way_before self.now store.now)) }
         ensures to { IfOk result (λ p. AreTo (call_to p.callees.items)) }
     {
         let mut pieces = self.pieces(store)?;

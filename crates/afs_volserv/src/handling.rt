@@ -5,33 +5,32 @@ ghost use Rattle.std.specs.Option.{option_copied};
 ghost use Rattle.afs_num.specs.declared.messages.Received.TheVariants as receives;
 ghost use Rattle.afs_num.specs.declared.records.StoreRecord as records;
 ghost use Rattle.afs_disk.specs.Words.{SameDiskBy, LeavesOnlyBy, TellsOn, CallsAtMost};
-ghost use Rattle.afs_history.specs.declared.lines.Line.{Line};
+ghost use Rattle.spec_history.specs.declared.lines.Line.{Line};
 ghost use Rattle.afs_journal.specs.Records.{whole_records};
 ghost use Rattle.afs_journal.specs.Words.{SameCountsBy, LeavesByPickOf, ReachesBy};
 ghost use Rattle.afs_server_parts.specs.Heard.{IsUnder};
-ghost use Rattle.afs_fold.specs.Effects.{effect_of};
-ghost use Rattle.afs_fold.specs.Fold.{folded};
+ghost use Rattle.spec_fold.specs.Effects.{effect_of};
+ghost use Rattle.spec_fold.specs.Fold.{folded};
 ghost use Rattle.afs_memory.specs.Telling.{in_words};
-ghost use Rattle.afs_model.specs.Calls.{call_seat, paired};
-ghost use Rattle.afs_model.specs.Heads.{IsSoundHead};
-ghost use Rattle.afs_model.specs.Messages.{received_by, HasSpelling, IsSoundReceived};
-ghost use Rattle.afs_records.specs.Durable.{Durable};
-ghost use Rattle.afs_records.specs.Records.{record_bytes, FitsRecord};
-ghost use Rattle.afs_rows.specs.States.{ServerState};
-ghost use Rattle.afs_volrows.specs.VolSteps.{drops, vol_begun_after, vol_called, vol_device_calls, VolDecision};
+ghost use Rattle.spec_model.specs.Calls.{call_seat, paired};
+ghost use Rattle.spec_model.specs.Heads.{IsSoundHead};
+ghost use Rattle.spec_model.specs.Messages.{received_by, HasSpelling, IsSoundReceived};
+ghost use Rattle.spec_records.specs.Durable.{Durable};
+ghost use Rattle.spec_records.specs.Records.{record_bytes, FitsRecord};
+ghost use Rattle.spec_rows.specs.States.{ServerState};
+ghost use Rattle.spec_volrows.specs.VolSteps.{drops, vol_begun_after, vol_called, vol_device_calls, VolDecision};
 ghost use Rattle.afs_volstore.specs.Stores.{LeftAround};
 ghost use Rattle.afs_server_parts.specs.declared.faults.NodeFault.TheVariants as faults;
 ghost use Rattle.afs_volanswers.specs.Deciding.{call_in, decision_of, full_then, leaves_disk, CanBeDone, IsAskedBy, IsOfCaller, Runs};
 ghost use Rattle.afs_volserv.specs.Handling.{vol_answered_then, vol_calls_served, vol_decided, vol_decided_then, vol_noticed_then, vol_record, vol_turn_then, vol_turned_by, vol_turned_then, DrawsFew, HandlesVolumes, StaysInOrder, StepsVolumes, TookVolumes};
 ghost use Rattle.afs_volserv.specs.Seen.{durable_seen, vol_seen, CanDraw, CanStep, HasRoom, ServesVolumes, StandsBeside};
-ghost use Rattle.afs_sharing.specs.Stores.{IsDone, LeavesPrepared};
+ghost use Rattle.afs_sharing.specs.Stores.{IsKeptBehind, LeavesPrepared};
 ghost use Rattle.afs_saving.specs.Saving.{IsQuiet, IsWritten, Ran};
 ghost use Rattle.afs_sharing.specs.Lasting.{lasting_of};
 
 use crate::server::VolServer;
 use afs_callbacks::Callbacks;
 use afs_disk::Disk;
-use afs_history::lines::Outs;
 use afs_message::messages::read_message;
 use afs_num::messages::{Call, Carried, Message, Received};
 use afs_num::types::{Code, Head, Mem};
@@ -40,6 +39,7 @@ use afs_server_parts::faults::NodeFault;
 use afs_volanswers::answers::CALLS;
 use afs_volanswers::decided::Decided;
 use afs_volstore::VolStore;
+use spec_history::lines::Outs;
 
 /// The call of the volume server's interface that was received.
 fn volume_call(received: &Received) -> Option<&VolCall>
@@ -340,7 +340,7 @@ impl VolServer {
         ensures told { TellsOn D.Disk store.old.disk store.new.disk }
 
         ensures store { OnOk result (store.new ≡ record store.old { durable = store.new.durable; disk = store.new.disk; prepared = store.new.prepared; count = store.new.count; drawn = store.new.drawn; holds = store.new.holds }) }
-        ensures kept { OnOk result (IsDone (vol_record (vol_decided_then self.old store.old bytes.now)) store.old store.new) }
+        ensures kept { OnOk result (IsKeptBehind (vol_record (vol_decided_then self.old store.old bytes.now)) store.old store.new) }
 
         // It leaves no record prepared but what was there before: one that it writes is no more, and only want of memory may leave it.
         ensures prepared { LeavesPrepared (vol_record (vol_decided_then self.old store.old bytes.now)) store.old store.new result }

@@ -1,8 +1,8 @@
 //! The volumes that transactions hold, as the store keeps them beside its volumes.
 
 ghost use Rattle.std.specs.Prelude.{◌≡◌, ◌≤◌, ◌<◌, ◌+◌, [], length};
-ghost use Rattle.afs_ideal.specs.Tables.{set};
-ghost use Rattle.afs_volrows.specs.VolRow.{holds_of};
+ghost use Rattle.spec_ideal.specs.Tables.{set};
+ghost use Rattle.spec_volrows.specs.VolRow.{holds_of};
 ghost use Rattle.afs_volanswers.specs.Flagged.{AreAlone, AreFlagged, IsHoldFlag};
 
 use afs_disk::Disk;

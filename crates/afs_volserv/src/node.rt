@@ -2,13 +2,13 @@
 
 ghost use Rattle.std.specs.Prelude.{◌≡◌, ◌≤◌, [], Some, filter, IfOk, IsErrOf, IsSome, OnOk};
 ghost use Rattle.afs_num.specs.Nodes.{IsNode};
-ghost use Rattle.afs_model.specs.Messages.{messages_spelled, parcels_read};
-ghost use Rattle.afs_rows.specs.Callbacks.{is_ready, replies_of};
+ghost use Rattle.spec_model.specs.Messages.{messages_spelled, parcels_read};
+ghost use Rattle.spec_rows.specs.Callbacks.{is_ready, replies_of};
 ghost use Rattle.afs_sendings.specs.Pieces.{call_seen, Piece};
 ghost use Rattle.afs_callees.specs.Called.{call_to};
 ghost use Rattle.afs_server_parts.specs.declared.faults.NodeFault.TheVariants as faults;
-ghost use Rattle.afs_volrows.specs.VolStates.{fresh_vol};
-ghost use Rattle.afs_volrows.specs.VolSteps.{is_waiting};
+ghost use Rattle.spec_volrows.specs.VolStates.{fresh_vol};
+ghost use Rattle.spec_volrows.specs.VolSteps.{waits_for_breaks};
 ghost use Rattle.afs_volserv.specs.Handling.{vol_timed_then, DrawsFew, HandlesVolumes, StaysInOrder};
 ghost use Rattle.afs_volserv.specs.Seen.{vol_seen, waits_by, CanDraw, CanRelease, HasRoom, ServesVolumes, StandsBeside};
 ghost use Rattle.afs_sharing.specs.Lasting.{lasting_of};
@@ -17,7 +17,6 @@ use crate::server::VolServer;
 use afs_callbacks::Callbacks;
 use afs_callees::callees::find_call;
 use afs_disk::Disk;
-use afs_history::lines::Outs;
 use afs_num::types::{Key, Mem, Node, Parcels};
 use afs_promise::Promises;
 use afs_sendings::held::HeldReplies;
@@ -26,6 +25,7 @@ use afs_server_parts::faults::NodeFault;
 use afs_sharing::restoring::callers_kept;
 use afs_voldecisions::transactions::Transactions;
 use afs_volstore::VolStore;
+use spec_history::lines::Outs;
 use std::alloc::Global;
 
 impl VolServer {
@@ -63,7 +63,7 @@ impl VolServer {
     pub fn release(&mut self, promises: &Promises) -> Parcels
         requires { CanRelease self.old }
         ensures sent { parcels_read result ≡ messages_spelled (replies_of (filter (is_ready promises.now.owed) self.old.held)) }
-        ensures held { self.new ≡ record self.old { held = filter (is_waiting promises.now.owed) self.old.held; room = self.new.room } }
+        ensures held { self.new ≡ record self.old { held = filter (waits_for_breaks promises.now.owed) self.old.held; room = self.new.room } }
     {
         self.held.release(promises.owed())
     }

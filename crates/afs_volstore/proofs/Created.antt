@@ -4,20 +4,20 @@ use Rattle.std.specs.Prelude.{Result, Ok, Err, IfOk, MatchResult}
 use Rattle.std.proofs.lemmas.Bool.{le-ltb}
 use Rattle.std.specs.Option.{option_map}
 use Rattle.afs_num.specs.declared.records.StoreRecord.{StoreRecord}
-use Rattle.afs_history.specs.declared.scripts.VolumeLine.{VolumeLine}
-use Rattle.afs_shape.specs.Taking.{◌>>=◌}
-use Rattle.afs_ideal.specs.Tables.{Table}
+use Rattle.spec_history.specs.declared.scripts.VolumeLine.{VolumeLine}
+use Rattle.spec_shape.specs.Taking.{◌>>=◌}
+use Rattle.spec_ideal.specs.Tables.{Table}
 use Rattle.afs_journal.specs.Records.{IsBeforeOrAfter}
-use Rattle.afs_records.specs.Changes.{first_record, record_of_volumes, volumes_laid}
-use Rattle.afs_fold.specs.SetUps.{set_up}
+use Rattle.spec_records.specs.Changes.{first_record, record_of_volumes, volumes_laid}
+use Rattle.spec_fold.specs.SetUps.{set_up}
 use Rattle.afs_num.specs.declared.records.RecordBody.{RecordBody}
 use Rattle.afs_num.specs.declared.records.RecordBody.TheVariants as bodies
-use Rattle.afs_records.specs.Durable.{has_room, noted, nothing_on, place_length, placing, with_journal, Durable, Stored}
-use Rattle.afs_fold.specs.Fold.{is_first, body_taken, first_folded, fold_all, fold_from, folded}
-use Rattle.afs_records.specs.Laws.{RecordsAreReadAgain}
-use Rattle.afs_records.specs.Records.{record_bytes, FitsRecord}
+use Rattle.spec_records.specs.Durable.{has_room, noted, nothing_on, place_length, placing, with_journal, Durable, Stored}
+use Rattle.spec_fold.specs.Fold.{is_first, body_taken, first_folded, fold_all, fold_from, folded}
+use Rattle.spec_records.specs.Laws.{RecordsAreReadAgain}
+use Rattle.spec_records.specs.Records.{record_bytes, FitsRecord}
 use Rattle.afs_volstore.specs.Opening.{IsSetUpSoFar}
-use Rattle.afs_memory.specs.States.{placed}
+use Rattle.afs_memory.specs.States.{on_disk}
 use Rattle.afs_store.proofs.Folding.{folded_is}
 use Rattle.afs_volstore.specs.VolumeFold.{volume_fold}
 use Rattle.afs_volstore.specs.VolumeLaws.{volume_sound}
@@ -39,8 +39,8 @@ pub record IsMade (capacity : ℕ) (ls : List VolumeLine) (r : StoreRecord) (e :
 has_place : (capacity : ℕ) (r : StoreRecord) → length (record_bytes r) + 10 ≤ capacity → has_room (nothing_on capacity) r ≡ true
 has_place capacity r le = ap not (let z : nat_lt capacity (1 + place_length r) ≡ false = le-ltb capacity (1 + place_length r) (omega (arith, le)) in z)
 
-folds_first : (capacity : ℕ) (r : StoreRecord) (d e : Durable) → is_first r.body ≡ true → nothing_on capacity ≡ placed 1 capacity d → option_map (noted r.head) (body_taken r.body d) ≡ Some e
-    → first_folded r (nothing_on capacity) ≡ Some (placed (1 + place_length r) capacity e)
+folds_first : (capacity : ℕ) (r : StoreRecord) (d e : Durable) → is_first r.body ≡ true → nothing_on capacity ≡ on_disk 1 capacity d → option_map (noted r.head) (body_taken r.body d) ≡ Some e
+    → first_folded r (nothing_on capacity) ≡ Some (on_disk (1 + place_length r) capacity e)
 folds_first capacity r d e first none taken =
     ap (λ (b : Bool). if b then folded r (nothing_on capacity) else None) first ∙ (ap (folded r) none ∙ folded_is volume_fold volume_sound r 1 capacity d e taken)
 
@@ -50,12 +50,12 @@ set_up_is capacity ls r e is le after =
     ap (λ (o : Option StoreRecord). o >>= λ x. (if has_room (nothing_on capacity) x then first_folded x (nothing_on capacity) else None)) is
     ∙ (ap (λ (b : Bool). if b then first_folded r (nothing_on capacity) else None) (has_place capacity r le) ∙ after)
 
-is_made : (law : RecordsAreReadAgain) (capacity : ℕ) (ls : List VolumeLine) (r : StoreRecord) (d e : Durable) → first_record ls ≡ Some r → FitsRecord r → length (record_bytes r) + 10 ≤ capacity → nothing_on capacity ≡ placed 1 capacity d
-    → option_map (noted r.head) (body_taken r.body d) ≡ Some e → IsMade capacity ls r (placed (1 + place_length r) capacity e)
+is_made : (law : RecordsAreReadAgain) (capacity : ℕ) (ls : List VolumeLine) (r : StoreRecord) (d e : Durable) → first_record ls ≡ Some r → FitsRecord r → length (record_bytes r) + 10 ≤ capacity → nothing_on capacity ≡ on_disk 1 capacity d
+    → option_map (noted r.head) (body_taken r.body d) ≡ Some e → IsMade capacity ls r (on_disk (1 + place_length r) capacity e)
 is_made law capacity ls r d e is fits le none taken =
     let after = folds_first capacity r d e (first_by (volumes_laid ls []) r is) none taken in
     record {
-      made = set_up_is capacity ls r (placed (1 + place_length r) capacity e) is le after;
+      made = set_up_is capacity ls r (on_disk (1 + place_length r) capacity e) is le after;
       stands = ap (λ (o : Option StoreRecord). o >>= λ x. (first_folded x (nothing_on capacity) >>= fold_from [])) (law r fits)
           ∙ ap (λ (o : Option Durable). o >>= fold_from []) after;
       same = refl;
@@ -65,11 +65,11 @@ some_taken : (r : StoreRecord) (o : Option Durable) → is_some o ≡ true → (
 some_taken r None e = absurd cc
 some_taken r (Some d) e = (noted r.head d, refl)
 
-some_made : (law : RecordsAreReadAgain) (capacity : ℕ) (ls : List VolumeLine) (r : StoreRecord) (d : Durable) → first_record ls ≡ Some r → FitsRecord r → length (record_bytes r) + 10 ≤ capacity → nothing_on capacity ≡ placed 1 capacity d
+some_made : (law : RecordsAreReadAgain) (capacity : ℕ) (ls : List VolumeLine) (r : StoreRecord) (d : Durable) → first_record ls ≡ Some r → FitsRecord r → length (record_bytes r) + 10 ≤ capacity → nothing_on capacity ≡ on_disk 1 capacity d
     → is_some (body_taken r.body d) ≡ true → (e : Durable) × IsMade capacity ls r e
 some_made law capacity ls r d is fits le none can =
     let e = some_taken r (body_taken r.body d) can in
-    (placed (1 + place_length r) capacity e.0, is_made law capacity ls r d e.0 is fits le none e.1)
+    (on_disk (1 + place_length r) capacity e.0, is_made law capacity ls r d e.0 is fits le none e.1)
 
 -- ---- what a crash leaves
 

@@ -4,13 +4,13 @@ use Rattle.std.specs.Option.{option_map}
 use Rattle.afs_num.specs.declared.records.RecordBody.{RecordBody}
 use Rattle.afs_num.specs.declared.records.RecordHead.{RecordHead}
 use Rattle.afs_num.specs.declared.records.StoreRecord.{StoreRecord}
-use Rattle.afs_records.specs.Durable.{noted, Durable}
-use Rattle.afs_fold.specs.Fold.{is_first, body_taken, folded}
-use Rattle.afs_records.specs.Records.{record_at}
-use Rattle.afs_records.proofs.Forms.{bound, some_is}
-use Rattle.afs_fold.specs.Orders.{AreFew}
-use Rattle.afs_fold.proofs.Ordered.{few_taken, noted_volumes, records_leave_few}
-use Rattle.afs_memory.specs.States.{placed}
+use Rattle.spec_records.specs.Durable.{noted, Durable}
+use Rattle.spec_fold.specs.Fold.{is_first, body_taken, folded}
+use Rattle.spec_records.specs.Records.{record_at}
+use Rattle.spec_records.proofs.Forms.{bound, some_is}
+use Rattle.spec_fold.specs.Orders.{AreFew}
+use Rattle.spec_fold.proofs.Ordered.{few_taken, noted_volumes, records_leave_few}
+use Rattle.afs_memory.specs.States.{on_disk}
 use Rattle.afs_store.specs.Folds.{taken_as, TakesOne}
 use Rattle.afs_volstore.specs.VolumeFold.{volume_fold}
 
@@ -25,9 +25,9 @@ few_as false r d e few h = records_leave_few.one r d e few h
 -- one record more that is read
 pub few_with_one : (first : Bool) (bytes : List ℕ) (old new : Durable) → AreFew old.volumes → TakesOne volume_fold first bytes old new → AreFew new.volumes
 few_with_one first bytes old new few takes =
-    let e = placed (0 + (length bytes + 9)) 0 new in
-    let a = bound (record_at bytes) (λ r. taken_as volume_fold first r (placed 0 0 old)) e (takes 0 0) in
-    few_as first a.0 (placed 0 0 old) e few a.1.1
+    let e = on_disk (0 + (length bytes + 9)) 0 new in
+    let a = bound (record_at bytes) (λ r. taken_as volume_fold first r (on_disk 0 0 old)) e (takes 0 0) in
+    few_as first a.0 (on_disk 0 0 old) e few a.1.1
 
 -- one that was made ready
 pub few_redone : (b : RecordBody) (h : RecordHead) (d e : Durable) → AreFew d.volumes → option_map (noted h) (body_taken b d) ≡ Some e → AreFew e.volumes

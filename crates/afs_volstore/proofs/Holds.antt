@@ -2,8 +2,8 @@
 use Rattle.std.proofs.Common.{◌≡◌, ℕ, Bool, true, Option, Some, None, is_some, nat_eq, refl, sym, ap, subst, ◌∙◌, inl, inr}
 use Rattle.std.specs.Prelude.{◌⊎◌}
 use Rattle.std.specs.Option.{option_map}
-use Rattle.afs_ideal.specs.Tables.{Table, get, set, unset}
-use Rattle.afs_records.specs.Durable.{or_zero}
+use Rattle.spec_ideal.specs.Tables.{Table, get, set, unset}
+use Rattle.spec_records.specs.Durable.{or_zero}
 use Rattle.afs_seats.specs.Seated.{seen_as}
 use Rattle.afs_seats.proofs.Places.{get_seen, set_seen}
 use Rattle.afs_shelves.proofs.Done.{less_seen}

@@ -1,11 +1,11 @@
 -- Volumes that set-up lays, in memory.
 use Rattle.std.specs.Prelude.{◌≤◌, ℕ, List, [], ◌∷◌, length}
 use Rattle.std.specs.List.{AllByRecursion}
-use Rattle.afs_history.specs.declared.scripts.VolumeLine.{VolumeLine}
+use Rattle.spec_history.specs.declared.scripts.VolumeLine.{VolumeLine}
 use Rattle.afs_num.specs.declared.volumes.VolumeHead.{VolumeHead}
-use Rattle.afs_ideal.specs.SoundnessLaws.{IsLaidOut}
-use Rattle.afs_ideal.specs.Tables.{Table}
-use Rattle.afs_records.specs.Records.{most_name}
+use Rattle.spec_ideal.specs.SoundnessLaws.{IsLaidOut}
+use Rattle.spec_ideal.specs.Tables.{Table}
+use Rattle.spec_records.specs.Records.{most_name}
 use Rattle.afs_volume.specs.Giving.{volume_of}
 use Rattle.afs_volume.specs.Taking.{IsAtSetUp}
 use Rattle.afs_volume.specs.declared.volume.Volume.{Volume}

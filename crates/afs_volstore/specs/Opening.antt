@@ -2,20 +2,19 @@
 use Rattle.std.specs.Prelude.{◌≡◌, ◌≤◌, ◌⊎◌, ℕ, List, [], ◌∷◌, true, Option, Some, None, is_some, length, map, if◌then◌else◌}
 use Rattle.std.specs.Option.{option_map}
 use Rattle.afs_num.specs.declared.types.Node.{Node}
-use Rattle.afs_history.specs.declared.lines.Line.{Line}
-use Rattle.afs_num.specs.declared.faults.StoreFault.{StoreFault}
+use Rattle.spec_history.specs.declared.lines.Line.{Line}
 use Rattle.afs_num.specs.declared.faults.StoreFault.TheVariants as faults
 use Rattle.afs_num.specs.declared.records.Mark.{Mark}
-use Rattle.afs_history.specs.declared.scripts.VolumeLine.{VolumeLine}
-use Rattle.afs_shape.specs.Taking.{◌>>=◌}
-use Rattle.afs_records.specs.Records.{record_at}
+use Rattle.spec_history.specs.declared.scripts.VolumeLine.{VolumeLine}
+use Rattle.spec_shape.specs.Taking.{◌>>=◌}
+use Rattle.spec_records.specs.Records.{record_at}
 use Rattle.afs_journal.specs.Records.{whole_records}
-use Rattle.afs_records.specs.Changes.{volumes_laid}
-use Rattle.afs_fold.specs.SetUps.{set_up}
-use Rattle.afs_volstore.specs.Stands.{Stands}
-use Rattle.afs_fold.specs.Effects.{effect_of}
-use Rattle.afs_fold.specs.Fold.{first_folded, folded}
-use Rattle.afs_records.specs.Durable.{mark_of, most_volumes, nothing_on, Durable}
+use Rattle.spec_records.specs.Changes.{volumes_laid}
+use Rattle.spec_fold.specs.SetUps.{set_up}
+use Rattle.afs_volstore.specs.Stands.{StandsForVolumes}
+use Rattle.spec_fold.specs.Effects.{effect_of}
+use Rattle.spec_fold.specs.Fold.{first_folded, folded}
+use Rattle.spec_records.specs.Durable.{mark_of, most_volumes, nothing_on, Durable}
 use Rattle.afs_volstore.specs.Laying.{HaveShortNames}
 use Rattle.afs_memory.specs.Telling.{in_words}
 pub use Rattle.afs_store.specs.Opening.{same_mark, IsAttachFault, IsFoldFault, Moved}
@@ -50,11 +49,4 @@ pub record CanBeSetUp (ls : List VolumeLine) : Type 0 where
 
 -- what a disk that was empty stands for while the lines are set up: for nothing, or for all
 abbrev pub IsSetUpSoFar : ℕ → List VolumeLine → List ℕ → Type 0
-IsSetUpSoFar capacity ls bytes = (whole_records bytes ≡ []) ⊎ ((d : Durable) × ((set_up capacity ls ≡ Some d) × Stands bytes d))
-
--- set-up is refused where the record doesn't fit, the disk failed or memory was wanting
-abbrev pub IsSetUpFault : StoreFault → Type 0
-IsSetUpFault (faults.Full used capacity) = Unit {0}
-IsSetUpFault faults.Failed = Unit {0}
-IsSetUpFault faults.OutOfMemory = Unit {0}
-IsSetUpFault refusal = ⊥
+IsSetUpSoFar capacity ls bytes = (whole_records bytes ≡ []) ⊎ ((d : Durable) × ((set_up capacity ls ≡ Some d) × StandsForVolumes bytes d))

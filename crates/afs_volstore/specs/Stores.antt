@@ -5,12 +5,12 @@ use Rattle.afs_num.specs.declared.records.RecordBody.TheVariants as bodies
 use Rattle.afs_num.specs.declared.records.StoreRecord.{StoreRecord}
 use Rattle.afs_num.specs.declared.types.Node.{Node}
 use Rattle.afs_journal.specs.Records.{IsBeforeOrAfter}
-use Rattle.afs_records.specs.Durable.{has_room, Durable}
-use Rattle.afs_records.specs.Records.{record_bytes}
-use Rattle.afs_fold.specs.Fold.{folded}
+use Rattle.spec_records.specs.Durable.{has_room, Durable}
+use Rattle.spec_records.specs.Records.{record_bytes}
+use Rattle.spec_fold.specs.Fold.{folded}
 use Rattle.afs_seats.specs.Seated.{seen_as, Seated}
 use Rattle.afs_store.specs.Stores.{Keeps, StoreOf}
-use Rattle.afs_volstore.specs.Stands.{Stands}
+use Rattle.afs_volstore.specs.Stands.{StandsForVolumes}
 pub use Rattle.afs_store.specs.Stores.{IsCaused, IsCounted, IsEarly, Served}
 pub use Rattle.afs_store.specs.Words.{IsCausedBy, MovedBy}
 
@@ -72,11 +72,11 @@ recorded {D} s = record {
 
 -- the disk stands for what the store keeps, and no crash leaves another
 abbrev pub IsKept : Durable → Option (List ℕ) → (List ℕ → Type 0) → Type 0
-IsKept d seen may_leave = Keeps (λ bytes. Stands bytes d) seen may_leave
+IsKept d seen may_leave = Keeps (λ bytes. StandsForVolumes bytes d) seen may_leave
 
 -- the bytes stand for what was kept before this record, or for what is kept with it
 abbrev pub StandsAround : StoreRecord → Durable → List ℕ → Type 0
-StandsAround r d bytes = Stands bytes d ⊎ ((e : Durable) × ((folded r d ≡ Some e) × Stands bytes e))
+StandsAround r d bytes = StandsForVolumes bytes d ⊎ ((e : Durable) × ((folded r d ≡ Some e) × StandsForVolumes bytes e))
 
 -- these records, with this one or without it, and what they stand for
 abbrev pub LeftAround : List (List ℕ) → StoreRecord → Durable → List ℕ → Type 0

@@ -2,14 +2,14 @@
 use Rattle.std.specs.Prelude.{map}
 use Rattle.std.specs.Option.{option_map}
 use Rattle.afs_num.specs.declared.records.StoreRecord.{StoreRecord}
-use Rattle.afs_records.specs.Records.{record_at, record_bytes, FitsRecord}
-use Rattle.afs_records.specs.Changes.{boot_record}
-use Rattle.afs_records.specs.Durable.{noted, nothing_on, Durable}
-use Rattle.afs_fold.specs.Fold.{is_first, body_taken, first_bad, fold_all, folded}
-use Rattle.afs_fold.specs.Effects.{effect_of}
+use Rattle.spec_records.specs.Records.{record_at, record_bytes, FitsRecord}
+use Rattle.spec_records.specs.Changes.{boot_record}
+use Rattle.spec_records.specs.Durable.{noted, nothing_on, Durable}
+use Rattle.spec_fold.specs.Fold.{is_first, body_taken, first_bad, fold_all, folded}
+use Rattle.spec_fold.specs.Effects.{effect_of}
 use Rattle.afs_readying.specs.Preparing.{IsSpelledOut}
 use Rattle.afs_memory.specs.Redos.{record_of, Suits}
-use Rattle.afs_memory.specs.States.{parts_of, placed, HasRoomFor}
+use Rattle.afs_memory.specs.States.{parts_of, on_disk, HasRoomFor}
 use Rattle.afs_memory.specs.Telling.{in_words}
 use Rattle.afs_readying.specs.declared.prepared.Prepared.{Prepared}
 use Rattle.afs_store.specs.Folding.{Folding}
@@ -22,7 +22,7 @@ volume_fold = record {
   read = record_at;
   Fits = FitsRecord;
   nothing = record (nothing_on 0) { journal = 0 };
-  placed = placed;
+  placed = on_disk;
   journal = λ d. d.journal;
   capacity = λ d. d.capacity;
   folded = folded;

@@ -2,27 +2,27 @@
 use Rattle.std.specs.Prelude.{◌↔◌}
 use Rattle.std.proofs.Common.{◌≡◌, ℕ, ◌+◌, Bool, true, false, List, [], ◌∷◌, length, Option, Some, None, nat_eq, nat_lt, if◌then◌else◌, refl, ap, ◌∙◌}
 use Rattle.std.specs.Option.{option_map}
-use Rattle.afs_history.specs.declared.lines.Line.{Line}
+use Rattle.spec_history.specs.declared.lines.Line.{Line}
 use Rattle.afs_num.specs.declared.types.Node.{Node}
 use Rattle.afs_num.specs.declared.records.RecordBody.{RecordBody}
 use Rattle.afs_num.specs.declared.records.RecordBody.TheVariants as bodies
 use Rattle.afs_num.specs.declared.records.RecordHead.{RecordHead}
 use Rattle.afs_num.specs.declared.records.StoredVolume.{StoredVolume}
 use Rattle.afs_num.specs.declared.records.StoreRecord.{StoreRecord}
-use Rattle.afs_shape.specs.Taking.{◌>>=◌}
-use Rattle.afs_ideal.specs.Tables.{get, set}
-use Rattle.afs_records.specs.Records.{record_at}
-use Rattle.afs_records.specs.Durable.{changed_stored, most_volumes, noted, nothing_on, place_length, replaced, stored_of, with_journal, with_reply, with_stamp, with_stored, with_volumes, Durable, Stored}
-use Rattle.afs_fold.specs.Fold.{bad_by, bad_from, body_taken, first_bad, first_folded, fold_all, fold_from, folded}
-use Rattle.afs_fold.specs.Deeds.{can_take, clone_made, clone_put, done_by, flagged, on_stored, or_as_was}
-use Rattle.afs_fold.specs.Effects.{effect_by, effect_of}
-use Rattle.afs_dumps.specs.Restores.{finished}
-use Rattle.afs_records.proofs.Spelled.{record_read}
+use Rattle.spec_shape.specs.Taking.{◌>>=◌}
+use Rattle.spec_ideal.specs.Tables.{get, set}
+use Rattle.spec_records.specs.Records.{record_at}
+use Rattle.spec_records.specs.Durable.{changed_stored, most_volumes, noted, nothing_on, place_length, replaced, stored_of, with_journal, with_reply, with_stamp, with_stored, with_volumes, Durable, Stored}
+use Rattle.spec_fold.specs.Fold.{bad_by, bad_from, body_taken, first_bad, first_folded, fold_all, fold_from, folded}
+use Rattle.spec_fold.specs.Deeds.{can_take, clone_made, clone_put, done_by, flagged, on_stored, or_as_was}
+use Rattle.spec_fold.specs.Effects.{effect_by, effect_of}
+use Rattle.spec_dumps.specs.Restores.{restored_from}
+use Rattle.spec_records.proofs.Spelled.{record_read}
 use Rattle.afs_shelves.specs.Deeds.{SuitsDeed}
 use Rattle.afs_shelves.specs.declared.deed.Deed.{Deed}
 use Rattle.afs_shelves.specs.declared.deed.Deed.TheVariants as deeds
 use Rattle.afs_memory.specs.Redos.{Suits}
-use Rattle.afs_memory.specs.States.{placed}
+use Rattle.afs_memory.specs.States.{on_disk}
 use Rattle.afs_memory.specs.declared.redo.Redo.{Redo}
 use Rattle.afs_memory.specs.declared.redo.Redo.TheVariants as redos
 use Rattle.afs_store.specs.Folds.{all_folded, first_unfit, folded_from, last_told, told_from, unfit_by, unfit_from}
@@ -32,45 +32,45 @@ use Rattle.afs_volstore.specs.VolumeFold.{volume_fold}
 
 -- ---- the fold does the same whatever the journal's length and the capacity
 
-volumes_by : (s : StoredVolume) (ss : List StoredVolume) (j c : ℕ) (d : Durable) (x : Stored) (many : Bool) → ((e : Durable) → with_volumes ss (placed j c e) ≡ option_map (placed j c) (with_volumes ss e))
-    → ((if many then None else Some (record (placed j c d) { volumes = set s.head.id x d.volumes })) >>= with_volumes ss) ≡ option_map (placed j c) ((if many then None else Some (record d { volumes = set s.head.id x d.volumes })) >>= with_volumes ss)
+volumes_by : (s : StoredVolume) (ss : List StoredVolume) (j c : ℕ) (d : Durable) (x : Stored) (many : Bool) → ((e : Durable) → with_volumes ss (on_disk j c e) ≡ option_map (on_disk j c) (with_volumes ss e))
+    → ((if many then None else Some (record (on_disk j c d) { volumes = set s.head.id x d.volumes })) >>= with_volumes ss) ≡ option_map (on_disk j c) ((if many then None else Some (record d { volumes = set s.head.id x d.volumes })) >>= with_volumes ss)
 volumes_by s ss j c d x true later = refl
 volumes_by s ss j c d x false later = later (record d { volumes = set s.head.id x d.volumes })
 
-volume_by : (s : StoredVolume) (ss : List StoredVolume) (j c : ℕ) (d : Durable) (o : Option Stored) → ((e : Durable) → with_volumes ss (placed j c e) ≡ option_map (placed j c) (with_volumes ss e))
-    → (o >>= λ x. (with_stored s.head.id x (placed j c d) >>= with_volumes ss)) ≡ option_map (placed j c) (o >>= λ x. (with_stored s.head.id x d >>= with_volumes ss))
+volume_by : (s : StoredVolume) (ss : List StoredVolume) (j c : ℕ) (d : Durable) (o : Option Stored) → ((e : Durable) → with_volumes ss (on_disk j c e) ≡ option_map (on_disk j c) (with_volumes ss e))
+    → (o >>= λ x. (with_stored s.head.id x (on_disk j c d) >>= with_volumes ss)) ≡ option_map (on_disk j c) (o >>= λ x. (with_stored s.head.id x d >>= with_volumes ss))
 volume_by s ss j c d None later = refl
 volume_by s ss j c d (Some x) later = volumes_by s ss j c d x (nat_lt most_volumes (length (set s.head.id x d.volumes))) later
 
-volumes_placed : (vs : List StoredVolume) (j c : ℕ) (d : Durable) → with_volumes vs (placed j c d) ≡ option_map (placed j c) (with_volumes vs d)
+volumes_placed : (vs : List StoredVolume) (j c : ℕ) (d : Durable) → with_volumes vs (on_disk j c d) ≡ option_map (on_disk j c) (with_volumes vs d)
 volumes_placed [] j c d = refl
 volumes_placed (s ∷ ss) j c d = volume_by s ss j c d (stored_of s) (volumes_placed ss j c)
 
-replaced_placed : (id : ℕ) (o : Option Stored) (j c : ℕ) (d : Durable) → replaced id o (placed j c d) ≡ option_map (placed j c) (replaced id o d)
+replaced_placed : (id : ℕ) (o : Option Stored) (j c : ℕ) (d : Durable) → replaced id o (on_disk j c d) ≡ option_map (on_disk j c) (replaced id o d)
 replaced_placed id None j c d = refl
 replaced_placed id (Some s) j c d = refl
 
-change_placed : (id : ℕ) (f : Stored → Option Stored) (j c : ℕ) (d : Durable) (o : Option Stored) → (o >>= λ s. replaced id (f s) (placed j c d)) ≡ option_map (placed j c) (o >>= λ s. replaced id (f s) d)
+change_placed : (id : ℕ) (f : Stored → Option Stored) (j c : ℕ) (d : Durable) (o : Option Stored) → (o >>= λ s. replaced id (f s) (on_disk j c d)) ≡ option_map (on_disk j c) (o >>= λ s. replaced id (f s) d)
 change_placed id f j c d None = refl
 change_placed id f j c d (Some s) = replaced_placed id (f s) j c d
 
-stored_placed : (id : ℕ) (f : Stored → Stored) (o : Option Stored) (j c : ℕ) (d : Durable) → on_stored id f o (placed j c d) ≡ placed j c (on_stored id f o d)
+stored_placed : (id : ℕ) (f : Stored → Stored) (o : Option Stored) (j c : ℕ) (d : Durable) → on_stored id f o (on_disk j c d) ≡ on_disk j c (on_stored id f o d)
 stored_placed id f None j c d = refl
 stored_placed id f (Some s) j c d = refl
 
-put_placed : (source id : ℕ) (name : List ℕ) (kind release : ℕ) (s : Stored) (o : Option Stored) (j c : ℕ) (d : Durable) → clone_put source id name kind release s o (placed j c d) ≡ placed j c (clone_put source id name kind release s o d)
+put_placed : (source id : ℕ) (name : List ℕ) (kind release : ℕ) (s : Stored) (o : Option Stored) (j c : ℕ) (d : Durable) → clone_put source id name kind release s o (on_disk j c d) ≡ on_disk j c (clone_put source id name kind release s o d)
 put_placed source id name kind release s None j c d = refl
 put_placed source id name kind release s (Some old) j c d = refl
 
-clone_placed : (source id : ℕ) (name : List ℕ) (kind release : ℕ) (o : Option Stored) (j c : ℕ) (d : Durable) → clone_made source id name kind release o (placed j c d) ≡ placed j c (clone_made source id name kind release o d)
+clone_placed : (source id : ℕ) (name : List ℕ) (kind release : ℕ) (o : Option Stored) (j c : ℕ) (d : Durable) → clone_made source id name kind release o (on_disk j c d) ≡ on_disk j c (clone_made source id name kind release o d)
 clone_placed source id name kind release None j c d = refl
 clone_placed source id name kind release (Some s) j c d = put_placed source id name kind release s (get id d.volumes) j c d
 
-done_if : (b : Bool) (d e : Durable) (j c : ℕ) → d ≡ placed j c e → (if b then Some d else None) ≡ option_map (placed j c) (if b then Some e else None)
+done_if : (b : Bool) (d e : Durable) (j c : ℕ) → d ≡ on_disk j c e → (if b then Some d else None) ≡ option_map (on_disk j c) (if b then Some e else None)
 done_if true d e j c same = ap (λ (x : Durable). Some x) same
 done_if false d e j c same = refl
 
-taken_placed : (b : RecordBody) (j c : ℕ) (d : Durable) → body_taken b (placed j c d) ≡ option_map (placed j c) (body_taken b d)
+taken_placed : (b : RecordBody) (j c : ℕ) (d : Durable) → body_taken b (on_disk j c d) ≡ option_map (on_disk j c) (body_taken b d)
 taken_placed (bodies.First vs) j c d = volumes_placed vs j c d
 taken_placed (bodies.Change id counter unique vnodes removed) j c d = change_placed id (changed_stored counter unique vnodes removed) j c d (get id d.volumes)
 taken_placed (bodies.Boot boot) j c d = refl
@@ -79,32 +79,32 @@ taken_placed (bodies.Delete id) j c d = done_if (can_take (bodies.Delete id) d) 
 taken_placed (bodies.Clone source id name kind release) j c d =
     done_if (can_take (bodies.Clone source id name kind release) d) _ (done_by (bodies.Clone source id name kind release) d) j c (clone_placed source id name kind release (get source d.volumes) j c d)
 taken_placed (bodies.Restore id dump) j c d =
-    done_if (can_take (bodies.Restore id dump) d) _ (done_by (bodies.Restore id dump) d) j c (stored_placed id (λ (s : Stored). or_as_was s (finished id s dump)) (get id d.volumes) j c d)
+    done_if (can_take (bodies.Restore id dump) d) _ (done_by (bodies.Restore id dump) d) j c (stored_placed id (λ (s : Stored). or_as_was s (restored_from id s dump)) (get id d.volumes) j c d)
 taken_placed (bodies.Flags id flags) j c d = done_if (can_take (bodies.Flags id flags) d) _ (done_by (bodies.Flags id flags) d) j c (stored_placed id (flagged flags) (get id d.volumes) j c d)
 taken_placed (bodies.Forward id to) j c d = done_if (can_take (bodies.Forward id to) d) _ (done_by (bodies.Forward id to) d) j c refl
 taken_placed bodies.Stamp j c d = refl
 
-stamp_placed : (h : RecordHead) (j c : ℕ) (d : Durable) (b : Bool) → (if b then placed j c d else record (placed j c d) { stamps = set h.family h.stamp d.stamps }) ≡ placed j c (if b then d else record d { stamps = set h.family h.stamp d.stamps })
+stamp_placed : (h : RecordHead) (j c : ℕ) (d : Durable) (b : Bool) → (if b then on_disk j c d else record (on_disk j c d) { stamps = set h.family h.stamp d.stamps }) ≡ on_disk j c (if b then d else record d { stamps = set h.family h.stamp d.stamps })
 stamp_placed h j c d true = refl
 stamp_placed h j c d false = refl
 
-reply_placed : (o : Option Node) (h : RecordHead) (j c : ℕ) (d : Durable) → with_reply o h (placed j c d) ≡ placed j c (with_reply o h d)
+reply_placed : (o : Option Node) (h : RecordHead) (j c : ℕ) (d : Durable) → with_reply o h (on_disk j c d) ≡ on_disk j c (with_reply o h d)
 reply_placed None h j c d = refl
 reply_placed (Some n) h j c d = refl
 
-noted_placed : (h : RecordHead) (j c : ℕ) (d : Durable) → noted h (placed j c d) ≡ placed j c (noted h d)
+noted_placed : (h : RecordHead) (j c : ℕ) (d : Durable) → noted h (on_disk j c d) ≡ on_disk j c (noted h d)
 noted_placed h j c d = ap (with_reply h.caller h) (stamp_placed h j c d (nat_eq h.stamp 0)) ∙ reply_placed h.caller h j c (with_stamp h d)
 
-folded_by : (r : StoreRecord) (j c : ℕ) (o : Option Durable) → (option_map (placed j c) o >>= λ d. Some (with_journal (j + place_length r) (noted r.head d))) ≡ option_map (placed (j + place_length r) c) (option_map (noted r.head) o)
+folded_by : (r : StoreRecord) (j c : ℕ) (o : Option Durable) → (option_map (on_disk j c) o >>= λ d. Some (with_journal (j + place_length r) (noted r.head d))) ≡ option_map (on_disk (j + place_length r) c) (option_map (noted r.head) o)
 folded_by r j c None = refl
 folded_by r j c (Some d) = ap (λ (x : Durable). Some (with_journal (j + place_length r) x)) (noted_placed r.head j c d)
 
-folds : (r : StoreRecord) (j c : ℕ) (d : Durable) → folded r (placed j c d) ≡ option_map (placed (j + place_length r) c) (option_map (noted r.head) (body_taken r.body d))
+folds : (r : StoreRecord) (j c : ℕ) (d : Durable) → folded r (on_disk j c d) ≡ option_map (on_disk (j + place_length r) c) (option_map (noted r.head) (body_taken r.body d))
 unfolding folded
 folds r j c d =
     ap (λ (o : Option Durable). o >>= λ x. Some (with_journal (j + place_length r) (noted r.head x))) (taken_placed r.body j c d) ∙ folded_by r j c (body_taken r.body d)
 
-effect_placed_by : (node : Node) (h : RecordHead) (b : RecordBody) (j c : ℕ) (d : Durable) → effect_by node h b (placed j c d) ≡ effect_by node h b d
+effect_placed_by : (node : Node) (h : RecordHead) (b : RecordBody) (j c : ℕ) (d : Durable) → effect_by node h b (on_disk j c d) ≡ effect_by node h b d
 effect_placed_by node h (bodies.First vs) j c d = refl
 effect_placed_by node h (bodies.Change id counter unique vnodes removed) j c d = refl
 effect_placed_by node h (bodies.Boot boot) j c d = refl
@@ -118,7 +118,7 @@ effect_placed_by node h bodies.Stamp j c d = refl
 
 -- ---- what was made beforehand is what a record makes, whatever the journal's length and the capacity
 
-suits_anywhere : (x : Deed) (j c : ℕ) (d : Durable) → SuitsDeed x (placed j c d) → SuitsDeed x d
+suits_anywhere : (x : Deed) (j c : ℕ) (d : Durable) → SuitsDeed x (on_disk j c d) → SuitsDeed x d
 suits_anywhere (deeds.Create s) j c d is = record { can = is.can; made = is.made }
 suits_anywhere (deeds.Delete id) j c d is = record { can = is.can; made = is.made }
 suits_anywhere (deeds.Clone x) j c d is = record { can = is.can; made = is.made }
@@ -127,7 +127,7 @@ suits_anywhere (deeds.Flags id flags) j c d is = record { can = is.can; made = i
 suits_anywhere (deeds.Forward id to) j c d is = record { can = is.can; made = is.made }
 suits_anywhere deeds.Stamp j c d is = record { can = is.can; made = is.made }
 
-suits_there : (x : Deed) (j c : ℕ) (d : Durable) → SuitsDeed x d → SuitsDeed x (placed j c d)
+suits_there : (x : Deed) (j c : ℕ) (d : Durable) → SuitsDeed x d → SuitsDeed x (on_disk j c d)
 suits_there (deeds.Create s) j c d is = record { can = is.can; made = is.made }
 suits_there (deeds.Delete id) j c d is = record { can = is.can; made = is.made }
 suits_there (deeds.Clone x) j c d is = record { can = is.can; made = is.made }
@@ -136,7 +136,7 @@ suits_there (deeds.Flags id flags) j c d is = record { can = is.can; made = is.m
 suits_there (deeds.Forward id to) j c d is = record { can = is.can; made = is.made }
 suits_there deeds.Stamp j c d is = record { can = is.can; made = is.made }
 
-suits : (r : Redo) (j c : ℕ) (d : Durable) → Suits r (placed j c d) ↔ Suits r d
+suits : (r : Redo) (j c : ℕ) (d : Durable) → Suits r (on_disk j c d) ↔ Suits r d
 suits (redos.Volumes vs) j c d = (λ is. is, λ is. is)
 suits (redos.Change id change) j c d = (λ is. is, λ is. is)
 suits (redos.Start boot) j c d = (λ is. is, λ is. is)

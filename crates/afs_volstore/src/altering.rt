@@ -2,7 +2,7 @@
 
 ghost use Rattle.std.specs.Prelude.{◌≡◌, Err, OnOk};
 ghost use Rattle.std.specs.List.{AllByRecursion};
-ghost use Rattle.afs_ideal.specs.VnodeImage.{FitsImage};
+ghost use Rattle.spec_ideal.specs.VnodeImage.{FitsImage};
 ghost use Rattle.afs_volume.specs.Seen.{IsReadable};
 ghost use Rattle.afs_shelves.specs.Numbered.{AreShelved};
 ghost use Rattle.afs_memory.specs.Redoing.{IsChanged, IsRefused};

@@ -3,9 +3,9 @@
 ghost use Rattle.std.specs.Prelude.{◌≡◌, ◌<◌, Err, None, Some, true, IfOk, OnOk};
 ghost use Rattle.std.specs.Option.{option_map};
 ghost use Rattle.afs_num.specs.declared.faults.StoreFault.TheVariants as faults;
-ghost use Rattle.afs_fold.specs.Fold.{body_taken, is_first};
-ghost use Rattle.afs_records.specs.Durable.{noted};
-ghost use Rattle.afs_records.specs.Records.{record_at, record_bytes, FitsRecord};
+ghost use Rattle.spec_fold.specs.Fold.{body_taken, is_first};
+ghost use Rattle.spec_records.specs.Durable.{noted};
+ghost use Rattle.spec_records.specs.Records.{record_at, record_bytes, FitsRecord};
 ghost use Rattle.afs_memory.specs.Called.{IsCaller};
 ghost use Rattle.afs_store.specs.Folds.{IsBadAt, TakesNone, TakesOne, TellsOne};
 ghost use Rattle.afs_volstore.specs.VolumeFold.{volume_fold};
@@ -15,7 +15,6 @@ ghost use Rattle.afs_memory.specs.States.{parts_of};
 ghost use Rattle.afs_record.specs.declared.faults.Unfit.TheVariants.{Bad};
 
 use crate::altering::change_in;
-use afs_history::lines::Lines;
 use afs_memory::memory::State;
 use afs_memory::redo::Redo;
 use afs_memory::redoing::put_volumes;
@@ -26,6 +25,7 @@ use afs_num::types::Node;
 use afs_readying::readying::redo_of;
 use afs_record::faults::{RecordFault, Unfit};
 use afs_record::records::decode_record;
+use spec_history::lines::Lines;
 use std::alloc::Global;
 
 /// Does what a record's body says. `Bad` where it can't be taken; then the state may be any.

@@ -7,12 +7,12 @@ ghost use Rattle.afs_disk.specs.Words.{SameDiskBy, LeavesOnlyBy, TellsOn, SetAs,
 ghost use Rattle.afs_journal.specs.Log.{IsJournal};
 ghost use Rattle.afs_journal.specs.Records.{whole_records};
 ghost use Rattle.afs_journal.specs.Words.{SameCountsBy, LeavesByPickOf, ReachesBy};
-ghost use Rattle.afs_records.specs.Records.{record_bytes, FitsRecord};
-ghost use Rattle.afs_records.specs.Changes.{boot_record, can_boot};
-ghost use Rattle.afs_records.specs.Durable.{has_room};
-ghost use Rattle.afs_fold.specs.Effects.{effect_of, vanished_lines};
-ghost use Rattle.afs_fold.specs.Fold.{folded};
-ghost use Rattle.afs_fold.specs.Laws.{started};
+ghost use Rattle.spec_records.specs.Records.{record_bytes, FitsRecord};
+ghost use Rattle.spec_records.specs.Changes.{boot_record, can_boot};
+ghost use Rattle.spec_records.specs.Durable.{has_room};
+ghost use Rattle.spec_fold.specs.Effects.{effect_of, vanished_lines};
+ghost use Rattle.spec_fold.specs.Fold.{folded};
+ghost use Rattle.spec_fold.specs.Laws.{started};
 ghost use Rattle.afs_memory.specs.Named.{IsNamed, IsRestored, IsRestoredThere};
 ghost use Rattle.afs_volstore.specs.Stores.{IsEarly, IsFull, IsKept, IsNoChange, LeftAround, SameBut};
 ghost use Rattle.afs_memory.specs.Telling.{in_words};
@@ -20,13 +20,13 @@ ghost use Rattle.afs_store.specs.Words.{ServedBy};
 
 use crate::store::VolStore;
 use afs_disk::Disk;
-use afs_fold::laws::starts_are_kept;
-use afs_history::lines::Lines;
 use afs_num::faults::StoreFault;
 use afs_num::records::StoreRecord;
 use afs_num::types::Mem;
 use afs_readying::readying::{prepared_change, prepared_restored};
 use afs_volume::{ReadyNames, Volume};
+use spec_fold::laws::starts_are_kept;
+use spec_history::lines::Lines;
 
 impl<D: Disk> VolStore<D> {
     /// Takes all memory for one commit of this record. A refusal leaves everything as it was; so does `Ok`, but for what

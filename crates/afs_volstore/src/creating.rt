@@ -5,10 +5,10 @@ ghost use Rattle.afs_num.specs.declared.faults.StoreFault.TheVariants as faults;
 ghost use Rattle.afs_disk.specs.Words.{LeavesOnlyBy, TellsOn, SameFaults, PassesBy};
 ghost use Rattle.afs_journal.specs.Log.{IsJournal};
 ghost use Rattle.afs_journal.specs.Records.{IsBeforeOrAfter};
-ghost use Rattle.afs_records.specs.Changes.{boot_record, no_head};
-ghost use Rattle.afs_fold.specs.Fold.{body_taken, first_folded, is_first};
-ghost use Rattle.afs_records.specs.Durable.{nothing_on, Durable};
-ghost use Rattle.afs_records.specs.Records.{head_form, record_bytes, FitsRecord};
+ghost use Rattle.spec_records.specs.Changes.{boot_record, no_head};
+ghost use Rattle.spec_fold.specs.Fold.{body_taken, first_folded, is_first};
+ghost use Rattle.spec_records.specs.Durable.{nothing_on, Durable};
+ghost use Rattle.spec_records.specs.Records.{head_form, record_bytes, FitsRecord};
 ghost use Rattle.afs_volstore.specs.Stores.{IsKept};
 ghost use Rattle.afs_store.specs.Words.{IsCausedBy, MovedBy};
 
@@ -26,7 +26,7 @@ use afs_store::beginning::filled as first_put;
 use std::alloc::Global;
 
 /// The head of a record that raises no stamp and keeps no reply.
-#[tactic(auto, unfolding(afs_records::specs::Records::head_form))]
+#[tactic(auto, unfolding(spec_records::specs::Records::head_form))]
 pub fn no_head(alloc: Global) -> RecordHead
     ensures value { result ≡ no_head }
     ensures fits { head_form.Fits result }

@@ -1,13 +1,12 @@
 //! A server's memory, as its store changes it.
 
 ghost use Rattle.std.specs.Prelude.{◌≡◌};
-ghost use Rattle.afs_fold.specs.Orders.{AreFew, AreFew-prop};
+ghost use Rattle.spec_fold.specs.Orders.{AreFew, AreFew-prop};
 ghost use Rattle.afs_memory.specs.States.{parts_of};
 ghost use Rattle.afs_volstore.specs.Unfitting.{unfit_of};
 
 use crate::attaching::take_one;
 use crate::creating::start_record;
-use afs_history::lines::Lines;
 use afs_memory::memory::State;
 use afs_num::records::StoreRecord;
 use afs_num::types::{Mem, Node};
@@ -15,6 +14,7 @@ use afs_readying::prepared::Prepared;
 use afs_readying::readying::ready;
 use afs_record::faults;
 use afs_store::{Fold, Unfit};
+use spec_history::lines::Lines;
 use std::alloc::Global;
 use std::marker::Model;
 
@@ -23,7 +23,7 @@ use std::marker::Model;
 pub struct Part;
 
 impl Model for Part {
-    ghost use Rattle.afs_records.specs.Durable.{Durable, nothing_on};
+    ghost use Rattle.spec_records.specs.Durable.{Durable, nothing_on};
 
     ghost Value = { Durable };
 

@@ -1,8 +1,8 @@
 //! Which volumes transactions hold. It stands in memory alone: a restart knows of none.
 
 ghost use Rattle.std.specs.Prelude.{◌≡◌, ◌≤◌, ◌<◌, ◌+◌, ◌⊎◌, None, true, is_some, IsOk, OnErr, OnOk};
-ghost use Rattle.afs_ideal.specs.Tables.{get, set, unset};
-ghost use Rattle.afs_records.specs.Durable.{or_zero};
+ghost use Rattle.spec_ideal.specs.Tables.{get, set, unset};
+ghost use Rattle.spec_records.specs.Durable.{or_zero};
 ghost use Rattle.afs_volstore.specs.Stores.{hold_word};
 
 use crate::store::VolStore;

@@ -6,8 +6,8 @@ ghost use Rattle.afs_disk.specs.Words.{LeavesOnlyBy, TellsOn, SameFaults, Passes
 ghost use Rattle.afs_journal.specs.Log.{IsJournal, Rests, StandsAsBefore};
 ghost use Rattle.afs_journal.specs.Records.{whole_records};
 ghost use Rattle.afs_journal.specs.Words.{TakenBy};
-ghost use Rattle.afs_fold.specs.Fold.{first_bad};
-ghost use Rattle.afs_volstore.specs.Stands.{Stands};
+ghost use Rattle.spec_fold.specs.Fold.{first_bad};
+ghost use Rattle.afs_volstore.specs.Stands.{StandsForVolumes};
 ghost use Rattle.afs_volstore.specs.Opening.{lines_begun, IsAttachFault};
 ghost use Rattle.afs_volstore.specs.Stores.{IsKept};
 ghost use Rattle.afs_store.specs.Words.{IsCausedBy};
@@ -15,12 +15,12 @@ ghost use Rattle.afs_store.specs.Words.{IsCausedBy};
 use crate::held::{Held, Part};
 use crate::store::VolStore;
 use afs_disk::Disk;
-use afs_history::lines::Lines;
 use afs_num::faults::StoreFault;
 use afs_num::records::{Mark, StoreRecord};
 use afs_num::types::Node;
 use afs_seats::Seats;
 use afs_store::Store;
+use spec_history::lines::Lines;
 use std::alloc::Global;
 
 impl<D: Disk> VolStore<D> {
@@ -35,7 +35,7 @@ impl<D: Disk> VolStore<D> {
         told: Mark,
     ) -> Result<(VolStore<D>, Lines), (StoreFault, D)>
         requires { D.limit disk ≤ 268435456 }
-        ensures stands { IfOk result (λ r. (bytes : List ℕ) → D.seen disk ≡ Some bytes → Stands bytes r.0.durable) }
+        ensures stands { IfOk result (λ r. (bytes : List ℕ) → D.seen disk ≡ Some bytes → StandsForVolumes bytes r.0.durable) }
         ensures lines { IfOk result (λ r. (bytes : List ℕ) → D.seen disk ≡ Some bytes → lines_begun node told (D.limit disk) (whole_records bytes) ≡ Some r.1) }
         ensures at_rest { IfOk result (λ r. (bytes : List ℕ) → D.seen disk ≡ Some bytes → IsJournal (whole_records bytes) (D.seen r.0.disk) (D.may_leave r.0.disk)) }
         ensures told { MatchResult result (λ r. TellsOn D.Disk disk r.0.disk) (λ e. TellsOn D.Disk disk e.1) }

@@ -3,8 +3,8 @@
 ghost use Rattle.std.specs.Prelude.{◌≡◌, ◌≤◌, ◌<◌, ◌+◌, Bool, None, Some, false, length, slice_get, IfNone, IfSome};
 ghost use Rattle.std.specs.Option.{option_map};
 ghost use Rattle.afs_num.specs.Nodes.{node_number};
-ghost use Rattle.afs_ideal.specs.Tables.{get, AscendsFrom};
-ghost use Rattle.afs_records.specs.Durable.{most_volumes, stamp_of};
+ghost use Rattle.spec_ideal.specs.Tables.{get, AscendsFrom};
+ghost use Rattle.spec_records.specs.Durable.{most_volumes, stamp_of};
 ghost use Rattle.afs_shelves.specs.Shelving.{is_new_in, stored_as};
 ghost use Rattle.afs_memory.specs.Called.{AreBytes, AreKnown};
 ghost use Rattle.afs_volstore.specs.Stores.{IsCounted, IsKept};

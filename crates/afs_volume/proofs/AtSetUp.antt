@@ -2,9 +2,9 @@
 use Rattle.std.proofs.Common.{◌≡◌, ℕ, [], ◌∷◌, map, refl, sym, ap, subst, ◌∙◌}
 use Rattle.afs_num.specs.declared.vnodes.Vnode as image
 use Rattle.afs_num.specs.declared.volumes.VolumeHead.{VolumeHead}
-use Rattle.afs_ideal.specs.Tables.{Table}
-use Rattle.afs_records.specs.Changes.{at_set_up}
-use Rattle.afs_records.specs.Durable.{Stored}
+use Rattle.spec_ideal.specs.Tables.{Table}
+use Rattle.spec_records.specs.Changes.{at_set_up}
+use Rattle.spec_records.specs.Durable.{Stored}
 use Rattle.afs_volume.specs.Seen.{all_seen, volume_seen}
 use Rattle.afs_volume.specs.Taking.{stored_with, times_in, IsAtSetUp}
 use Rattle.afs_volume.specs.declared.volume.Volume as volumes

@@ -5,8 +5,8 @@ use Rattle.std.proofs.lemmas.Bool.Decides.{nat_tests}
 use Rattle.std.proofs.lemmas.List.{drop_more}
 use Rattle.afs_num.specs.declared.directories.Name.{Name}
 use Rattle.afs_num.specs.declared.vnodes.Vnode as image
-use Rattle.afs_ideal.specs.Soundness.{names_it, names_of}
-use Rattle.afs_ideal.specs.Tables.{Table, get, AscendsFrom}
+use Rattle.spec_ideal.specs.Soundness.{names_it, names_of}
+use Rattle.spec_ideal.specs.Tables.{Table, get, AscendsFrom}
 use Rattle.afs_volume.specs.Given.{names_or_none}
 use Rattle.afs_volume.specs.Listed.{names_in, Lists}
 use Rattle.afs_volume.specs.Naming.{names_for, same_naming, times, CountsNames}

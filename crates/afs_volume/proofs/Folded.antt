@@ -7,19 +7,19 @@ use Rattle.afs_num.specs.declared.acls.AccessList.{AccessList}
 use Rattle.afs_num.specs.declared.directories.Name.{Name}
 use Rattle.afs_num.specs.declared.vnodes.Vnode as image
 use Rattle.afs_num.specs.declared.volumes.VolumeHead.{VolumeHead}
-use Rattle.afs_shape.specs.Taking.{◌>>=◌}
-use Rattle.afs_ideal.specs.AccessLists.{acl_at, no_acl}
-use Rattle.afs_ideal.specs.Directories.{directory_of}
-use Rattle.afs_ideal.specs.Images.{directory_value, kind_of, value_by, value_of, value_of_kind, value_with}
-use Rattle.afs_ideal.specs.Tables.{Table, set, unset, AscendsFrom}
-use Rattle.afs_ideal.specs.VnodeMaps.{most_vnodes}
-use Rattle.afs_ideal.specs.Volumes.{Kind, a_file, a_directory, a_link}
-use Rattle.afs_ideal.specs.Volumes as ideal
-use Rattle.afs_ideal.proofs.Tables.{ascends_lower}
+use Rattle.spec_shape.specs.Taking.{◌>>=◌}
+use Rattle.spec_ideal.specs.AccessLists.{acl_at, no_acl}
+use Rattle.spec_ideal.specs.Directories.{directory_of}
+use Rattle.spec_ideal.specs.Images.{directory_value, kind_of, value_by, value_of, value_of_kind, value_with}
+use Rattle.spec_ideal.specs.Tables.{Table, set, unset, AscendsFrom}
+use Rattle.spec_ideal.specs.VnodeMaps.{most_vnodes}
+use Rattle.spec_ideal.specs.Volumes.{VnodeKind, a_file, a_directory, a_link}
+use Rattle.spec_ideal.specs.Volumes as ideal
+use Rattle.spec_ideal.proofs.Tables.{ascends_lower}
 use Rattle.afs_volume.specs.declared.volume.Volume.{Volume}
 use Rattle.afs_volume.proofs.Soundly.{in_order}
-use Rattle.afs_records.specs.Durable.{Stored, allowed, changed_stored, counted_as, is_there, with_image, with_images, without, without_one}
-use Rattle.afs_records.specs.Sound.{is_sound}
+use Rattle.spec_records.specs.Durable.{Stored, allowed, changed_stored, counted_as, is_there, with_image, with_images, without, without_one}
+use Rattle.spec_records.specs.Sound.{is_sound}
 use Rattle.afs_volume.specs.Seen.{all_seen, contents_seen, kind_seen, list_read, list_seen, list_spelled, names_read, names_seen, names_spelled, seen, volume_seen}
 use Rattle.afs_volume.specs.Taking.{put_but, stored_of, stored_with, times_in, without_all}
 use Rattle.afs_volume.proofs.Upward.{same_length}
@@ -30,8 +30,8 @@ use Rattle.afs_volume.proofs.Taken.{mapped_set, mapped_unset, put_each, removed_
 pub some_is : {A : Type 0} (x y : A) → Some x ≡ Some y → x ≡ y
 some_is {A} x y e = cc
 
-kinds_by : (n : ℕ) (k : Kind) (a b c : Bool) → nat_eq n 1 ≡ a → nat_eq n 2 ≡ b → nat_eq n 3 ≡ c → ◌≡◌ {A = Option Kind} (if a then Some a_file else (if b then Some a_directory else (if c then Some a_link else None))) (Some k)
-    → ◌≡◌ {A = Kind} (if b then a_directory else (if c then a_link else a_file)) k
+kinds_by : (n : ℕ) (k : VnodeKind) (a b c : Bool) → nat_eq n 1 ≡ a → nat_eq n 2 ≡ b → nat_eq n 3 ≡ c → ◌≡◌ {A = Option VnodeKind} (if a then Some a_file else (if b then Some a_directory else (if c then Some a_link else None))) (Some k)
+    → ◌≡◌ {A = VnodeKind} (if b then a_directory else (if c then a_link else a_file)) k
 kinds_by n k true true c one two three e = absurd (grind (arith, nat_tests, one, two))
 kinds_by n k true false true one two three e = absurd (grind (arith, nat_tests, one, three))
 kinds_by n k true false false one two three e = some_is a_file k e
@@ -39,7 +39,7 @@ kinds_by n k false true c one two three e = some_is a_directory k e
 kinds_by n k false false true one two three e = some_is a_link k e
 kinds_by n k false false false one two three e = absurd cc
 
-kinds : (n : ℕ) (k : Kind) → kind_of n ≡ Some k → kind_seen n ≡ k
+kinds : (n : ℕ) (k : VnodeKind) → kind_of n ≡ Some k → kind_seen n ≡ k
 kinds n k e = kinds_by n k (nat_eq n 1) (nat_eq n 2) (nat_eq n 3) refl refl refl e
 
 directory_is : {E F : Type 0} (i : image.Vnode) (x : ideal.Vnode) (r : Result (List Name) E) (s : Result AccessList F) → directory_value i r s ≡ Some x → value_with a_directory [] (names_read r) (list_read s) i ≡ x
@@ -47,21 +47,21 @@ directory_is {E} {F} i x (Ok names) (Ok acl) e = some_is (value_with a_directory
 directory_is {E} {F} i x (Ok names) (Err f) e = absurd cc
 directory_is {E} {F} i x (Err g) s e = absurd cc
 
-contents_is : (k : Kind) (i : image.Vnode) (x : ideal.Vnode) (b : Bool) → ◌≡◌ {A = Option ideal.Vnode} (if b then Some (value_with k i.contents [] no_acl i) else None) (Some x) → value_with k i.contents [] no_acl i ≡ x
+contents_is : (k : VnodeKind) (i : image.Vnode) (x : ideal.Vnode) (b : Bool) → ◌≡◌ {A = Option ideal.Vnode} (if b then Some (value_with k i.contents [] no_acl i) else None) (Some x) → value_with k i.contents [] no_acl i ≡ x
 contents_is k i x true e = some_is (value_with k i.contents [] no_acl i) x e
 contents_is k i x false e = absurd cc
 
-value_is : (k : Kind) (i : image.Vnode) (x : ideal.Vnode) → value_by k i ≡ Some x → value_with k (contents_seen k i.contents) (names_seen k i.contents) (list_seen k i.acl) i ≡ x
+value_is : (k : VnodeKind) (i : image.Vnode) (x : ideal.Vnode) → value_by k i ≡ Some x → value_with k (contents_seen k i.contents) (names_seen k i.contents) (list_seen k i.acl) i ≡ x
 unfolding names_spelled list_spelled
 value_is a_directory i x e = directory_is i x (directory_of i.contents) (acl_at i.acl) e
 value_is a_file i x e = contents_is a_file i x (nat_eq (length i.acl) 0) e
 value_is a_link i x e = contents_is a_link i x (nat_eq (length i.acl) 0) e
 
-seen_by : (o : Option Kind) (i : image.Vnode) (x : ideal.Vnode) → kind_of i.kind ≡ o → value_of_kind o i ≡ Some x → seen i ≡ x
+seen_by : (o : Option VnodeKind) (i : image.Vnode) (x : ideal.Vnode) → kind_of i.kind ≡ o → value_of_kind o i ≡ Some x → seen i ≡ x
 unfolding seen
 seen_by None i x is e = absurd cc
 seen_by (Some k) i x is e =
-    ap (λ (j : Kind). value_with j (contents_seen j i.contents) (names_seen j i.contents) (list_seen j i.acl) i) (kinds i.kind k is) ∙ value_is k i x e
+    ap (λ (j : VnodeKind). value_with j (contents_seen j i.contents) (names_seen j i.contents) (list_seen j i.acl) i) (kinds i.kind k is) ∙ value_is k i x e
 
 pub value_seen : (i : image.Vnode) (x : ideal.Vnode) → value_of i ≡ Some x → seen i ≡ x
 unfolding value_of

@@ -3,12 +3,12 @@ use Rattle.std.proofs.Common.{◌≡◌, ℕ, ◌+◌, ◌<◌, Bool, true, fals
 use Rattle.std.proofs.lemmas.List.{drop_more, get_or-map}
 use Rattle.afs_num.specs.declared.directories.Name.{Name}
 use Rattle.afs_num.specs.declared.vnodes.Vnode as image
-use Rattle.afs_ideal.specs.Volumes.{Kind, a_directory, a_file, a_link}
+use Rattle.spec_ideal.specs.Volumes.{VnodeKind, a_directory, a_file, a_link}
 use Rattle.afs_volume.specs.Given.{names_after, names_or_none}
 use Rattle.afs_volume.specs.Listed.{listed_as, listed_by}
 use Rattle.afs_volume.specs.Seen.{kind_seen, names_seen, seen}
 
-ready_by : (k : Kind) (x : image.Vnode) → names_or_none (listed_by k (names_seen k x.contents)) ≡ names_seen k x.contents
+ready_by : (k : VnodeKind) (x : image.Vnode) → names_or_none (listed_by k (names_seen k x.contents)) ≡ names_seen k x.contents
 ready_by a_directory x = refl
 ready_by a_file x = refl
 ready_by a_link x = refl

@@ -4,10 +4,10 @@ use Rattle.std.specs.Option.{option_map}
 use Rattle.std.proofs.lemmas.Bool.Decides.{nat_tests}
 use Rattle.afs_num.specs.declared.directories.Name.{Name}
 use Rattle.afs_num.specs.declared.vnodes.Vnode as image
-use Rattle.afs_ideal.specs.Operations.{is_kind}
-use Rattle.afs_ideal.specs.Tables.{Table, get, set, unset, AscendsFrom}
-use Rattle.afs_ideal.proofs.Tables.{get_set, get_unset}
-use Rattle.afs_ideal.specs.Volumes.{Kind, a_directory, a_file, a_link}
+use Rattle.spec_ideal.specs.Operations.{is_kind}
+use Rattle.spec_ideal.specs.Tables.{Table, get, set, unset, AscendsFrom}
+use Rattle.spec_ideal.proofs.Tables.{get_set, get_unset}
+use Rattle.spec_ideal.specs.Volumes.{VnodeKind, a_directory, a_file, a_link}
 use Rattle.afs_volume.specs.Given.{names_or_none}
 use Rattle.afs_volume.specs.Listed.{listed_as, listed_at, listed_by, names_in, Lists}
 use Rattle.afs_volume.specs.Seen.{all_seen, kind_seen, names_seen, seen}
@@ -123,7 +123,7 @@ listed_unset old new t u k h gone all =
 
 -- ---- the names of a directory that is there
 
-directory_by : (k : Kind) (x : image.Vnode) → is_kind k a_directory ≡ true → listed_by k (names_seen k x.contents) ≡ Some (names_seen k x.contents)
+directory_by : (k : VnodeKind) (x : image.Vnode) → is_kind k a_directory ≡ true → listed_by k (names_seen k x.contents) ≡ Some (names_seen k x.contents)
 directory_by a_directory x is = refl
 directory_by a_file x is = absurd cc
 directory_by a_link x is = absurd cc

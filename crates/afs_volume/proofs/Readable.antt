@@ -6,12 +6,12 @@ use Rattle.std.proofs.lemmas.Bool.Decides.{nat_tests}
 use Rattle.afs_num.specs.declared.acls.AccessList.{AccessList}
 use Rattle.afs_num.specs.declared.directories.Name.{Name}
 use Rattle.afs_num.specs.declared.vnodes.Vnode as image
-use Rattle.afs_ideal.specs.AccessLists.{acl_at}
-use Rattle.afs_ideal.specs.Directories.{directory_bytes, directory_of}
-use Rattle.afs_ideal.specs.Images.{directory_value, value_of, values_of, with_value}
-use Rattle.afs_ideal.specs.Tables.{Table, get, AscendsFrom}
-use Rattle.afs_ideal.specs.Volumes.{a_directory, a_file, a_link, blocks_in, type_of, Kind}
-use Rattle.afs_ideal.specs.Volumes as ideal
+use Rattle.spec_ideal.specs.AccessLists.{acl_at}
+use Rattle.spec_ideal.specs.Directories.{directory_bytes, directory_of}
+use Rattle.spec_ideal.specs.Images.{directory_value, value_of, values_of, with_value}
+use Rattle.spec_ideal.specs.Tables.{Table, get, AscendsFrom}
+use Rattle.spec_ideal.specs.Volumes.{a_directory, a_file, a_link, blocks_in, type_of, VnodeKind}
+use Rattle.spec_ideal.specs.Volumes as ideal
 use Rattle.afs_volume.specs.Assembling.{are_read, blocks_in_place, can_be_read, make_volume, IsReadablePlace}
 use Rattle.afs_volume.specs.Seen.{all_seen, kind_seen, names_spelled, text_by, AreReadable, IsReadable}
 use Rattle.afs_volume.specs.declared.faults.AssembleFault.{AssembleFault}
@@ -124,17 +124,17 @@ place_readable m (p ∷ ps) (suc i) up all = place_readable (p.0 + 1) ps i up.1 
 -- ---- the parts of a volume make one again
 
 -- a vnode that has been read is read again
-pub readable_kind : (k : Kind) (x : image.Vnode) → kind_seen x.kind ≡ k → IsReadable x → can_be_read x ≡ true
+pub readable_kind : (k : VnodeKind) (x : image.Vnode) → kind_seen x.kind ≡ k → IsReadable x → can_be_read x ≡ true
 readable_kind a_directory x is h =
     let kind : x.kind ≡ 2 = sym h.0 ∙ ap type_of is in
     directory_read x kind ∙ rw (names_again x.contents (h.1.0 is), h.1.1.0 is) refl
 readable_kind a_file x is h =
     let kind : x.kind ≡ 1 = sym h.0 ∙ ap type_of is in
-    let none : x.acl ≡ [] = sym h.1.1.1 ∙ ap (λ (k : Kind). text_by k x.acl) is in
+    let none : x.acl ≡ [] = sym h.1.1.1 ∙ ap (λ (k : VnodeKind). text_by k x.acl) is in
     other_read x (rw kind refl) ∙ rw (kind, none) refl
 readable_kind a_link x is h =
     let kind : x.kind ≡ 3 = sym h.0 ∙ ap type_of is in
-    let none : x.acl ≡ [] = sym h.1.1.1 ∙ ap (λ (k : Kind). text_by k x.acl) is in
+    let none : x.acl ≡ [] = sym h.1.1.1 ∙ ap (λ (k : VnodeKind). text_by k x.acl) is in
     other_read x (rw kind refl) ∙ rw (kind, none) refl
 
 pub reads_all : (m : ℕ) (t : Table image.Vnode) → AscendsFrom m t → AreReadable t → are_read t ≡ true

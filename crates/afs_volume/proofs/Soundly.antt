@@ -5,19 +5,19 @@ use Rattle.afs_num.specs.declared.acls.AccessList.{AccessList}
 use Rattle.afs_num.specs.declared.directories.Name.{Name}
 use Rattle.afs_num.specs.declared.vnodes.Vnode as image
 use Rattle.afs_num.specs.declared.volumes.VolumeHead.{VolumeHead}
-use Rattle.afs_ideal.specs.AccessLists.{acl_at, Refusal, IsAccessList}
-use Rattle.afs_ideal.specs.Directories.{directory_of, IsDirectory}
-use Rattle.afs_ideal.specs.SetUp.{new_root}
-use Rattle.afs_ideal.specs.Soundness.{IsSound}
-use Rattle.afs_ideal.specs.Tables.{Table, get, AscendsFrom}
-use Rattle.afs_ideal.specs.Volumes.{Kind, a_file, a_directory, a_link}
-use Rattle.afs_ideal.specs.Volumes as ideal
-use Rattle.afs_ideal.proofs.AccessLists.{read_is_text}
-use Rattle.afs_ideal.proofs.Laid.{first_sound}
-use Rattle.afs_ideal.proofs.ReadNames.{read_is_directory}
-use Rattle.afs_records.specs.Laws.{IsRead}
-use Rattle.afs_records.specs.Sound.{is_sound}
-use Rattle.afs_records.proofs.Tested.{passed, passes}
+use Rattle.spec_ideal.specs.AccessLists.{acl_at, Refusal, IsAccessList}
+use Rattle.spec_ideal.specs.Directories.{directory_of, IsDirectory}
+use Rattle.spec_ideal.specs.SetUp.{new_root}
+use Rattle.spec_ideal.specs.Soundness.{IsSound}
+use Rattle.spec_ideal.specs.Tables.{Table, get, AscendsFrom}
+use Rattle.spec_ideal.specs.Volumes.{VnodeKind, a_file, a_directory, a_link}
+use Rattle.spec_ideal.specs.Volumes as ideal
+use Rattle.spec_ideal.proofs.AccessLists.{read_is_text}
+use Rattle.spec_ideal.proofs.Laid.{first_sound}
+use Rattle.spec_ideal.proofs.ReadNames.{read_is_directory}
+use Rattle.spec_records.specs.Laws.{IsRead}
+use Rattle.spec_records.specs.Sound.{is_sound}
+use Rattle.spec_records.proofs.Tested.{passed, passes}
 use Rattle.afs_volume.specs.Seen.{seen, all_seen, list_read, list_seen, list_spelled, names_read, names_seen, names_spelled, volume_seen, kind_seen, AreReadable, IsReadable}
 use Rattle.afs_volume.proofs.Tables.{got}
 
@@ -31,7 +31,7 @@ list_by : (text : List ℕ) (r : Result AccessList Refusal) → acl_at text ≡ 
 list_by text (Ok a) is good = (read_is_text text a is).0
 list_by text (Err e) is good = absurd cc
 
-kind_by : (k : Kind) (bytes text : List ℕ) → is_ok (acl_at text) ≡ true → k ≡ a_directory → IsDirectory (names_seen k bytes) × IsAccessList (list_seen k text)
+kind_by : (k : VnodeKind) (bytes text : List ℕ) → is_ok (acl_at text) ≡ true → k ≡ a_directory → IsDirectory (names_seen k bytes) × IsAccessList (list_seen k text)
 unfolding names_spelled list_spelled
 kind_by a_directory bytes text good is = (names_by bytes (directory_of bytes) refl, list_by text (acl_at text) refl good)
 kind_by a_file bytes text good is = absurd cc

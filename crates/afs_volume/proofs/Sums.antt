@@ -1,8 +1,8 @@
 -- The blocks of a table's vnodes, as one is put or goes.
 use Rattle.std.proofs.Common.{◌≡◌, ℕ, ◌+◌, ◌<◌, Bool, true, false, not, [], ◌∷◌, Some, None, refl, ap, arith, eqb-true, ltb-true, if◌then◌else◌, nat_eq, nat_lt}
-use Rattle.afs_ideal.specs.Tables.{Table, get, set, unset, AscendsFrom}
-use Rattle.afs_ideal.specs.Volumes.{Vnode, blocks_of, blocks_in}
-use Rattle.afs_ideal.proofs.Tables.{get_below}
+use Rattle.spec_ideal.specs.Tables.{Table, get, set, unset, AscendsFrom}
+use Rattle.spec_ideal.specs.Volumes.{Vnode, blocks_of, blocks_in}
+use Rattle.spec_ideal.proofs.Tables.{get_below}
 use Rattle.afs_num.specs.declared.vnodes.Vnode as image
 use Rattle.afs_volume.specs.Seen.{all_seen}
 use Rattle.afs_volume.specs.Counting.{blocks_at}

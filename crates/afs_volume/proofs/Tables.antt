@@ -2,8 +2,8 @@
 use Rattle.std.proofs.Common.{◌≡◌, ℕ, Bool, true, false, [], ◌∷◌, Option, Some, nat_eq, nat_lt, ◌+◌, refl, if◌then◌else◌}
 use Rattle.std.specs.Option.{option_map}
 use Rattle.afs_num.specs.declared.vnodes.Vnode as image
-use Rattle.afs_ideal.specs.Tables.{Table, get, lowest_free}
-use Rattle.afs_ideal.specs.Volumes as ideal
+use Rattle.spec_ideal.specs.Tables.{Table, get, lowest_free}
+use Rattle.spec_ideal.specs.Volumes as ideal
 use Rattle.afs_volume.specs.Seen.{seen, all_seen}
 
 got_by : (b : Bool) (x : image.Vnode) (o : Option image.Vnode) (p : Option ideal.Vnode) → p ≡ option_map seen o → (if b then Some (seen x) else p) ≡ option_map seen (if b then Some x else o)

@@ -4,13 +4,13 @@ use Rattle.std.specs.Prelude.{◌&&◌, ◌||◌}
 use Rattle.std.specs.List.{AllByRecursion}
 use Rattle.std.proofs.lemmas.Bool.Decides.{nat_tests}
 use Rattle.afs_num.specs.declared.vnodes.Vnode as image
-use Rattle.afs_ideal.specs.Tables.{Table, get, set, unset, AscendsFrom}
-use Rattle.afs_ideal.specs.VnodeMaps.{most_vnodes, is_full_for}
-use Rattle.afs_ideal.proofs.Tables.{get_set, get_unset, ascends_set, ascends_unset, get_below}
-use Rattle.afs_records.proofs.Kept.{same_tables}
-use Rattle.afs_ideal.specs.Directories.{directory_bytes}
-use Rattle.afs_ideal.specs.VnodeImage.{FitsImage}
-use Rattle.afs_ideal.specs.Volumes.{Kind, a_file, a_directory, a_link, bytes_by, blocks_of, blocks_in}
+use Rattle.spec_ideal.specs.Tables.{Table, get, set, unset, AscendsFrom}
+use Rattle.spec_ideal.specs.VnodeMaps.{most_vnodes, is_full_for}
+use Rattle.spec_ideal.proofs.Tables.{get_set, get_unset, ascends_set, ascends_unset, get_below}
+use Rattle.spec_records.proofs.Kept.{same_tables}
+use Rattle.spec_ideal.specs.Directories.{directory_bytes}
+use Rattle.spec_ideal.specs.VnodeImage.{FitsImage}
+use Rattle.spec_ideal.specs.Volumes.{VnodeKind, a_file, a_directory, a_link, bytes_by, blocks_of, blocks_in}
 use Rattle.afs_vnode.specs.Stores.{AreVnodes}
 use Rattle.afs_volume.specs.Counting.{blocks_at}
 use Rattle.afs_volume.specs.Seen.{all_seen, contents_seen, kind_seen, names_seen, names_spelled, seen, AreReadable, IsReadable}
@@ -187,7 +187,7 @@ unset_readable n t all k y e = unread_by y (get k t) (nat_eq n k) (all k y) (sym
 
 -- ---- blocks
 
-bytes_kind : (k : Kind) (x : image.Vnode) → (k ≡ a_directory → directory_bytes (names_spelled x.contents) ≡ x.contents) → bytes_by k (record (seen x) { contents = contents_seen k x.contents; names = names_seen k x.contents }) ≡ x.contents
+bytes_kind : (k : VnodeKind) (x : image.Vnode) → (k ≡ a_directory → directory_bytes (names_spelled x.contents) ≡ x.contents) → bytes_by k (record (seen x) { contents = contents_seen k x.contents; names = names_seen k x.contents }) ≡ x.contents
 bytes_kind a_directory x h = h refl
 bytes_kind a_file x h = refl
 bytes_kind a_link x h = refl

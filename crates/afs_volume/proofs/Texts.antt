@@ -2,13 +2,13 @@
 use Rattle.std.proofs.Common.{◌≡◌, ℕ, ◌+◌, ◌/◌, List, [], ◌∷◌, true, Ok, Err, Result, is_ok, length, refl, ap, sym}
 use Rattle.std.specs.Prelude.{codes}
 use Rattle.afs_num.specs.declared.acls.AccessList.{AccessList}
-use Rattle.afs_ideal.specs.AccessLists.{acl_at, acl_text, count_at, line_number_at, entry_at, name_at, named_at, Refusal}
-use Rattle.afs_ideal.specs.Directories.{directory_bytes}
-use Rattle.afs_ideal.specs.SetUp.{new_root}
-use Rattle.afs_ideal.specs.Tables.{Table}
-use Rattle.afs_ideal.specs.Volumes.{Vnode, blocks_in}
+use Rattle.spec_ideal.specs.AccessLists.{acl_at, acl_text, count_at, line_number_at, acl_entry_at, name_at, named_at, Refusal}
+use Rattle.spec_ideal.specs.Directories.{directory_bytes}
+use Rattle.spec_ideal.specs.SetUp.{new_root}
+use Rattle.spec_ideal.specs.Tables.{Table}
+use Rattle.spec_ideal.specs.Volumes.{Vnode, blocks_in}
 use Rattle.afs_xdr.specs.Words.{word}
-use Rattle.afs_ideal.proofs.AccessLists.{read_is_text}
+use Rattle.spec_ideal.proofs.AccessLists.{read_is_text}
 use Rattle.afs_volume.specs.Seen.{list_read, list_spelled}
 
 text_by : (text : List ℕ) (r : Result AccessList Refusal) → acl_at text ≡ r → is_ok r ≡ true → text ≡ acl_text (list_read r)
@@ -21,11 +21,11 @@ text_is_list text good = text_by text (acl_at text) refl good
 
 -- the list that gives everyone all rights
 pub everyone_is_listed : (text : List ℕ) → text ≡ codes "1\n0\nsystem:anyuser\t127\n" → list_spelled text ≡ new_root.acl
-unfolding list_spelled acl_at count_at line_number_at entry_at name_at named_at
+unfolding list_spelled acl_at count_at line_number_at acl_entry_at name_at named_at
 everyone_is_listed text is = rw is refl
 
 pub everyone_is_read : (text : List ℕ) → text ≡ codes "1\n0\nsystem:anyuser\t127\n" → is_ok (acl_at text) ≡ true
-unfolding acl_at count_at line_number_at entry_at name_at named_at
+unfolding acl_at count_at line_number_at acl_entry_at name_at named_at
 everyone_is_read text is = rw is refl
 
 -- a directory without names

@@ -1,8 +1,8 @@
 -- Each vnode of a volume has its time.
 use Rattle.std.proofs.Common.{◌≡◌, ℕ, Bool, true, false, cond, [], ◌∷◌, Option, Some, nat_eq, ap}
 use Rattle.afs_num.specs.declared.vnodes.Vnode as image
-use Rattle.afs_ideal.specs.Tables.{Table, get}
-use Rattle.afs_records.specs.Durable.{or_zero}
+use Rattle.spec_ideal.specs.Tables.{Table, get}
+use Rattle.spec_records.specs.Durable.{or_zero}
 use Rattle.afs_volume.specs.Taking.{times_in}
 
 time_by : (b : Bool) (p : ℕ × image.Vnode) (x : image.Vnode) (o : Option image.Vnode) (time : Option ℕ) → (o ≡ Some x → or_zero time ≡ x.server_time) → cond b (Some p.1) o ≡ Some x → or_zero (cond b (Some p.1.server_time) time) ≡ x.server_time

@@ -1,9 +1,9 @@
 -- The way up from a directory.
 use Rattle.std.proofs.Common.{◌≡◌, ◌<◌, ℕ, zero, suc, [], ◌∷◌, Option, Some, None, Bool, true, false, length, refl, ap, sym, ◌∙◌, arith, nat_eq}
 use Rattle.afs_num.specs.declared.vnodes.Vnode as image
-use Rattle.afs_ideal.specs.Operations.{leads_up}
-use Rattle.afs_ideal.specs.Tables.{Table, get}
-use Rattle.afs_ideal.specs.Volumes.{Vnode, Volume}
+use Rattle.spec_ideal.specs.Operations.{leads_up}
+use Rattle.spec_ideal.specs.Tables.{Table, get}
+use Rattle.spec_ideal.specs.Volumes.{Vnode, Volume}
 use Rattle.afs_volume.specs.Seen.{all_seen}
 
 pub same_length : (t : Table image.Vnode) → length (all_seen t) ≡ length t

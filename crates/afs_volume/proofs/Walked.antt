@@ -5,10 +5,10 @@ use Rattle.std.specs.List.{list_all}
 use Rattle.afs_num.specs.declared.vnodes.Vnode as image
 use Rattle.std.proofs.lemmas.Bool.{le-ltb}
 use Rattle.std.proofs.lemmas.Bool.Decides.{nat_tests}
-use Rattle.afs_ideal.specs.Tables.{Table, get, AscendsFrom}
-use Rattle.afs_ideal.specs.Volumes as ideal
-use Rattle.afs_ideal.proofs.Tables.{get_below}
-use Rattle.afs_records.specs.Sound.{ascends_from}
+use Rattle.spec_ideal.specs.Tables.{Table, get, AscendsFrom}
+use Rattle.spec_ideal.specs.Volumes as ideal
+use Rattle.spec_ideal.proofs.Tables.{get_below}
+use Rattle.spec_records.specs.Sound.{ascends_from}
 use Rattle.afs_volume.specs.Assembling.{passes_at}
 use Rattle.afs_volume.specs.Seen.{seen, all_seen}
 

@@ -3,10 +3,10 @@ use Rattle.std.specs.Prelude.{ℕ, Bool, true, ◌&&◌, is_some, Option, Some, 
 use Rattle.std.specs.List.{list_all}
 use Rattle.afs_num.specs.declared.vnodes.Vnode as image
 use Rattle.afs_num.specs.declared.volumes.VolumeHead.{VolumeHead}
-use Rattle.afs_ideal.specs.Images.{value_of, values_of}
-use Rattle.afs_ideal.specs.Tables.{Table}
-use Rattle.afs_ideal.specs.Volumes.{blocks_of}
-use Rattle.afs_records.specs.Sound.{is_sound, is_sound_vnode}
+use Rattle.spec_ideal.specs.Images.{value_of, values_of}
+use Rattle.spec_ideal.specs.Tables.{Table}
+use Rattle.spec_ideal.specs.Volumes.{blocks_of}
+use Rattle.spec_records.specs.Sound.{is_sound, is_sound_vnode}
 use Rattle.afs_volume.specs.Seen.{seen, volume_seen, IsReadable}
 
 -- what stands in a place passes, where something does

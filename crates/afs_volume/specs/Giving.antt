@@ -1,5 +1,5 @@
 -- What a volume gives: its value, as the definitions see it.
-use Rattle.afs_ideal.specs.Volumes as ideal
+use Rattle.spec_ideal.specs.Volumes as ideal
 use Rattle.afs_volume.specs.Seen.{volume_seen}
 use Rattle.afs_volume.specs.declared.volume.Volume.{Volume}
 

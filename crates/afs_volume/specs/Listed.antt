@@ -2,12 +2,12 @@
 use Rattle.std.specs.Prelude.{◌≡◌, ℕ, List, [], Option, Some, None}
 use Rattle.afs_num.specs.declared.directories.Name.{Name}
 use Rattle.afs_num.specs.declared.vnodes.Vnode as image
-use Rattle.afs_ideal.specs.Tables.{Table, get}
-use Rattle.afs_ideal.specs.Volumes.{Kind, a_directory, Vnode}
+use Rattle.spec_ideal.specs.Tables.{Table, get}
+use Rattle.spec_ideal.specs.Volumes.{VnodeKind, a_directory, Vnode}
 use Rattle.afs_volume.specs.Seen.{seen}
 
 -- a directory alone is listed
-abbrev pub listed_by : Kind → List Name → Option (List Name)
+abbrev pub listed_by : VnodeKind → List Name → Option (List Name)
 listed_by a_directory names = Some names
 listed_by kind names = None
 

@@ -2,8 +2,8 @@
 use Rattle.std.specs.Prelude.{◌≡◌, ℕ, Bool, ◌&&◌, List, Option, Some, None, nat_eq, if◌then◌else◌}
 use Rattle.afs_num.specs.declared.directories.Name.{Name}
 use Rattle.afs_num.specs.declared.vnodes.Vnode as image
-use Rattle.afs_ideal.specs.Soundness.{names_of}
-use Rattle.afs_ideal.specs.Tables.{Table, get}
+use Rattle.spec_ideal.specs.Soundness.{names_of}
+use Rattle.spec_ideal.specs.Tables.{Table, get}
 use Rattle.afs_volume.specs.Listed.{names_in}
 use Rattle.afs_volume.specs.declared.naming.Naming.{Naming}
 

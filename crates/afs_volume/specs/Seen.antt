@@ -5,16 +5,16 @@ use Rattle.afs_num.specs.declared.acls.AccessList.{AccessList}
 use Rattle.afs_num.specs.declared.directories.Name.{Name}
 use Rattle.afs_num.specs.declared.vnodes.Vnode as image
 use Rattle.afs_num.specs.declared.volumes.VolumeHead.{VolumeHead}
-use Rattle.afs_ideal.specs.AccessLists.{acl_at, no_acl}
-use Rattle.afs_ideal.specs.Directories.{directory_of, directory_bytes}
-use Rattle.afs_ideal.specs.Tables.{Table, get}
-use Rattle.afs_ideal.specs.Volumes.{Kind, a_file, a_directory, a_link, type_of, Vnode, Volume}
-use Rattle.afs_records.specs.Records.{most_name}
-use Rattle.afs_shape.specs.Tables.{IsVolumeKind}
+use Rattle.spec_ideal.specs.AccessLists.{acl_at, no_acl}
+use Rattle.spec_ideal.specs.Directories.{directory_of, directory_bytes}
+use Rattle.spec_ideal.specs.Tables.{Table, get}
+use Rattle.spec_ideal.specs.Volumes.{VnodeKind, a_file, a_directory, a_link, type_of, Vnode, Volume}
+use Rattle.spec_records.specs.Records.{most_name}
+use Rattle.spec_shape.specs.Tables.{IsVolumeKind}
 
 -- ---- vnodes
 
-abbrev pub kind_seen : ℕ → Kind
+abbrev pub kind_seen : ℕ → VnodeKind
 kind_seen k = if nat_eq k 2 then a_directory else (if nat_eq k 3 then a_link else a_file)
 
 -- what is read, or nothing
@@ -34,15 +34,15 @@ names_spelled bytes = names_read (directory_of bytes)
 unfoldable pub list_spelled : List ℕ → AccessList
 list_spelled text = list_read (acl_at text)
 
-abbrev pub contents_seen : Kind → List ℕ → List ℕ
+abbrev pub contents_seen : VnodeKind → List ℕ → List ℕ
 contents_seen a_directory bytes = []
 contents_seen kind bytes = bytes
 
-abbrev pub names_seen : Kind → List ℕ → List Name
+abbrev pub names_seen : VnodeKind → List ℕ → List Name
 names_seen a_directory bytes = names_spelled bytes
 names_seen kind bytes = []
 
-abbrev pub list_seen : Kind → List ℕ → AccessList
+abbrev pub list_seen : VnodeKind → List ℕ → AccessList
 list_seen a_directory text = list_spelled text
 list_seen kind text = no_acl
 
@@ -94,7 +94,7 @@ pub record FitsHead (head : VolumeHead) : Type 0 where
 -- ---- what every vnode of a volume keeps
 
 -- a directory alone has the text of an access list
-abbrev pub text_by : Kind → List ℕ → List ℕ
+abbrev pub text_by : VnodeKind → List ℕ → List ℕ
 text_by a_directory text = text
 text_by kind text = []
 

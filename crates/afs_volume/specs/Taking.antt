@@ -5,10 +5,10 @@ use Rattle.indexmap.specs.IndexMap.{spare}
 use Rattle.afs_num.specs.declared.vnodes.Vnode as image
 use Rattle.afs_num.specs.declared.volumes.VolumeHead.{VolumeHead}
 use Rattle.afs_num.specs.declared.volumes.Change.{Change}
-use Rattle.afs_ideal.specs.Tables.{Table, set, unset}
-use Rattle.afs_ideal.specs.VnodeImage.{FitsImage}
-use Rattle.afs_records.specs.Changes.{at_set_up}
-use Rattle.afs_records.specs.Durable.{Stored, changed_stored}
+use Rattle.spec_ideal.specs.Tables.{Table, set, unset}
+use Rattle.spec_ideal.specs.VnodeImage.{FitsImage}
+use Rattle.spec_records.specs.Changes.{at_set_up}
+use Rattle.spec_records.specs.Durable.{Stored, changed_stored}
 use Rattle.afs_volume.specs.Seen.{volume_seen, IsReadable}
 use Rattle.afs_volume.specs.declared.volume.Volume.{Volume}
 

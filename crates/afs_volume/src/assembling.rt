@@ -2,8 +2,8 @@
 
 ghost use Rattle.std.specs.Prelude.{◌≡◌, ◌≤◌, true, false, nat_eq, slice_get, Err, IfOk, OnOk};
 ghost use Rattle.indexmap.specs.IndexMap as maps;
-ghost use Rattle.afs_ideal.specs.Volumes.{blocks_in};
-ghost use Rattle.afs_records.specs.Sound.{is_sound};
+ghost use Rattle.spec_ideal.specs.Volumes.{blocks_in};
+ghost use Rattle.spec_records.specs.Sound.{is_sound};
 ghost use Rattle.afs_volume.specs.Assembling.{blocks_in_place, make_volume, IsReadablePlace};
 ghost use Rattle.afs_volume.specs.Listed.{Lists};
 ghost use Rattle.afs_volume.specs.Seen.{all_seen, volume_seen, AreReadable, FitsHead};

@@ -1,11 +1,11 @@
 //! The bytes of vnodes: what they spell, and how many blocks they take.
 
 ghost use Rattle.std.specs.Prelude.{◌≡◌, ◌<◌, ◌+◌, ◌/◌, ◌^◌, length, ◌≤◌, IfOk};
-ghost use Rattle.afs_ideal.specs.Volumes.{blocks_of, bytes_by};
+ghost use Rattle.spec_ideal.specs.Volumes.{blocks_of, bytes_by};
 ghost use Rattle.afs_volume.specs.Seen.{seen, IsReadable, names_spelled};
-ghost use Rattle.afs_ideal.specs.Directories.{directory_bytes};
-ghost use Rattle.afs_ideal.specs.VnodeImage.{most_contents};
-ghost use Rattle.afs_ideal.specs.Operations.{is_acl};
+ghost use Rattle.spec_ideal.specs.Directories.{directory_bytes};
+ghost use Rattle.spec_ideal.specs.VnodeImage.{most_contents};
+ghost use Rattle.spec_ideal.specs.Operations.{is_acl};
 
 use afs_acl::acl::Acl;
 use afs_acl::faults::AclFault;

@@ -3,7 +3,7 @@
 ghost use Rattle.std.specs.Prelude.{◌≡◌, ◌≤◌, ◌<◌, ◌+◌, ℕ, Some, None, Err, true, false, nat_eq, slice_get, take, IfOk, IsOk, OnOk, if◌then◌else◌};
 ghost use Rattle.std.specs.Option.{option_copied};
 ghost use Rattle.indexmap.specs.IndexMap as maps;
-ghost use Rattle.afs_ideal.specs.Tables.{AscendsFrom};
+ghost use Rattle.spec_ideal.specs.Tables.{AscendsFrom};
 ghost use Rattle.afs_volume.specs.Assembling.{are_read, passes_at, reads_pair, IsReadablePlace};
 ghost use Rattle.afs_volume.specs.Given.{names_or_none};
 ghost use Rattle.afs_volume.specs.Listed.{listed_as, Lists};

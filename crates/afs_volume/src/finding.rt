@@ -2,11 +2,11 @@
 
 ghost use Rattle.std.specs.Prelude.{◌≡◌, length, true, ◌≤◌, Some, IfOk, IfSome, Ok};
 ghost use Rattle.std.specs.Option.{option_copied, option_map};
-ghost use Rattle.afs_ideal.specs.Directories.{directory_of};
-ghost use Rattle.afs_ideal.specs.Operations.{is_kind};
-ghost use Rattle.afs_ideal.specs.Tables.{get};
-ghost use Rattle.afs_ideal.specs.VnodeImage.{FitsImage};
-ghost use Rattle.afs_ideal.specs.Volumes.{a_directory};
+ghost use Rattle.spec_ideal.specs.Directories.{directory_of};
+ghost use Rattle.spec_ideal.specs.Operations.{is_kind};
+ghost use Rattle.spec_ideal.specs.Tables.{get};
+ghost use Rattle.spec_ideal.specs.VnodeImage.{FitsImage};
+ghost use Rattle.spec_ideal.specs.Volumes.{a_directory};
 ghost use Rattle.afs_volume.specs.Giving.{volume_of};
 ghost use Rattle.afs_volume.specs.Listed.{names_in};
 ghost use Rattle.afs_volume.specs.Seen.{seen, names_spelled, kind_seen, IsReadable};

@@ -2,7 +2,7 @@
 
 ghost use Rattle.std.specs.Prelude.{◌≡◌, ◌+◌, ◌<◌, ◌^◌, Some, nat_eq, take, if◌then◌else◌, IfOk, OnOk};
 ghost use Rattle.indexmap.specs.IndexMap as maps;
-ghost use Rattle.afs_ideal.specs.Tables.{AscendsFrom};
+ghost use Rattle.spec_ideal.specs.Tables.{AscendsFrom};
 ghost use Rattle.afs_volume.specs.Listed.{Lists};
 ghost use Rattle.afs_volume.specs.Naming.{names_for, same_naming, times, CountsNames};
 ghost use Rattle.afs_volume.specs.Seen.{all_seen};

@@ -1,11 +1,11 @@
 //! A new volume.
 
 ghost use Rattle.std.specs.Prelude.{◌≡◌, ◌≤◌, ◌∷◌, [], true, is_ok, length, IfOk};
-ghost use Rattle.afs_ideal.specs.AccessLists.{acl_at};
-ghost use Rattle.afs_ideal.specs.SetUp.{new_root, new_volume};
-ghost use Rattle.afs_ideal.specs.VnodeImage.{FitsImage};
-ghost use Rattle.afs_records.specs.Records.{most_name};
-ghost use Rattle.afs_shape.specs.Tables.{IsVolumeKind};
+ghost use Rattle.spec_ideal.specs.AccessLists.{acl_at};
+ghost use Rattle.spec_ideal.specs.SetUp.{new_root, new_volume};
+ghost use Rattle.spec_ideal.specs.VnodeImage.{FitsImage};
+ghost use Rattle.spec_records.specs.Records.{most_name};
+ghost use Rattle.spec_shape.specs.Tables.{IsVolumeKind};
 ghost use Rattle.afs_volume.specs.Giving.{volume_of};
 ghost use Rattle.afs_volume.specs.Seen.{all_seen, list_spelled, seen, AreReadable, IsReadable};
 ghost use Rattle.afs_volume.specs.Taking.{times_in, IsAtSetUp};

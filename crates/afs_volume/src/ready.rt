@@ -3,7 +3,7 @@
 ghost use Rattle.std.specs.Prelude.{◌≡◌, false, true, is_ok, map, Err, Some, IfErr, IfOk, OnOk};
 ghost use Rattle.std.specs.List.{list_all, AllByRecursion};
 ghost use Rattle.std.specs.Option.{option_copied};
-ghost use Rattle.afs_ideal.specs.Directories.{directory_bytes, directory_of};
+ghost use Rattle.spec_ideal.specs.Directories.{directory_bytes, directory_of};
 ghost use Rattle.afs_volume.specs.Assembling.{can_be_read};
 ghost use Rattle.afs_volume.specs.Given.{names_given, names_or_none};
 ghost use Rattle.afs_volume.specs.Listed.{listed_as};

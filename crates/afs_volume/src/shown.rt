@@ -1,8 +1,8 @@
 //! What a volume shows, its flags and its release number.
 
 ghost use Rattle.std.specs.Prelude.{◌≡◌, ◌<◌, ◌+◌};
-ghost use Rattle.afs_ideal.specs.Operations.{last_count};
-ghost use Rattle.afs_ideal.specs.Volumes.{blocks_in};
+ghost use Rattle.spec_ideal.specs.Operations.{last_count};
+ghost use Rattle.spec_ideal.specs.Volumes.{blocks_in};
 ghost use Rattle.afs_volume.specs.Giving.{volume_of};
 ghost use Rattle.afs_volume.specs.Seen.{FitsHead};
 

@@ -4,10 +4,10 @@ ghost use Rattle.std.specs.Prelude.{◌≡◌, nat_eq, slice_get, Some};
 ghost use Rattle.std.specs.List.{list_all};
 ghost use Rattle.std.specs.Option.{option_copied, option_map};
 ghost use Rattle.indexmap.specs.IndexMap as maps;
-ghost use Rattle.afs_ideal.specs.Operations.{is_below};
-ghost use Rattle.afs_ideal.specs.Soundness.{names_of};
-ghost use Rattle.afs_ideal.specs.Tables.{get, AscendsFrom};
-ghost use Rattle.afs_records.specs.Sound.{ascends_from, gives_one, is_named_in, is_placed, is_sound, is_sound_vnode};
+ghost use Rattle.spec_ideal.specs.Operations.{is_below};
+ghost use Rattle.spec_ideal.specs.Soundness.{names_of};
+ghost use Rattle.spec_ideal.specs.Tables.{get, AscendsFrom};
+ghost use Rattle.spec_records.specs.Sound.{ascends_from, gives_one, is_named_in, is_placed, is_sound, is_sound_vnode};
 ghost use Rattle.afs_volume.specs.Assembling.{is_sound_pair, passes_at};
 ghost use Rattle.afs_volume.specs.Listed.{names_in, Lists};
 ghost use Rattle.afs_volume.specs.Naming.{same_naming, CountsNames};
@@ -156,7 +156,7 @@ impl<'a> Parts<'a> {
     }
 
     /// They make a sound volume.
-    #[tactic(auto, unfolding(afs_records::specs::Sound::is_sound), using(crate::proofs::Walked::all_seen_pass))]
+    #[tactic(auto, unfolding(spec_records::specs::Sound::is_sound), using(crate::proofs::Walked::all_seen_pass))]
     pub fn is_sound(&self) -> bool
         ensures { result ≡ is_sound (volume_seen self.now.head.now self.now.vnodes.now.table) }
     {

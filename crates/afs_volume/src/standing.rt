@@ -2,8 +2,8 @@
 
 ghost use Rattle.std.specs.Prelude.{◌≡◌, ◌<◌, ◌^◌};
 ghost use Rattle.std.specs.Option.{option_copied, option_map};
-ghost use Rattle.afs_ideal.specs.Soundness.{names_of, subdirectories};
-ghost use Rattle.afs_records.specs.Sound.{gives_held, has_by_kind, has_names, is_held_by, is_root, kind_is_right};
+ghost use Rattle.spec_ideal.specs.Soundness.{names_of, subdirectories};
+ghost use Rattle.spec_records.specs.Sound.{gives_held, has_by_kind, has_names, is_held_by, is_root, kind_is_right};
 ghost use Rattle.afs_volume.specs.Seen.{seen};
 
 use crate::is_directory;

@@ -4,11 +4,11 @@ ghost use Rattle.std.specs.Prelude.{◌≡◌, ◌≤◌, ◌<◌, ◌+◌, ◌�
 ghost use Rattle.std.specs.List.{AllByRecursion};
 ghost use Rattle.std.specs.Vec.Iter.{into_iter_items};
 ghost use Rattle.indexmap.specs.IndexMap as maps;
-ghost use Rattle.afs_ideal.specs.Tables.{get, set, unset};
-ghost use Rattle.afs_ideal.specs.VnodeImage.{FitsImage};
-ghost use Rattle.afs_ideal.specs.VnodeMaps.{most_vnodes, is_full_for};
-ghost use Rattle.afs_ideal.specs.Volumes.{blocks_in};
-ghost use Rattle.afs_records.specs.Durable.{changed_stored};
+ghost use Rattle.spec_ideal.specs.Tables.{get, set, unset};
+ghost use Rattle.spec_ideal.specs.VnodeImage.{FitsImage};
+ghost use Rattle.spec_ideal.specs.VnodeMaps.{most_vnodes, is_full_for};
+ghost use Rattle.spec_ideal.specs.Volumes.{blocks_in};
+ghost use Rattle.spec_records.specs.Durable.{changed_stored};
 ghost use Rattle.afs_vnode.specs.Stores.{AreVnodes};
 ghost use Rattle.afs_volume.specs.Counting.{blocks_at};
 ghost use Rattle.afs_volume.specs.Listed.{listed_as, Lists};

@@ -1,7 +1,7 @@
 //! The versions of vnodes.
 
 ghost use Rattle.std.specs.Prelude.{◌≡◌, IfOk};
-ghost use Rattle.afs_ideal.specs.Volumes.{body_of, fid_of, version_at};
+ghost use Rattle.spec_ideal.specs.Volumes.{body_of, fid_of, version_at};
 ghost use Rattle.afs_volume.specs.Listed.{listed_as};
 ghost use Rattle.afs_volume.specs.Seen.{seen};
 

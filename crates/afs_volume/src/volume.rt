@@ -1,7 +1,7 @@
 ghost use Rattle.std.specs.Prelude.{◌≡◌, nat_eq, true};
 ghost use Rattle.indexmap.specs.IndexMap as maps;
-ghost use Rattle.afs_ideal.specs.Volumes.{blocks_in};
-ghost use Rattle.afs_records.specs.Sound.{is_sound};
+ghost use Rattle.spec_ideal.specs.Volumes.{blocks_in};
+ghost use Rattle.spec_records.specs.Sound.{is_sound};
 ghost use Rattle.afs_volume.specs.Listed.{Lists};
 ghost use Rattle.afs_volume.specs.Seen.{all_seen, volume_seen, AreReadable, FitsHead};
 

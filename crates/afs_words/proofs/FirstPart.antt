@@ -3,7 +3,7 @@ use Rattle.std.proofs.Common.{◌≡◌, ℕ, ◌<◌, ◌≤◌, ◌+◌, List,
 use Rattle.std.specs.List.{position_or_len}
 use Rattle.std.proofs.lemmas.List.Splits.{slice_split_first, slice_split_none, length-slice_split}
 use Rattle.std.proofs.lemmas.List.Sums.{fails_before_first}
-use Rattle.afs_model.specs.ScriptWords.{parts}
+use Rattle.spec_model.specs.ScriptWords.{parts}
 
 abbrev place : ℕ → List ℕ → ℕ
 place cut bytes = position_or_len (λ b. nat_eq b cut) bytes

@@ -8,19 +8,19 @@ use Rattle.afs_num.specs.declared.types.Node.{Node}
 use Rattle.afs_num.specs.declared.types.Node.TheVariants as nodes
 use Rattle.afs_num.specs.declared.scripts.Reason.{Reason}
 use Rattle.afs_num.specs.declared.scripts.Reason.TheVariants as reasons
-use Rattle.afs_model.specs.ScriptWords.{◌>>=◌, must, parts, word_at, ranged, node_number, is_hex, hex_value, hex_from, fid_of}
-use Rattle.afs_history.specs.declared.acts.Path.{Path}
-use Rattle.afs_history.specs.declared.acts.Operand.{Operand}
-use Rattle.afs_history.specs.declared.acts.Operand.TheVariants as operands
-use Rattle.afs_history.specs.declared.acts.Written.{Written}
-use Rattle.afs_history.specs.declared.acts.Written.TheVariants as written
+use Rattle.spec_model.specs.ScriptWords.{◌>>=◌, must, parts, word_at, ranged, node_number_read, is_hex, hex_value, hex_from, fid_of}
+use Rattle.spec_history.specs.declared.acts.Path.{Path}
+use Rattle.spec_history.specs.declared.acts.Operand.{Operand}
+use Rattle.spec_history.specs.declared.acts.Operand.TheVariants as operands
+use Rattle.spec_history.specs.declared.acts.Written.{Written}
+use Rattle.spec_history.specs.declared.acts.Written.TheVariants as written
 use Rattle.afs_words.specs.declared.nodes.Counts.{Counts}
 use Rattle.afs_words.specs.declared.nodes.Kinds.{Kinds}
 
 -- ---- nodes: `loc`, or the letter of a kind and a number up to the count of that kind
 
 abbrev pub numbered : (ℕ → Node) → Bool → ℕ → ℕ → List ℕ → Option Node
-numbered node true letter count word = option_map node (node_number letter count word)
+numbered node true letter count word = option_map node (node_number_read letter count word)
 numbered node false letter count word = None
 
 abbrev pub or_else : Option Node → Option Node → Option Node
@@ -46,7 +46,7 @@ node_at kinds counts words = do
 unfoldable pub node_number_at : ℕ → ℕ → List (List ℕ) → Result (ℕ × List (List ℕ)) Reason
 node_number_at letter count words = do
   word ← word_at words
-  n ← ok_or (node_number letter count word.0) reasons.Node
+  n ← ok_or (node_number_read letter count word.0) reasons.Node
   Ok (n, word.1)
 
 abbrev pub server_at : Counts → List (List ℕ) → Result (ℕ × List (List ℕ)) Reason
@@ -232,12 +232,12 @@ abbrev pub octal_from : ℕ → List ℕ → Option ℕ
 octal_from n [] = Some n
 octal_from n (d ∷ ds) = if is_in 48 55 d && nat_le (n * 8 + (d - 48)) 4095 then octal_from (n * 8 + (d - 48)) ds else None
 
-unfoldable pub octal : List ℕ → Option ℕ
-octal [] = None
-octal (d ∷ ds) = if nat_eq d 48 then (if nat_eq (length ds) 0 then Some 0 else None) else octal_from 0 (d ∷ ds)
+unfoldable pub octal_in : List ℕ → Option ℕ
+octal_in [] = None
+octal_in (d ∷ ds) = if nat_eq d 48 then (if nat_eq (length ds) 0 then Some 0 else None) else octal_from 0 (d ∷ ds)
 
 unfoldable pub mode_at : List (List ℕ) → Result (ℕ × List (List ℕ)) Reason
 mode_at words = do
   word ← word_at words
-  mode ← ok_or (octal word.0) reasons.Number
+  mode ← ok_or (octal_in word.0) reasons.Number
   Ok (mode, word.1)

@@ -2,15 +2,15 @@
 
 ghost use Rattle.std.specs.Prelude.{◌≡◌, ◌≤◌, length, IfSome};
 ghost use Rattle.std.specs.List.{list_all};
-ghost use Rattle.afs_history.specs.Written.{bytes_in};
-ghost use Rattle.afs_words.specs.Words.{is_digit, numeral_goes_on, octal_digit, is_numeral, byte_of, hex_in, fill_of, fill_in, written_of, written_at, octal_from, octal, mode_at};
+ghost use Rattle.spec_history.specs.Written.{bytes_in};
+ghost use Rattle.afs_words.specs.Words.{is_digit, numeral_goes_on, octal_digit, is_numeral, byte_of, hex_in, fill_of, fill_in, written_of, written_at, octal_from, octal_in, mode_at};
 ghost use Rattle.afs_words.specs.Reads.{Reads, ReadsInMemory, Gives};
 
 use crate::faults::LineFault;
 use crate::parts::Parts;
 use crate::words::{hex_byte, must, ranged, unhexed, word};
-use afs_history::acts::Written;
 use afs_num::scripts::Reason;
+use spec_history::acts::Written;
 use std::alloc::Global;
 
 /// The most bytes of a file.
@@ -151,9 +151,9 @@ fn octal_from(digits: &[u8]) -> Option<u32>
 }
 
 /// A number of base 8.
-#[tactic(auto, unfolding(crate::specs::Words::octal))]
+#[tactic(auto, unfolding(crate::specs::Words::octal_in))]
 fn octal(word: &[u8]) -> Option<u32>
-    ensures { result ≡ octal word.now }
+    ensures { result ≡ octal_in word.now }
 {
     match word {
         [] => None,

@@ -9,10 +9,10 @@ ghost use Rattle.afs_words.specs.Reads.{Reads, ReadsInMemory, Gives};
 use crate::faults::LineFault;
 use crate::parts::Parts;
 use crate::words::{fid_of, must, next_pair, word};
-use afs_history::acts::{Operand, Path};
 use afs_num::names::{is_plain, volume_name_ok};
 use afs_num::scripts::Reason;
 use afs_num::sequences::{Octets, Sequence};
+use spec_history::acts::{Operand, Path};
 use std::alloc::{AllocError, Global};
 
 /// The most bytes of a path, its slashes among them.

@@ -2,7 +2,7 @@
 
 ghost use Rattle.std.specs.Prelude.{◌≡◌, ◌≤◌, None, IfSome, IfOk, if◌then◌else◌};
 ghost use Rattle.afs_num.specs.declared.types.Node.TheVariants.{Server, Client, Admin};
-ghost use Rattle.afs_model.specs.ScriptWords.{node_number};
+ghost use Rattle.spec_model.specs.ScriptWords.{node_number_read};
 ghost use Rattle.afs_words.specs.Words.{callees, loc_of, numbered, or_else, node_of, node_at, node_number_at};
 ghost use Rattle.afs_words.specs.Reads.{Reads};
 
@@ -75,7 +75,7 @@ fn loc_of(allowed: bool, word: &[u8]) -> Option<Node>
 
 /// The number behind the letter of a kind, if that kind may stand here.
 fn numbered(allowed: bool, letter: u8, count: u8, word: &[u8]) -> Option<u8>
-    ensures value { result ≡ (if allowed then node_number letter count word.now else None) }
+    ensures value { result ≡ (if allowed then node_number_read letter count word.now else None) }
     ensures bound { IfSome result (λ n. n ≤ count) }
 {
     if !allowed {

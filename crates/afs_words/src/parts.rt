@@ -3,7 +3,7 @@
 ghost use Rattle.std.specs.Prelude.{◌≡◌, [], ◌∷◌, ◌<◌, ◌≤◌, length, nat_eq, IfSome, IfNone};
 ghost use Rattle.std.specs.List.{position_or_len};
 ghost use Rattle.std.specs.Option.{option_copied};
-ghost use Rattle.afs_model.specs.ScriptWords.{parts};
+ghost use Rattle.spec_model.specs.ScriptWords.{parts};
 ghost use Rattle.afs_words.specs.Reads.{Cuts, CutsClosed};
 ghost use Rattle.afs_words.specs.Parts.{parts_left};
 

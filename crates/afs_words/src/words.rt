@@ -2,7 +2,7 @@
 
 ghost use Rattle.std.specs.Prelude.{◌≡◌, ◌≤◌, ◌<◌, ◌+◌, ◌-◌, ◌*◌, ◌&&◌, Some, None, length, nat_le, IfSome, IfNone, IfOk, true, [], ◌∷◌, if◌then◌else◌};
 ghost use Rattle.afs_num.specs.Names.{is_in};
-ghost use Rattle.afs_model.specs.ScriptWords.{must, word_at, ended, number_from, numeral, ranged, number_at, node_number, is_hex, hex_value, hex_from, field_at, fid_of};
+ghost use Rattle.spec_model.specs.ScriptWords.{must, word_at, no_word_left, number_from, numeral, ranged, number_at, node_number_read, is_hex, hex_value, hex_from, field_at, fid_of};
 ghost use Rattle.afs_words.specs.Reads.{Reads};
 
 use crate::parts::Parts;
@@ -19,7 +19,7 @@ pub fn must(good: bool, reason: Reason) -> Result<(), Reason>
 }
 
 /// The next word.
-#[tactic(auto, unfolding(afs_model::specs::ScriptWords::word_at))]
+#[tactic(auto, unfolding(spec_model::specs::ScriptWords::word_at))]
 pub fn word<'a>(words: &mut Parts<'a>) -> Result<&'a [u8], Reason>
     ensures { Reads word_at (λ w. w.now) words.old words.new result }
 {
@@ -30,9 +30,9 @@ pub fn word<'a>(words: &mut Parts<'a>) -> Result<&'a [u8], Reason>
 }
 
 /// Whether no word is left over.
-#[tactic(auto, unfolding(afs_model::specs::ScriptWords::ended))]
+#[tactic(auto, unfolding(spec_model::specs::ScriptWords::no_word_left))]
 pub fn end(words: &mut Parts<'_>) -> Result<(), Reason>
-    ensures { result ≡ ended words.old }
+    ensures { result ≡ no_word_left words.old }
 {
     match words.part() {
         None => Ok(()),
@@ -65,7 +65,7 @@ fn number_from(high: u64, digits: &[u8]) -> Option<u64>
     Some(number)
 }
 
-#[tactic(auto, unfolding(afs_model::specs::ScriptWords::numeral))]
+#[tactic(auto, unfolding(spec_model::specs::ScriptWords::numeral))]
 fn numeral(high: u64, word: &[u8]) -> Option<u64>
     ensures value { result ≡ numeral high word.now }
     ensures bound { IfSome result (λ n. n ≤ high) }
@@ -79,7 +79,7 @@ fn numeral(high: u64, word: &[u8]) -> Option<u64>
 }
 
 /// A number from `low` to `high`, in decimal without leading zeros.
-#[tactic(auto, unfolding(afs_model::specs::ScriptWords::ranged))]
+#[tactic(auto, unfolding(spec_model::specs::ScriptWords::ranged))]
 pub fn ranged(low: u64, high: u64, word: &[u8]) -> Option<u64>
     ensures value { result ≡ ranged low high word.now }
     ensures bound { IfSome result (λ n. n ≤ high) }
@@ -88,7 +88,7 @@ pub fn ranged(low: u64, high: u64, word: &[u8]) -> Option<u64>
     if low <= number { Some(number) } else { None }
 }
 
-#[tactic(auto, unfolding(afs_model::specs::ScriptWords::number_at))]
+#[tactic(auto, unfolding(spec_model::specs::ScriptWords::number_at))]
 pub fn number(words: &mut Parts<'_>, low: u64, high: u64) -> Result<u64, Reason>
     ensures value { Reads (number_at low high) (λ n. n) words.old words.new result }
     ensures bound { IfOk result (λ n. n ≤ high) }
@@ -98,9 +98,9 @@ pub fn number(words: &mut Parts<'_>, low: u64, high: u64) -> Result<u64, Reason>
 }
 
 /// The number of a node of the kind with this letter, of which there are `count`.
-#[tactic(auto, unfolding(afs_model::specs::ScriptWords::node_number))]
+#[tactic(auto, unfolding(spec_model::specs::ScriptWords::node_number_read))]
 pub fn node_number(letter: u8, count: u8, word: &[u8]) -> Option<u64>
-    ensures value { result ≡ node_number letter count word.now }
+    ensures value { result ≡ node_number_read letter count word.now }
     ensures bound { IfSome result (λ n. n ≤ count) }
 {
     match word {
@@ -170,7 +170,7 @@ pub fn unhexed(alloc: Global, digits: &[u8]) -> Result<Option<Octets>, AllocErro
     }
 }
 
-#[tactic(auto, unfolding(afs_model::specs::ScriptWords::field_at))]
+#[tactic(auto, unfolding(spec_model::specs::ScriptWords::field_at))]
 fn field(fields: &mut Parts<'_>) -> Result<u32, Reason>
     ensures { Reads field_at (λ n. n) fields.old fields.new result }
 {
@@ -180,7 +180,7 @@ fn field(fields: &mut Parts<'_>) -> Result<u32, Reason>
 }
 
 /// A fid's three numbers.
-#[tactic(auto, unfolding(afs_model::specs::ScriptWords::fid_of))]
+#[tactic(auto, unfolding(spec_model::specs::ScriptWords::fid_of))]
 pub fn fid_of(mut fields: Parts<'_>) -> Result<Fid, Reason>
     ensures { result ≡ fid_of fields.entry }
 {

@@ -1,5 +1,5 @@
 -- XDR: the spelling of words and opaques (RFC 4506, sections 4.2 and 4.10), and its reading.
-use Rattle.std.specs.Prelude.{ℕ, ◌+◌, ◌-◌, ◌%◌, ◌==◌, ◌<◌, ◌^◌, List, ◌++◌, length, take, drop, Bool, Result, Ok, Err, nat_lt, replicate, if◌then◌else◌}
+use Rattle.std.specs.Prelude.{ℕ, ◌+◌, ◌-◌, ◌%◌, ◌==◌, ◌<◌, ◌^◌, List, ◌++◌, length, take, drop, Bool, Result, Ok, Err, nat_lt, replicate, if◌then◌else◌, slice_index}
 use Rattle.std.specs.List.{flat_map, list_all, AllByRecursion}
 use Rattle.std.specs.Int.{w32, to_be_bytes, from_be_bytes}
 use Rattle.afs_xdr.specs.declared.faults.XdrFault.{XdrFault}
@@ -54,3 +54,7 @@ opaque_at most bytes = do
 -- nothing is left
 abbrev pub end_at : List ℕ → Result (Unit {0}) XdrFault
 end_at bytes = if length bytes == 0 then Ok tt else Err Extra
+
+-- numbers that are bytes
+abbrev pub IsBytes : List ℕ → Type 0
+IsBytes bytes = (i : ℕ) → slice_index bytes i < 256

@@ -1,5 +1,5 @@
 use Rattle.std.proofs.Common.{◌≡◌, drop}
-use Rattle.afs_ideal.specs.AccessLists.{matching_rights}
+use Rattle.spec_ideal.specs.AccessLists.{matching_rights}
 use Rattle.afs_acl.proofs.acl.matching_rights.Given as goal
 
 abbrev pub invariant-loop-entry : goal.invariant-loop-entry

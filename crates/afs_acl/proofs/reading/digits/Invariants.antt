@@ -1,5 +1,5 @@
 use Rattle.std.proofs.Common.{◌≡◌, length}
-use Rattle.afs_ideal.specs.AccessLists.{digits_at}
+use Rattle.spec_ideal.specs.AccessLists.{digits_at}
 use Rattle.afs_acl.proofs.reading.digits.Given as goal
 
 abbrev pub invariant-loop-byte : goal.invariant-loop-byte

@@ -1,5 +1,5 @@
 use Rattle.std.proofs.Common.{◌≡◌, ◌≤◌, ◌-◌, []}
-use Rattle.afs_ideal.specs.AccessLists.{entries_at}
+use Rattle.spec_ideal.specs.AccessLists.{entries_at}
 use Rattle.afs_acl.proofs.reading.entries.Given as goal
 
 abbrev pub invariant-loop : goal.invariant-loop

@@ -1,5 +1,5 @@
 use Rattle.std.proofs.Common.{◌≡◌, map, take}
-use Rattle.afs_rows.specs.Going.{fid_of}
+use Rattle.spec_rows.specs.Going.{fid_of}
 use Rattle.afs_acts.proofs.acts.first_fids.Given as goal
 
 abbrev pub invariant-loop-name : goal.invariant-loop-name

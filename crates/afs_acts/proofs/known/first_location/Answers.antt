@@ -1,6 +1,6 @@
 use Rattle.std.proofs.Common.{◌≡◌, refl, ◌∙◌}
 use Rattle.std.specs.Arc.{arc_value}
-use Rattle.afs_records.specs.Entries.{entry_of_line}
+use Rattle.spec_records.specs.Entries.{entry_of_line}
 use Rattle.afs_acts.proofs.Sites.{server_is}
 use Rattle.afs_acts.proofs.known.first_location.Goals as goal
 

@@ -1,8 +1,8 @@
 use Rattle.std.proofs.Common.{◌++◌, ap, subst, sym, ◌∙◌, List}
 use Rattle.std.specs.List.{All}
 use Rattle.std.proofs.lemmas.List.Elements.{All-tail}
-use Rattle.afs_history.specs.declared.scripts.VolumeLine.{VolumeLine}
-use Rattle.afs_rows.specs.Runs.{locations_in}
+use Rattle.spec_history.specs.declared.scripts.VolumeLine.{VolumeLine}
+use Rattle.spec_rows.specs.Runs.{locations_in}
 use Rattle.afs_acts.specs.Acts.{HasServer}
 use Rattle.afs_acts.proofs.Told.{first_line, told_on}
 use Rattle.afs_acts.proofs.known.locations.Goals as goal

@@ -1,6 +1,6 @@
 use Rattle.std.proofs.Common.{◌≡◌, ◌++◌, length}
 use Rattle.std.specs.List.{All}
-use Rattle.afs_rows.specs.Runs.{locations_in}
+use Rattle.spec_rows.specs.Runs.{locations_in}
 use Rattle.afs_acts.specs.Acts.{HasServer}
 use Rattle.afs_acts.proofs.known.locations.Given as goal
 

@@ -1,5 +1,5 @@
 use Rattle.std.proofs.Common.{◌≡◌, length}
-use Rattle.afs_records.specs.Entries.{same_sites}
+use Rattle.spec_records.specs.Entries.{same_sites}
 use Rattle.afs_acts.proofs.known.same_sites.Given as goal
 
 abbrev pub invariant-loop-site : goal.invariant-loop-site

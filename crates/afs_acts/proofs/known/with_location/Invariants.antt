@@ -1,8 +1,8 @@
 use Rattle.std.proofs.Common.{◌≡◌, ◌++◌, drop, filter, not}
 use Rattle.std.specs.List.{list_any}
 use Rattle.afs_num.specs.declared.location_calls.LocEntry.{LocEntry}
-use Rattle.afs_records.specs.Entries.{same_entry}
-use Rattle.afs_rows.specs.ClientRow.{stands_for}
+use Rattle.spec_records.specs.Entries.{same_entry}
+use Rattle.spec_rows.specs.ClientRow.{stands_for}
 use Rattle.afs_acts.proofs.known.with_location.Given as goal
 
 abbrev pub invariant-loop-known : goal.invariant-loop-known

@@ -2,7 +2,7 @@ use Rattle.std.proofs.Common.{List, ℕ, ap, ◌∙◌}
 use Rattle.std.specs.Prelude.{find}
 use Rattle.std.specs.Str.{bytes_eq}
 use Rattle.afs_num.specs.declared.location_calls.LocEntry.{LocEntry}
-use Rattle.afs_rows.specs.Going.{base_of}
+use Rattle.spec_rows.specs.Going.{base_of}
 use Rattle.afs_acts.proofs.places.find_path.Goals as goal
 
 pub returns : goal.returns

@@ -1,5 +1,5 @@
 use Rattle.std.proofs.Common.{◌≡◌, length}
-use Rattle.afs_rows.specs.Going.{first_status}
+use Rattle.spec_rows.specs.Going.{first_status}
 use Rattle.afs_acts.proofs.walks.behind_status.Given as goal
 
 abbrev pub invariant-loop-shown : goal.invariant-loop-shown

@@ -1,5 +1,5 @@
 use Rattle.std.proofs.Common.{◌≡◌, length}
-use Rattle.afs_rows.specs.Going.{first_body}
+use Rattle.spec_rows.specs.Going.{first_body}
 use Rattle.afs_acts.proofs.walks.first_body.Given as goal
 
 abbrev pub invariant-loop-shown : goal.invariant-loop-shown

@@ -1,5 +1,5 @@
 use Rattle.std.proofs.Common.{◌≡◌, true, ◌++◌, ◌∷◌, [], List, ℕ, Some, IsSome, drop, refl, ap, sym, ◌∙◌, rules}
-use Rattle.afs_rows.specs.Going.{parted}
+use Rattle.spec_rows.specs.Going.{parted}
 use Rattle.afs_acts.specs.Needs.{at_of}
 use Rattle.afs_acts.specs.Walks.{At, then_on, walk_to, within}
 use Rattle.afs_acts.proofs.Coming.{parent_goes}

@@ -1,5 +1,5 @@
 use Rattle.std.proofs.Common.{◌≡◌, length}
-use Rattle.afs_rows.specs.Going.{has_rights}
+use Rattle.spec_rows.specs.Going.{has_rights}
 use Rattle.afs_acts.proofs.walks.has_rights.Given as goal
 
 abbrev pub invariant-loop-shown : goal.invariant-loop-shown

@@ -1,5 +1,5 @@
 use Rattle.std.proofs.Common.{ap, sym, ◌∙◌}
-use Rattle.afs_rows.specs.Going.{parted}
+use Rattle.spec_rows.specs.Going.{parted}
 use Rattle.afs_acts.proofs.Numbers.{last_of}
 use Rattle.afs_acts.proofs.walks.part.Goals as goal
 

@@ -1,6 +1,6 @@
 use Rattle.afs_adminparts.specs.Fitting.{FitsTurn}
-use Rattle.afs_adminrows.specs.Acts as rows
-use Rattle.afs_adminrows.specs.declared.turns.Errand.{Errand}
+use Rattle.spec_adminrows.specs.Acts as rows
+use Rattle.spec_adminrows.specs.declared.turns.Errand.{Errand}
 use Rattle.afs_adminacts.proofs.Acted.{answered_fits, given_is}
 use Rattle.afs_adminacts.proofs.acts.answered.Goals as goal
 

@@ -1,5 +1,5 @@
 use Rattle.afs_adminparts.specs.Fitting.{FitsTurn}
-use Rattle.afs_adminrows.specs.Acts as rows
+use Rattle.spec_adminrows.specs.Acts as rows
 use Rattle.afs_adminacts.proofs.Acted.{given_is, refused_fits}
 use Rattle.afs_adminacts.proofs.acts.refused.Goals as goal
 

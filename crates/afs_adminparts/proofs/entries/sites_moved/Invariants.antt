@@ -1,5 +1,5 @@
 use Rattle.std.proofs.Common.{◌≡◌, take, map}
-use Rattle.afs_adminrows.specs.Entries.{site_moved}
+use Rattle.spec_adminrows.specs.Entries.{site_moved}
 use Rattle.afs_adminparts.proofs.entries.sites_moved.Given as goal
 
 abbrev pub invariant-loop-site : goal.invariant-loop-site

@@ -1,5 +1,5 @@
 use Rattle.std.proofs.Common.{◌+◌, ◌-◌, ◌++◌, ◌∷◌, [], ℕ, List, append_assoc, ap, sym, ◌∙◌}
-use Rattle.afs_adminrows.specs.Asks.{from_to}
+use Rattle.spec_adminrows.specs.Asks.{from_to}
 use Rattle.afs_adminparts.proofs.Surveys.{next_server}
 use Rattle.afs_adminparts.proofs.surveying.all_servers.Goals as goal
 

@@ -1,5 +1,5 @@
 use Rattle.std.proofs.Common.{◌≡◌, ◌+◌, ◌-◌, ◌++◌}
-use Rattle.afs_adminrows.specs.Asks.{from_to}
+use Rattle.spec_adminrows.specs.Asks.{from_to}
 use Rattle.afs_adminparts.proofs.surveying.all_servers.Given as goal
 
 abbrev pub invariant-loop-before : goal.invariant-loop-before

@@ -1,5 +1,5 @@
 use Rattle.std.proofs.Common.{◌≡◌, ◌++◌, take, map}
-use Rattle.afs_adminrows.specs.Surveying.{seen_by}
+use Rattle.spec_adminrows.specs.Surveying.{seen_by}
 use Rattle.afs_adminparts.proofs.surveying.with_listed.Given as goal
 
 abbrev pub invariant-loop-volume : goal.invariant-loop-volume

@@ -1,5 +1,5 @@
 use Rattle.std.proofs.Common.{◌≡◌, ◌++◌, drop, filter}
-use Rattle.afs_adminrows.specs.Recovering.{has_copy}
+use Rattle.spec_adminrows.specs.Recovering.{has_copy}
 use Rattle.afs_adminvolumes.proofs.recovering.copies_among.Given as goal
 
 abbrev pub invariant-loop-server : goal.invariant-loop-server

@@ -1,6 +1,6 @@
 use Rattle.std.proofs.Common.{◌≡◌, ◌++◌, drop, filter, map}
-use Rattle.afs_adminrows.specs.Recovering.{must_go}
-use Rattle.afs_adminrows.specs.Removing.{spot_of}
+use Rattle.spec_adminrows.specs.Recovering.{must_go}
+use Rattle.spec_adminrows.specs.Removing.{spot_of}
 use Rattle.afs_adminvolumes.proofs.recovering.others_of.Given as goal
 
 abbrev pub invariant-loop-one : goal.invariant-loop-one

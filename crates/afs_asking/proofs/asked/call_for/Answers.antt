@@ -1,8 +1,8 @@
 use Rattle.std.proofs.Common.{◌≡◌, subst, sym, List}
 use Rattle.std.specs.Prelude.{IfOk}
 use Rattle.afs_num.specs.declared.calls.FsCall.{FsCall}
-use Rattle.afs_rows.specs.States.{Gift}
-use Rattle.afs_rows.specs.ClientRow.{call_by, gift_call}
+use Rattle.spec_rows.specs.States.{Gift}
+use Rattle.spec_rows.specs.ClientRow.{call_by, gift_call}
 use Rattle.afs_acts.specs.Walks.{need_of}
 use Rattle.afs_acts.specs.declared.types.Need.{Need}
 use Rattle.afs_asking.proofs.asked.call_for.Goals as goal

@@ -1,6 +1,6 @@
 use Rattle.std.proofs.Common.{◌≡◌, ◌-◌, ℕ, suc, subst, arith}
 use Rattle.std.specs.Option.{option_copied}
-use Rattle.afs_rows.specs.ClientRow.{most_reads, walked}
+use Rattle.spec_rows.specs.ClientRow.{most_reads, walked}
 use Rattle.afs_entries.specs.Cached.{in_sight}
 use Rattle.afs_asking.specs.Looking.{IsOnWay}
 use Rattle.afs_asking.proofs.Walking.{stopped, turns_on}

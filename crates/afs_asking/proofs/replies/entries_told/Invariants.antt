@@ -1,5 +1,5 @@
 use Rattle.std.proofs.Common.{◌≡◌, ◌++◌, length, map}
-use Rattle.afs_rows.specs.ClientRow.{entries_told}
+use Rattle.spec_rows.specs.ClientRow.{entries_told}
 use Rattle.afs_entries.specs.Cached.{entry_of}
 use Rattle.afs_asking.proofs.replies.entries_told.Given as goal
 

@@ -1,7 +1,7 @@
 use Rattle.std.proofs.Common.{◌≡◌, drop, map, not}
 use Rattle.std.specs.List.{list_any}
-use Rattle.afs_rows.specs.States.{CacheEntry}
-use Rattle.afs_rows.specs.ClientRow.{is_trusted}
+use Rattle.spec_rows.specs.States.{CacheEntry}
+use Rattle.spec_rows.specs.ClientRow.{is_trusted}
 use Rattle.afs_entries.specs.Cached.{entry_of}
 use Rattle.afs_asking.proofs.replies.is_any_spent.Given as goal
 

@@ -1,5 +1,5 @@
 use Rattle.std.proofs.Common.{◌≡◌, drop}
-use Rattle.afs_rows.specs.Callbacks.{gives_up_all}
+use Rattle.spec_rows.specs.Callbacks.{gives_up_all}
 use Rattle.afs_callbacks.proofs.answering.give_up_all.Given as goal
 
 abbrev pub invariant-loop-fid : goal.invariant-loop-fid

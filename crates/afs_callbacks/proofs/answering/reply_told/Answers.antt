@@ -2,8 +2,8 @@ use Rattle.std.proofs.Common.{◌≡◌, ap, sym, subst, ◌∙◌}
 use Rattle.afs_num.specs.declared.calls.FsReply.{FsReply}
 use Rattle.afs_num.specs.declared.messages.Carried.TheVariants as carried
 use Rattle.afs_num.specs.declared.messages.Reply.TheVariants as tell
-use Rattle.afs_model.specs.Messages.{HasSpelling}
-use Rattle.afs_rows.specs.ServerRow.{promised_in, replied}
+use Rattle.spec_model.specs.Messages.{HasSpelling}
+use Rattle.spec_rows.specs.ServerRow.{promised_in, replied}
 use Rattle.afs_callbacks.proofs.Spelled.{promised_number, promised_within, replied_spelled}
 use Rattle.afs_callbacks.proofs.answering.reply_told.Goals as goal
 

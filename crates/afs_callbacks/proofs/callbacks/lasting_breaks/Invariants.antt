@@ -1,5 +1,5 @@
 use Rattle.std.proofs.Common.{◌≡◌, ◌++◌}
-use Rattle.afs_breaks.specs.Promises.{lasting_breaks}
+use Rattle.spec_breaks.specs.Promises.{lasting_breaks}
 use Rattle.afs_callbacks.proofs.callbacks.lasting_breaks.Given as goal
 
 abbrev pub invariant-loop-owed : goal.invariant-loop-owed

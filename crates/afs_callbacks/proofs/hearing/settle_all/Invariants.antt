@@ -1,5 +1,5 @@
 use Rattle.std.proofs.Common.{◌≡◌, drop}
-use Rattle.afs_rows.specs.Callbacks.{ends_all}
+use Rattle.spec_rows.specs.Callbacks.{ends_all}
 use Rattle.afs_callbacks.proofs.hearing.settle_all.Given as goal
 
 abbrev pub invariant-loop-owed : goal.invariant-loop-owed

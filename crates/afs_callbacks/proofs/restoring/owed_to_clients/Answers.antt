@@ -1,8 +1,8 @@
 use Rattle.std.proofs.Common.{◌+◌, ◌-◌, ℕ, arith, ap, sym, subst, ◌∙◌}
 use Rattle.std.specs.List.{All}
 use Rattle.std.proofs.lemmas.List.Elements.{All-push}
-use Rattle.afs_breaks.specs.Promises.{Lists}
-use Rattle.afs_rows.specs.Callbacks.{owed_to_clients}
+use Rattle.spec_breaks.specs.Promises.{Lists}
+use Rattle.spec_rows.specs.Callbacks.{owed_to_clients}
 use Rattle.afs_server_parts.specs.Turning.{IsBreakToNode}
 use Rattle.afs_callbacks.proofs.Numbered.{client_is_node, one_more_client}
 use Rattle.afs_callbacks.proofs.restoring.owed_to_clients.Goals as goal

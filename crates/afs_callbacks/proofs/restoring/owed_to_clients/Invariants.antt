@@ -1,7 +1,7 @@
 use Rattle.std.proofs.Common.{◌≡◌, ◌-◌, []}
 use Rattle.std.specs.List.{All}
-use Rattle.afs_breaks.specs.Promises.{no_lists}
-use Rattle.afs_rows.specs.Callbacks.{owed_to_clients}
+use Rattle.spec_breaks.specs.Promises.{no_lists}
+use Rattle.spec_rows.specs.Callbacks.{owed_to_clients}
 use Rattle.afs_server_parts.specs.Turning.{IsBreakToNode}
 use Rattle.afs_callbacks.proofs.restoring.owed_to_clients.Given as goal
 

@@ -2,7 +2,7 @@ use Rattle.std.proofs.Common.{◌≡◌, rules, arith, [], None, map, ap, sym, s
 use Rattle.std.specs.List.{All}
 use Rattle.afs_num.specs.Nodes.{IsNode}
 use Rattle.afs_num.specs.declared.types.Node.{Node}
-use Rattle.afs_rows.specs.Callbacks.{owe_line}
+use Rattle.spec_rows.specs.Callbacks.{owe_line}
 use Rattle.afs_callees.specs.Called.{call_to, known_to, AreGoodCalls}
 use Rattle.afs_server_parts.specs.Turning.{IsBreakToNode}
 use Rattle.afs_server_parts.specs.declared.turns.Stand.{Stand}

@@ -1,7 +1,7 @@
 use Rattle.std.proofs.Common.{drop}
 use Rattle.std.specs.List.{AllByRecursion}
 use Rattle.afs_num.specs.declared.vnodes.Vnode.{Vnode}
-use Rattle.afs_ideal.specs.VnodeImage.{image_words}
+use Rattle.spec_ideal.specs.VnodeImage.{image_words}
 use Rattle.afs_xdr.specs.Words.{AreWords}
 use Rattle.afs_callbacks.proofs.saving.are_of_words.Given as goal
 

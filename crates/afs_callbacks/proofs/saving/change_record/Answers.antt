@@ -1,7 +1,7 @@
 use Rattle.std.proofs.Common.{List, subst}
 use Rattle.std.specs.List.{AllByRecursion}
 use Rattle.afs_num.specs.declared.vnodes.Vnode.{Vnode}
-use Rattle.afs_ideal.specs.VnodeImage.{image_words}
+use Rattle.spec_ideal.specs.VnodeImage.{image_words}
 use Rattle.afs_xdr.specs.Words.{AreWords}
 use Rattle.afs_callbacks.proofs.Recorded.{record_fits}
 use Rattle.afs_callbacks.proofs.saving.change_record.Goals as goal

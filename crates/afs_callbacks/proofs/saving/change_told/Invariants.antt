@@ -1,7 +1,7 @@
 use Rattle.std.proofs.Common.{◌≡◌, ◌++◌, ◌∷◌, [], length}
 use Rattle.std.specs.Vec.Iter.{into_iter_items}
-use Rattle.afs_history.specs.declared.lines.Line.TheVariants as lines
-use Rattle.afs_rows.specs.ServerRow.{versioned}
+use Rattle.spec_history.specs.declared.lines.Line.TheVariants as lines
+use Rattle.spec_rows.specs.ServerRow.{versioned}
 use Rattle.afs_callbacks.proofs.saving.change_told.Given as goal
 
 abbrev pub invariant-loop-version : goal.invariant-loop-version

@@ -1,6 +1,6 @@
 use Rattle.std.proofs.Common.{◌≡◌, rules, arith, subst, sym}
 use Rattle.std.specs.List.{All}
-use Rattle.afs_breaks.specs.Promises.{owes_from}
+use Rattle.spec_breaks.specs.Promises.{owes_from}
 use Rattle.afs_server_parts.specs.Turning.{IsBreakToNode}
 use Rattle.afs_callbacks.proofs.Withdrawn.{owes_to_nodes}
 use Rattle.afs_callbacks.proofs.saving.new_breaks.Goals as goal

@@ -1,5 +1,5 @@
 use Rattle.std.proofs.Common.{◌≡◌, ◌++◌, [], drop}
-use Rattle.afs_breaks.specs.Promises.{lasting}
+use Rattle.spec_breaks.specs.Promises.{lasting}
 use Rattle.afs_callbacks.specs.Saving.{hits_fresh}
 use Rattle.afs_callbacks.proofs.saving.new_hits.Given as goal
 

@@ -1,5 +1,5 @@
 use Rattle.std.proofs.Common.{◌≡◌, ◌+◌, ◌++◌, drop}
-use Rattle.afs_breaks.specs.Promises.{owes_from}
+use Rattle.spec_breaks.specs.Promises.{owes_from}
 use Rattle.afs_callbacks.proofs.saving.owe_each.Given as goal
 
 abbrev pub invariant-loop-promise : goal.invariant-loop-promise

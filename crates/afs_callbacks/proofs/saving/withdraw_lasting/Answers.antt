@@ -1,5 +1,5 @@
 use Rattle.std.proofs.Common.{◌≤◌, ◌+◌, length, sym, subst}
-use Rattle.afs_breaks.specs.Promises.{Lists}
+use Rattle.spec_breaks.specs.Promises.{Lists}
 use Rattle.afs_promise.specs.Found.{without_found}
 use Rattle.afs_callbacks.proofs.Holding.{expired_few}
 use Rattle.afs_callbacks.proofs.saving.withdraw_lasting.Goals as goal

@@ -1,5 +1,5 @@
 use Rattle.std.proofs.Common.{List, ap, ◌∙◌}
-use Rattle.afs_rows.specs.Callbacks.{put_at}
+use Rattle.spec_rows.specs.Callbacks.{put_at}
 use Rattle.afs_callees.specs.Called.{known_to, Callee}
 use Rattle.afs_callees.proofs.Calls.{put_again}
 use Rattle.afs_callees.proofs.callees.set_call.Goals as goal

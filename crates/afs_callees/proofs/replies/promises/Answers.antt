@@ -1,5 +1,5 @@
 use Rattle.std.proofs.Common.{◌+◌, arith, rules}
-use Rattle.afs_rows.specs.ServerRow.{promise_until}
+use Rattle.spec_rows.specs.ServerRow.{promise_until}
 use Rattle.afs_callees.proofs.Same.{one_more_same}
 use Rattle.afs_callees.proofs.replies.promises.Goals as goal
 

@@ -1,6 +1,6 @@
 use Rattle.std.proofs.Common.{◌≡◌, map, take}
 use Rattle.afs_num.specs.declared.calls.AfsCallBack.{AfsCallBack}
-use Rattle.afs_rows.specs.ServerRow.{promise_until}
+use Rattle.spec_rows.specs.ServerRow.{promise_until}
 use Rattle.afs_callees.proofs.replies.promises.Given as goal
 
 abbrev pub invariant-loop-place : goal.invariant-loop-place

@@ -1,5 +1,5 @@
 use Rattle.std.proofs.Common.{◌≡◌, ◌++◌, map, take}
-use Rattle.afs_rows.specs.Callbacks.{settle_line}
+use Rattle.spec_rows.specs.Callbacks.{settle_line}
 use Rattle.afs_callees.proofs.telling.tell_settled.Given as goal
 
 abbrev pub invariant-loop-owed : goal.invariant-loop-owed

@@ -1,6 +1,6 @@
 use Rattle.std.proofs.Common.{ap, ◌∙◌}
-use Rattle.afs_model.specs.Messages.{received}
-use Rattle.afs_model.proofs.Spellings.{message_again}
+use Rattle.spec_model.specs.Messages.{received}
+use Rattle.spec_model.proofs.Spellings.{message_again}
 use Rattle.afs_calling.specs.Calls.{calling}
 use Rattle.afs_calling.proofs.messages.encode_call.Goals as goal
 

@@ -1,6 +1,6 @@
 use Rattle.std.specs.Prelude.{◌≡◌, ◌≤◌, ◌↔◌, Err, IsSome}
 use Rattle.std.proofs.Common.{subst}
-use Rattle.afs_model.specs.Messages.{received}
+use Rattle.spec_model.specs.Messages.{received}
 use Rattle.afs_server_parts.specs.declared.faults.NodeFault.{NodeFault}
 use Rattle.afs_host.specs.LocSeats.{loc_disk_of}
 use Rattle.afs_host.specs.LocServing.{loc_disk_served, IsLocServed, LocBecomes}

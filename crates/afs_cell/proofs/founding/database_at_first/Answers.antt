@@ -2,8 +2,8 @@ use Rattle.std.proofs.Common.{◌∙◌, ◌≡◌, ◌≤◌, ◌+◌, ◌↔�
 use Rattle.std.specs.Prelude.{IsSome}
 use Rattle.afs_num.specs.declared.types.Node.TheVariants.{Loc}
 use Rattle.afs_disk.specs.Disk.{LeavesJust, Setting}
-use Rattle.afs_disk.specs.Fuses.{last_count, Fused}
-use Rattle.afs_records.specs.LocDurable.{loc_set_up}
+use Rattle.afs_disk.specs.Fuses.{last_of_counter, Fused}
+use Rattle.spec_records.specs.LocDurable.{loc_set_up}
 use Rattle.afs_store.specs.Stores.{IsCaused}
 use Rattle.afs_locdb.specs.Creating.{IsSetUpSoFar}
 use Rattle.afs_locdb.specs.Seen.{Database}
@@ -49,11 +49,11 @@ returns-in-Err-clause-err g c =
     let e = c.in-Err.ensures in
     let m = e.err.0 in
     let disk : c.new.result.disk ≡ c.args.disk = ap (λ (f : Fused g.row.D.Denot). f.disk) c.new.ensures in
-    let now : ℕ = min (g.D.Disk.faults fuse.disk + fuse.tripped) last_count in
+    let now : ℕ = min (g.D.Disk.faults fuse.disk + fuse.tripped) last_of_counter in
     let refused =
-    refused_database g.D.Disk.seen g.D.Disk.may_leave g.D.Disk.faults g.D.Disk.limit c.args.script.now c.requires.script c.args.disk c.requires.capacity c.loc_set_ups_are_accepted.ensures c.in-Err.fault fuse.disk fuse.calls (min (g.D.Disk.faults c.args.disk + 0) last_count) now e.refusals
+    refused_database g.D.Disk.seen g.D.Disk.may_leave g.D.Disk.faults g.D.Disk.limit c.args.script.now c.requires.script c.args.disk c.requires.capacity c.loc_set_ups_are_accepted.ensures c.in-Err.fault fuse.disk fuse.calls (min (g.D.Disk.faults c.args.disk + 0) last_of_counter) now e.refusals
     (λ used capacity is. subst (λ (d : g.row.D.Denot). loc_set_up (g.D.Disk.limit d) c.args.script.now.volumes ≡ None) disk (e.full used capacity is).1.1)
-    (subst (λ (f : Fused g.row.D.Denot). IsCaused (setting_of f) fuse.calls (min (g.D.Disk.faults f.disk + f.tripped) last_count) now (g.D.Disk.faults f.disk) (g.D.Disk.faults fuse.disk) c.in-Err.fault) c.new.ensures e.err.1) (m.same_limit ∙ ap g.D.Disk.limit disk)
+    (subst (λ (f : Fused g.row.D.Denot). IsCaused (setting_of f) fuse.calls (min (g.D.Disk.faults f.disk + f.tripped) last_of_counter) now (g.D.Disk.faults f.disk) (g.D.Disk.faults fuse.disk) c.in-Err.fault) c.new.ensures e.err.1) (m.same_limit ∙ ap g.D.Disk.limit disk)
     (subst (λ (d : g.row.D.Denot). g.D.Disk.faults d ≤ g.D.Disk.faults fuse.disk) disk m.own_never_falls) (subst (λ (d : g.row.D.Denot). IsSome (g.D.Disk.seen fuse.disk) ↔ IsSome (g.D.Disk.seen d)) disk e.told)
     (λ none just bytes sees.
     let l = e.any_moment (subst (λ (d : g.row.D.Denot). g.D.Disk.seen d ≡ Some []) (sym disk) none) (subst (λ (d : g.row.D.Denot). LeavesJust [] (g.D.Disk.may_leave d)) (sym disk) just) in

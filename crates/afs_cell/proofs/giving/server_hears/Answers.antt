@@ -1,6 +1,6 @@
 use Rattle.std.proofs.Common.{ap, sym, subst, ◌+◌, ℕ, [], ◌∷◌}
 use Rattle.afs_num.specs.declared.types.Node.TheVariants.{Server}
-use Rattle.afs_history.specs.declared.lines.Line.TheVariants as lines
+use Rattle.spec_history.specs.declared.lines.Line.TheVariants as lines
 use Rattle.afs_cell.specs.SeatSteps.{HasHeard, IsFallen}
 use Rattle.afs_cell.specs.Hearing.{IsUpAt, OneFalls}
 use Rattle.afs_clients.specs.Places.{put_place}

@@ -2,11 +2,11 @@ use Rattle.std.proofs.Common.{◌∙◌, ◌≡◌, ◌≤◌, ◌+◌, ◌↔�
 use Rattle.std.specs.Prelude.{IsSome}
 use Rattle.std.specs.Borrow.{Bor}
 use Rattle.afs_num.specs.declared.types.Node.TheVariants.{Server}
-use Rattle.afs_history.specs.declared.scripts.VolumeLine.{VolumeLine}
+use Rattle.spec_history.specs.declared.scripts.VolumeLine.{VolumeLine}
 use Rattle.afs_disk.specs.Disk.{LeavesJust}
-use Rattle.afs_disk.specs.Fuses.{last_count, Fused}
-use Rattle.afs_fold.specs.SetUps.{set_up}
-use Rattle.afs_grammar.specs.Lines.{volumes_at}
+use Rattle.afs_disk.specs.Fuses.{last_of_counter, Fused}
+use Rattle.spec_fold.specs.SetUps.{set_up}
+use Rattle.afs_grammar.specs.Lines.{lines_of_server}
 use Rattle.afs_volstore.specs.Opening.{IsSetUpSoFar}
 use Rattle.afs_volstore.specs.Stores.{IsCaused}
 use Rattle.afs_cell.specs.FirstSeats.{IsRefusedAt}
@@ -24,7 +24,7 @@ returns-in-Ok-create-clause-ok g c =
     let e = c.in-Ok-create.ensures in
     let m = e.ok.0 in
     let ls : List VolumeLine = map (λ (l : Bor VolumeLine). l.now) c.as_slice.result.now in
-    let lines : ls ≡ volumes_at c.args.server c.args.script.now.volumes = ap (λ (bs : List (Bor VolumeLine)). map (λ (l : Bor VolumeLine). l.now) bs) c.as_slice.ensures.value ∙ c.in-Ok.ensures in
+    let lines : ls ≡ lines_of_server c.args.server c.args.script.now.volumes = ap (λ (bs : List (Bor VolumeLine)). map (λ (l : Bor VolumeLine). l.now) bs) c.as_slice.ensures.value ∙ c.in-Ok.ensures in
     let disk : c.new.result.disk ≡ c.args.disk = ap (λ (f : Fused g.row.D.Denot). f.disk) c.new.ensures in
     let none : c.new.result.calls ≡ 0 = ap (λ (f : Fused g.row.D.Denot). f.calls) c.new.ensures in
     let most : store.disk.calls ≤ c.new.result.calls + 12 = m.few in
@@ -38,13 +38,13 @@ returns-clause-err g c =
     let e = c.in-Err.ensures in
     let m = e.err.0 in
     let ls : List VolumeLine = map (λ (l : Bor VolumeLine). l.now) c.as_slice.result.now in
-    let lines : ls ≡ volumes_at c.args.server c.args.script.now.volumes = ap (λ (bs : List (Bor VolumeLine)). map (λ (l : Bor VolumeLine). l.now) bs) c.as_slice.ensures.value ∙ c.in-Ok.ensures in
+    let lines : ls ≡ lines_of_server c.args.server c.args.script.now.volumes = ap (λ (bs : List (Bor VolumeLine)). map (λ (l : Bor VolumeLine). l.now) bs) c.as_slice.ensures.value ∙ c.in-Ok.ensures in
     let disk : c.new.result.disk ≡ c.args.disk = ap (λ (f : Fused g.row.D.Denot). f.disk) c.new.ensures in
-    let now : ℕ = min (g.D.Disk.faults fuse.disk + fuse.tripped) last_count in
+    let now : ℕ = min (g.D.Disk.faults fuse.disk + fuse.tripped) last_of_counter in
     let refused =
-    refused_store g.D.Disk.seen g.D.Disk.may_leave g.D.Disk.faults g.D.Disk.limit c.args.script.now c.requires.script c.args.server c.args.disk ls c.set_ups_are_accepted.ensures c.in-Err.fault fuse.disk fuse.calls (min (g.D.Disk.faults c.args.disk + 0) last_count) now lines
+    refused_store g.D.Disk.seen g.D.Disk.may_leave g.D.Disk.faults g.D.Disk.limit c.args.script.now c.requires.script c.args.server c.args.disk ls c.set_ups_are_accepted.ensures c.in-Err.fault fuse.disk fuse.calls (min (g.D.Disk.faults c.args.disk + 0) last_of_counter) now lines
     c.requires.capacity e.refusals (λ used capacity is. subst (λ (d : g.row.D.Denot). set_up (g.D.Disk.limit d) ls ≡ None) disk (e.full used capacity is).1.1)
-    (subst (λ (f : Fused g.row.D.Denot). IsCaused (setting_of f) fuse.calls (min (g.D.Disk.faults f.disk + f.tripped) last_count) now (g.D.Disk.faults f.disk) (g.D.Disk.faults fuse.disk) c.in-Err.fault) c.new.ensures e.err.1) (m.same_limit ∙ ap g.D.Disk.limit disk)
+    (subst (λ (f : Fused g.row.D.Denot). IsCaused (setting_of f) fuse.calls (min (g.D.Disk.faults f.disk + f.tripped) last_of_counter) now (g.D.Disk.faults f.disk) (g.D.Disk.faults fuse.disk) c.in-Err.fault) c.new.ensures e.err.1) (m.same_limit ∙ ap g.D.Disk.limit disk)
     (subst (λ (d : g.row.D.Denot). g.D.Disk.faults d ≤ g.D.Disk.faults fuse.disk) disk m.own_never_falls) (subst (λ (d : g.row.D.Denot). IsSome (g.D.Disk.seen fuse.disk) ↔ IsSome (g.D.Disk.seen d)) disk e.told)
     (λ none just bytes sees.
     let l = e.any_moment (subst (λ (d : g.row.D.Denot). g.D.Disk.seen d ≡ Some []) (sym disk) none) (subst (λ (d : g.row.D.Denot). LeavesJust [] (g.D.Disk.may_leave d)) (sym disk) just) in

@@ -1,10 +1,10 @@
 use Rattle.std.specs.Prelude.{◌≡◌, ◌≤◌, ◌↔◌, Err, IsSome}
-use Rattle.afs_model.specs.Messages.{received}
+use Rattle.spec_model.specs.Messages.{received}
 use Rattle.afs_server_parts.specs.declared.faults.NodeFault.{NodeFault}
 use Rattle.afs_serverhost.specs.Seats.{disk_of, with_behind}
 use Rattle.afs_serverhost.specs.Serving.{disk_served, Becomes, IsServed}
 use Rattle.afs_cell.proofs.Falling.{fell_happens, fell_keeps}
-use Rattle.afs_history.specs.declared.lines.Line.TheVariants as lines
+use Rattle.spec_history.specs.declared.lines.Line.TheVariants as lines
 use Rattle.afs_serverhost.specs.Seated.{ServerSeat}
 use Rattle.afs_host.specs.declared.seats.Seat.TheVariants.{Up}
 use Rattle.afs_cell.specs.SeatSteps.{HasHeard, IsFallen, SeatGoes, SeatHappens}

@@ -1,6 +1,6 @@
 use Rattle.std.proofs.Common.{Ok, sym, subst}
 use Rattle.afs_num.specs.declared.volumes.Change.{Change}
-use Rattle.afs_ideal.specs.Operations.{op, the_user}
+use Rattle.spec_ideal.specs.Operations.{op, the_user}
 use Rattle.afs_changes.specs.Changes.{Applies}
 use Rattle.afs_volume.specs.Giving.{volume_of}
 use Rattle.afs_changes.proofs.applying.apply.Goals as goal

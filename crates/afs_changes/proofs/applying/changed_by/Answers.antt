@@ -1,6 +1,6 @@
 use Rattle.std.proofs.Common.{◌≡◌, ◌<◌, ◌+◌, List, true, subst, refl, sym, ap, ◌∙◌, arith, if◌then◌else◌}
 use Rattle.std.specs.List.{list_any, AllByRecursion}
-use Rattle.afs_ideal.specs.Operations.{last_count}
+use Rattle.spec_ideal.specs.Operations.{last_count}
 use Rattle.afs_changes.specs.Changes.{IsChangeBy, IsKeptAs}
 use Rattle.afs_changes.specs.Drawing.{all_freed, all_left, all_told, makes_vnode, CanBeDrawn}
 use Rattle.afs_reads.specs.Replying.{caller_seen}

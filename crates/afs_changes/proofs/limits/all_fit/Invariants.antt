@@ -1,6 +1,6 @@
 use Rattle.std.proofs.Common.{◌≡◌, drop}
 use Rattle.std.specs.List.{list_all}
-use Rattle.afs_ideal.specs.Operations.{edit_fits}
+use Rattle.spec_ideal.specs.Operations.{edit_fits}
 use Rattle.afs_changes.specs.Planning.{edits_seen}
 use Rattle.afs_volume.specs.Giving.{volume_of}
 use Rattle.afs_changes.proofs.limits.all_fit.Given as goal

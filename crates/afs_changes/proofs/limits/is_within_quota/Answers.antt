@@ -1,5 +1,5 @@
 use Rattle.std.proofs.Common.{◌≡◌, ◌+◌, ℕ, leb, nat_lt, not, subst, arith}
-use Rattle.afs_ideal.specs.Volumes.{blocks_in, edited_all}
+use Rattle.spec_ideal.specs.Volumes.{blocks_in, edited_all}
 use Rattle.afs_changes.specs.Planning.{edits_seen}
 use Rattle.afs_volume.specs.Giving.{volume_of}
 use Rattle.afs_changes.proofs.Sums.{blocks_follow, within}

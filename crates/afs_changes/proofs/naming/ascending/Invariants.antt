@@ -1,5 +1,5 @@
 use Rattle.std.proofs.Common.{◌≡◌, length}
-use Rattle.afs_ideal.specs.Volumes.{ascending}
+use Rattle.spec_ideal.specs.Volumes.{ascending}
 use Rattle.afs_changes.specs.Planning.{edits_seen, placed_among}
 use Rattle.afs_changes.proofs.naming.ascending.Given as goal
 

@@ -1,6 +1,6 @@
 use Rattle.std.proofs.Common.{◌≡◌, nat_lt, rules}
 use Rattle.std.specs.List.{insert, prefix_len}
-use Rattle.afs_ideal.specs.Volumes.{edit_number}
+use Rattle.spec_ideal.specs.Volumes.{edit_number}
 use Rattle.afs_changes.specs.Planning.{edit_seen}
 use Rattle.afs_changes.specs.declared.edits.Edit.{Edit}
 use Rattle.afs_changes.proofs.Placed.{placed_at}

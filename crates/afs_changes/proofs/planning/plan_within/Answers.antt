@@ -1,7 +1,7 @@
 use Rattle.std.proofs.Common.{sym, subst, arith}
 use Rattle.std.proofs.lemmas.List.{length-map}
-use Rattle.afs_ideal.specs.Operations as ops
-use Rattle.afs_ideal.proofs.Proper.{planned_change}
+use Rattle.spec_ideal.specs.Operations as ops
+use Rattle.spec_ideal.proofs.Proper.{planned_change}
 use Rattle.afs_reads.specs.Replying.{caller_seen}
 use Rattle.afs_changes.specs.Planning.{edit_seen, edits_seen, Plans}
 use Rattle.afs_volume.specs.Giving.{volume_of}

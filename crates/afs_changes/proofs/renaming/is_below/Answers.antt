@@ -1,7 +1,7 @@
 use Rattle.std.proofs.Common.{◌≡◌, ◌-◌, ◌+◌, ℕ, suc, false, length, nat_eq, Some, ap, arith, rules}
-use Rattle.afs_ideal.specs.Operations.{is_below, leads_up}
-use Rattle.afs_ideal.specs.Tables.{get}
-use Rattle.afs_ideal.specs.Volumes.{Vnode}
+use Rattle.spec_ideal.specs.Operations.{is_below, leads_up}
+use Rattle.spec_ideal.specs.Tables.{get}
+use Rattle.spec_ideal.specs.Volumes.{Vnode}
 use Rattle.afs_volume.specs.Giving.{volume_of}
 use Rattle.afs_volume.specs.Seen.{seen}
 use Rattle.afs_volume.proofs.Upward.{higher, same_length}

@@ -1,6 +1,6 @@
 use Rattle.std.proofs.Common.{◌≡◌, ◌-◌, length}
-use Rattle.afs_ideal.specs.Operations.{is_below, leads_up}
-use Rattle.afs_ideal.specs.Tables.{get}
+use Rattle.spec_ideal.specs.Operations.{is_below, leads_up}
+use Rattle.spec_ideal.specs.Tables.{get}
 use Rattle.afs_volume.specs.Giving.{volume_of}
 use Rattle.afs_changes.proofs.renaming.is_below.Given as goal
 

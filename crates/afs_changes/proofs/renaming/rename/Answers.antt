@@ -1,6 +1,6 @@
 use Rattle.std.proofs.Common.{◌≡◌, false, nat_eq, rules}
 use Rattle.afs_num.specs.declared.calls.FsCall.TheVariants as calls
-use Rattle.afs_ideal.specs.Operations.{effect}
+use Rattle.spec_ideal.specs.Operations.{effect}
 use Rattle.afs_reads.specs.Replying.{caller_seen}
 use Rattle.afs_volume.specs.Giving.{volume_of}
 use Rattle.afs_changes.proofs.renaming.rename.Goals as goal

@@ -1,8 +1,8 @@
 use Rattle.std.proofs.Common.{◌≡◌, List, Option, ℕ, true, is_some, nat_eq, refl, sym, subst, rules}
 use Rattle.std.specs.Prelude.{◌&&◌}
 use Rattle.afs_num.specs.declared.calls.FsCall.TheVariants as calls
-use Rattle.afs_ideal.specs.Operations.{by_tests, effect, is_directory, vnode_in}
-use Rattle.afs_ideal.specs.Volumes.{vnode_of}
+use Rattle.spec_ideal.specs.Operations.{by_tests, effect, is_directory, vnode_in}
+use Rattle.spec_ideal.specs.Volumes.{vnode_of}
 use Rattle.afs_reads.specs.Replying.{caller_seen}
 use Rattle.afs_changes.specs.Planning.{takes_place, Plans}
 use Rattle.afs_volume.specs.Giving.{volume_of}

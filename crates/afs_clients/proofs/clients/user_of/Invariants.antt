@@ -1,5 +1,5 @@
 use Rattle.std.proofs.Common.{◌≡◌, codes, drop}
-use Rattle.afs_rows.specs.Runs.{user_in}
+use Rattle.spec_rows.specs.Runs.{user_in}
 use Rattle.afs_clients.proofs.clients.user_of.Given as goal
 
 abbrev pub invariant-loop-line : goal.invariant-loop-line

@@ -1,6 +1,6 @@
 use Rattle.std.proofs.Common.{subst}
 use Rattle.afs_num.specs.declared.volumes.VolumeHead.{VolumeHead}
-use Rattle.afs_ideal.specs.Operations.{the_user}
+use Rattle.spec_ideal.specs.Operations.{the_user}
 use Rattle.afs_decisions.specs.Deciding.{ChangesAs}
 use Rattle.afs_decisions.proofs.Decisions.{change_can_be_told, change_decides, change_fits, is_on}
 use Rattle.afs_decisions.proofs.deciding.change_in.Goals as goal

@@ -1,5 +1,5 @@
 use Rattle.std.proofs.Common.{◌≡◌, false, rules}
-use Rattle.afs_ideal.specs.Operations.{the_user}
+use Rattle.spec_ideal.specs.Operations.{the_user}
 use Rattle.afs_reads.specs.Replying.{is_reading}
 use Rattle.afs_decisions.proofs.Decisions.{changing_else, in_any}
 use Rattle.afs_decisions.proofs.deciding.in_found.Goals as goal

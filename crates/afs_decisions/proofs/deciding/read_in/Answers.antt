@@ -1,6 +1,6 @@
 use Rattle.std.proofs.Common.{[]}
-use Rattle.afs_rows.specs.Runs.{first_server}
-use Rattle.afs_ideal.specs.Operations.{the_user}
+use Rattle.spec_rows.specs.Runs.{first_server}
+use Rattle.spec_ideal.specs.Operations.{the_user}
 use Rattle.afs_decisions.proofs.Decisions.{is_on, read_can_be_told, read_decides, read_fits}
 use Rattle.afs_decisions.proofs.deciding.read_in.Goals as goal
 

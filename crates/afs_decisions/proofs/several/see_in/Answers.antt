@@ -1,7 +1,7 @@
 use Rattle.std.proofs.Common.{ℕ, false, rules, subst}
 use Rattle.afs_num.specs.declared.calls.FsCall.TheVariants as calls
-use Rattle.afs_ideal.specs.Operations.{op, the_user}
-use Rattle.afs_rows.specs.ServerRow.{sight_by}
+use Rattle.spec_ideal.specs.Operations.{op, the_user}
+use Rattle.spec_rows.specs.ServerRow.{sight_by}
 use Rattle.afs_volume.specs.Giving.{volume_of}
 use Rattle.afs_shelves.specs.Shelving.{stored_as}
 use Rattle.afs_decisions.specs.Several.{seen_in, Sees}

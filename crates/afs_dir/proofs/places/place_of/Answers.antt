@@ -1,6 +1,6 @@
 use Rattle.std.proofs.Common.{[], rules}
 use Rattle.std.proofs.lemmas.List.Sorted.{IsPartitionPoint-from_clause}
-use Rattle.afs_ideal.specs.Directories.{bytes_below}
+use Rattle.spec_ideal.specs.Directories.{bytes_below}
 use Rattle.afs_dir.proofs.Finding.{parted, place_is}
 use Rattle.afs_dir.proofs.places.place_of.Goals as goal
 

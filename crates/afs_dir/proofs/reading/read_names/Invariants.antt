@@ -1,7 +1,7 @@
 use Rattle.std.proofs.Common.{◌≡◌, ◌≤◌, ◌+◌, ◌*◌, ◌-◌, [], true, length}
 use Rattle.afs_xdr.specs.Reading.{KeepsEnd}
-use Rattle.afs_shape.proofs.Loops.{with_front}
-use Rattle.afs_ideal.specs.Directories.{follow, names_at}
+use Rattle.spec_shape.proofs.Loops.{with_front}
+use Rattle.spec_ideal.specs.Directories.{follow, names_at}
 use Rattle.afs_dir.specs.Reads.{last_name}
 use Rattle.afs_dir.proofs.reading.read_names.Given as goal
 

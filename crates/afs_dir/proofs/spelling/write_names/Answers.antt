@@ -1,4 +1,4 @@
-use Rattle.afs_ideal.proofs.Directories.{name_is_short}
+use Rattle.spec_ideal.proofs.Directories.{name_is_short}
 use Rattle.afs_dir.proofs.spelling.write_names.Goals as goal
 
 pub write_name-requires : goal.write_name-requires

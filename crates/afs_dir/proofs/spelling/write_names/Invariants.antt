@@ -1,6 +1,6 @@
 use Rattle.std.proofs.Common.{◌≡◌, ◌++◌, take}
 use Rattle.std.specs.List.{flat_map}
-use Rattle.afs_ideal.specs.Directories.{FitNames, name_bytes}
+use Rattle.spec_ideal.specs.Directories.{FitNames, name_bytes}
 use Rattle.afs_dir.proofs.spelling.write_names.Given as goal
 
 abbrev pub invariant-loop-name : goal.invariant-loop-name

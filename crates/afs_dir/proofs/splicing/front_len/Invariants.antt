@@ -1,6 +1,6 @@
 use Rattle.std.proofs.Common.{◌≡◌, ◌≤◌, ◌*◌, length, take}
 use Rattle.std.specs.List.{flat_map}
-use Rattle.afs_ideal.specs.Directories.{name_bytes}
+use Rattle.spec_ideal.specs.Directories.{name_bytes}
 use Rattle.afs_dir.proofs.splicing.front_len.Given as goal
 
 abbrev pub invariant-loop-place : goal.invariant-loop-place

@@ -1,8 +1,8 @@
 use Rattle.std.proofs.Common.{◌≡◌, ℕ, ◌+◌, length, get_or, sym, ap, ◌∙◌, arith}
 use Rattle.afs_num.specs.declared.directories.Name.{Name}
 use Rattle.afs_xdr.specs.Words.{pad_length}
-use Rattle.afs_ideal.specs.Directories.{name_bytes}
-use Rattle.afs_ideal.proofs.Directories.{name_is_short}
+use Rattle.spec_ideal.specs.Directories.{name_bytes}
+use Rattle.spec_ideal.proofs.Directories.{name_is_short}
 use Rattle.afs_dir.proofs.Halves.{front_more, name_long}
 use Rattle.afs_dir.proofs.splicing.len_at.Goals as goal
 

@@ -1,6 +1,6 @@
 use Rattle.std.proofs.Common.{◌++◌, List, ℕ, [], ◌∷◌, ap, ◌∙◌}
 use Rattle.afs_xdr.specs.Words.{words}
-use Rattle.afs_dumps.specs.Streams.{end_magic, end_tag}
+use Rattle.spec_dumps.specs.Streams.{end_magic, end_tag}
 use Rattle.afs_dump.specs.Telling.{parts_told}
 use Rattle.afs_dump.proofs.Told.{volume_told}
 use Rattle.afs_dump.proofs.dumping.dump.Goals as goal

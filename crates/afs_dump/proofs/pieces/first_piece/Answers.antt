@@ -1,6 +1,6 @@
 use Rattle.std.proofs.Common.{◌≤◌, ◌∙◌, ℕ, sym, subst}
 use Rattle.std.proofs.lemmas.List.{take_all}
-use Rattle.afs_volrows.specs.VolRow.{most_piece}
+use Rattle.spec_volrows.specs.VolRow.{most_piece}
 use Rattle.afs_dump.proofs.pieces.first_piece.Goals as goal
 
 pub returns-in_ok-copy : goal.returns-in_ok-copy

@@ -1,5 +1,5 @@
 use Rattle.std.proofs.Common.{◌≡◌, ◌++◌, take}
-use Rattle.afs_rows.specs.ClientRow.{gifts_to}
+use Rattle.spec_rows.specs.ClientRow.{gifts_to}
 use Rattle.afs_entries.proofs.gifts.add_gifts.Given as goal
 
 abbrev pub invariant-loop-gift : goal.invariant-loop-gift

@@ -1,5 +1,5 @@
 use Rattle.std.proofs.Common.{◌≤◌, ap, subst, sym, ◌∙◌, length, ℕ}
-use Rattle.afs_rows.specs.States.{Gift}
+use Rattle.spec_rows.specs.States.{Gift}
 use Rattle.afs_entries.proofs.Batches.{batch_first, few}
 use Rattle.afs_entries.proofs.gifts.batch_len.Goals as goal
 

@@ -1,5 +1,5 @@
 use Rattle.std.proofs.Common.{◌≡◌, ◌≤◌, ◌+◌, length}
-use Rattle.afs_rows.specs.ClientRow.{batch_to}
+use Rattle.spec_rows.specs.ClientRow.{batch_to}
 use Rattle.afs_entries.proofs.gifts.count_to.Given as goal
 
 abbrev pub invariant-loop-gift : goal.invariant-loop-gift

@@ -1,6 +1,6 @@
 use Rattle.std.proofs.Common.{◌≡◌, take}
 use Rattle.std.specs.List.{flat_map}
-use Rattle.afs_rows.specs.ClientRow.{gifts_to}
+use Rattle.spec_rows.specs.ClientRow.{gifts_to}
 use Rattle.afs_entries.proofs.gifts.gather.Given as goal
 
 abbrev pub invariant-loop-number : goal.invariant-loop-number

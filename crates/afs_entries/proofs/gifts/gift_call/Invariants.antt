@@ -1,6 +1,6 @@
 use Rattle.std.proofs.Common.{◌≡◌, map, take}
-use Rattle.afs_rows.specs.ClientRow.{given_promise}
-use Rattle.afs_rows.specs.States.{Gift}
+use Rattle.spec_rows.specs.ClientRow.{given_promise}
+use Rattle.spec_rows.specs.States.{Gift}
 use Rattle.afs_entries.proofs.gifts.gift_call.Given as goal
 
 abbrev pub invariant-loop-gift : goal.invariant-loop-gift

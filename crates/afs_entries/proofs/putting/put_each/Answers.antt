@@ -1,7 +1,7 @@
 use Rattle.std.proofs.Common.{ap, subst, sym, ◌∙◌, List, map, take}
 use Rattle.std.specs.Vec.Iter.{into_iter_items}
 use Rattle.std.proofs.lemmas.List.Elements.{All-head, All-tail}
-use Rattle.afs_rows.specs.ClientRow.{put_entries}
+use Rattle.spec_rows.specs.ClientRow.{put_entries}
 use Rattle.afs_entries.specs.declared.cache.Fresh.{Fresh}
 use Rattle.afs_entries.specs.Cached.{cached, entry_of, HasAll, HasKey, slot_of}
 use Rattle.afs_entries.proofs.Behind.{all_kept}

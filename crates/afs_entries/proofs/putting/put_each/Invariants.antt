@@ -1,6 +1,6 @@
 use Rattle.std.proofs.Common.{◌≡◌, ◌≤◌, map, take, length}
 use Rattle.std.specs.Vec.Iter.{into_iter_items}
-use Rattle.afs_rows.specs.ClientRow.{put_entries}
+use Rattle.spec_rows.specs.ClientRow.{put_entries}
 use Rattle.afs_entries.specs.Cached.{cached, entry_of, HasAll}
 use Rattle.afs_entries.proofs.putting.put_each.Given as goal
 

@@ -4,7 +4,7 @@ use Rattle.afs_entries.specs.declared.cache.Slot.{Slot}
 use Rattle.afs_entries.specs.declared.cache.Entry.{Entry}
 use Rattle.afs_entries.specs.Cached.{cached, entry_at, made_of, same_slot, slot_of}
 use Rattle.std.proofs.lemmas.Map.{length-set_value}
-use Rattle.afs_rows.specs.ClientRow.{is_trusted}
+use Rattle.spec_rows.specs.ClientRow.{is_trusted}
 use Rattle.afs_entries.proofs.Refreshing.{none, same_set, trusted, untrusted}
 use Rattle.afs_entries.proofs.raw.refresh_in.Goals as goal
 

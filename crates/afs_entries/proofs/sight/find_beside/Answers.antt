@@ -1,8 +1,8 @@
 use Rattle.std.proofs.Common.{◌≡◌, ap, sym, ◌∙◌, Some, None, Bool, true, false, cond}
-use Rattle.afs_ideal.proofs.Basics.{same_fid-true}
+use Rattle.spec_ideal.proofs.Basics.{same_fid-true}
 use Rattle.afs_num.specs.Fids.{same_fid}
 use Rattle.afs_num.specs.declared.types.Fid.{Fid}
-use Rattle.afs_rows.specs.ClientRow.{find_cached}
+use Rattle.spec_rows.specs.ClientRow.{find_cached}
 use Rattle.afs_entries.specs.Cached.{entry_at, entry_of, evicted, is_fid}
 use Rattle.afs_entries.proofs.Evicting.{found_after}
 use Rattle.afs_entries.proofs.sight.find_beside.Goals as goal

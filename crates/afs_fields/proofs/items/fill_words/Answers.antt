@@ -2,8 +2,8 @@ use Rattle.std.proofs.Common.{List, ℕ, ◌<◌, ◌≤◌, Ok, ◌∙◌, ap, 
 use Rattle.std.proofs.lemmas.List.{length-set, take_all, take_more_set}
 use Rattle.std.proofs.lemmas.Result.{err_from_is_err_and}
 use Rattle.afs_xdr.specs.Words.{word_at}
-use Rattle.afs_shape.specs.Items.{items_at}
-use Rattle.afs_shape.proofs.Loops.{goes_on, ends, is_done}
+use Rattle.spec_shape.specs.Items.{items_at}
+use Rattle.spec_shape.proofs.Loops.{goes_on, ends, is_done}
 use Rattle.afs_fields.proofs.items.fill_words.Goals as goal
 
 pub returns-in_err-word-clause-value : goal.returns-in_err-word-clause-value

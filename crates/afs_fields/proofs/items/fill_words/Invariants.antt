@@ -1,8 +1,8 @@
 use Rattle.std.proofs.Common.{◌≡◌, ◌-◌, take, length}
 use Rattle.afs_xdr.specs.Reading.{KeepsEnd}
 use Rattle.afs_xdr.specs.Words.{word_at}
-use Rattle.afs_shape.specs.Items.{items_at}
-use Rattle.afs_shape.proofs.Loops.{with_front}
+use Rattle.spec_shape.specs.Items.{items_at}
+use Rattle.spec_shape.proofs.Loops.{with_front}
 use Rattle.afs_fields.proofs.items.fill_words.Given as goal
 
 -- the words so far and those still to read are all

@@ -1,7 +1,7 @@
 use Rattle.std.proofs.Common.{◌∙◌}
 use Rattle.std.proofs.lemmas.Result.{err_from_is_err_and}
-use Rattle.afs_shape.specs.Items.{items_at}
-use Rattle.afs_shape.proofs.Loops.{goes_on, ends}
+use Rattle.spec_shape.specs.Items.{items_at}
+use Rattle.spec_shape.proofs.Loops.{goes_on, ends}
 use Rattle.afs_fields.proofs.lists.read_items.Goals as goal
 
 pub returns-in_err-item-clause-value : goal.returns-in_err-item-clause-value

@@ -1,6 +1,6 @@
 use Rattle.std.proofs.Common.{◌≡◌, ◌-◌}
-use Rattle.afs_shape.specs.Items.{items_at}
-use Rattle.afs_shape.proofs.Loops.{with_front}
+use Rattle.spec_shape.specs.Items.{items_at}
+use Rattle.spec_shape.proofs.Loops.{with_front}
 use Rattle.afs_xdr.specs.Reading.{KeepsEnd}
 use Rattle.afs_fields.proofs.lists.read_items.Given as goal
 

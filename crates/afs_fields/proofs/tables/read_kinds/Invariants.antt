@@ -1,7 +1,7 @@
 use Rattle.std.proofs.Common.{◌≡◌, ◌+◌, drop, length}
 use Rattle.afs_xdr.specs.Reading.{KeepsEnd}
-use Rattle.afs_shape.specs.Reading.{fields_at}
-use Rattle.afs_shape.proofs.Loops.{with_front}
+use Rattle.spec_shape.specs.Reading.{fields_at}
+use Rattle.spec_shape.proofs.Loops.{with_front}
 use Rattle.afs_fields.proofs.tables.read_kinds.Given as goal
 
 -- the fields so far and those still to read are all

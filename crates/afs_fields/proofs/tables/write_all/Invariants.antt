@@ -1,5 +1,5 @@
 use Rattle.std.proofs.Common.{◌≡◌, ◌++◌, take}
-use Rattle.afs_shape.specs.Spelling.{fields_spelled}
+use Rattle.spec_shape.specs.Spelling.{fields_spelled}
 use Rattle.afs_fields.proofs.tables.write_all.Given as goal
 
 abbrev pub invariant-loop-field : goal.invariant-loop-field

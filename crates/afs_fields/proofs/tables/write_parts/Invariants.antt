@@ -1,7 +1,7 @@
 use Rattle.std.proofs.Common.{◌≡◌, ◌++◌, take}
-use Rattle.afs_shape.specs.Spelling.{fields_spelled}
-use Rattle.afs_shape.specs.Parts.{fields_of}
-use Rattle.afs_shape.specs.Tables.{AreInRange}
+use Rattle.spec_shape.specs.Spelling.{fields_spelled}
+use Rattle.spec_shape.specs.Parts.{fields_of}
+use Rattle.spec_shape.specs.Tables.{AreInRange}
 use Rattle.afs_fields.proofs.tables.write_parts.Given as goal
 
 abbrev pub invariant-loop-part : goal.invariant-loop-part

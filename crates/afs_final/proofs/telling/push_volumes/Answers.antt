@@ -1,7 +1,7 @@
 use Rattle.std.proofs.Common.{◌≡◌, ◌++◌, ◌∙◌, ap, sym, Bool, List, ℕ, Some, slice_get, rules}
 use Rattle.std.specs.List.{flat_map}
 use Rattle.afs_text.specs.FinalText.{volume_text}
-use Rattle.afs_records.specs.Durable.{Stored}
+use Rattle.spec_records.specs.Durable.{Stored}
 use Rattle.afs_shelves.specs.Shelving.{stored_as}
 use Rattle.afs_final.specs.Telling.{kept_text, text_at}
 use Rattle.afs_final.proofs.Places.{goes_on, none_left, same_volume}

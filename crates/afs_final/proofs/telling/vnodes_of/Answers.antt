@@ -1,6 +1,6 @@
 use Rattle.std.proofs.Common.{◌≡◌, ap, sym, subst, ◌∙◌, rules, ◌++◌, List, ℕ, slice_get}
 use Rattle.std.specs.List.{flat_map}
-use Rattle.afs_ideal.specs.Tables.{AscendsFrom}
+use Rattle.spec_ideal.specs.Tables.{AscendsFrom}
 use Rattle.afs_vnode.specs.Stores.{Held}
 use Rattle.afs_text.specs.FinalText.{vnode_text}
 use Rattle.afs_volume.specs.Seen.{all_seen}

@@ -1,5 +1,5 @@
 use Rattle.std.proofs.Common.{[], ◌∷◌, ◌++◌, ◌∙◌, ap, arith}
-use Rattle.afs_history.specs.declared.scripts.SetupLine.{SetupLine}
+use Rattle.spec_history.specs.declared.scripts.SetupLine.{SetupLine}
 use Rattle.afs_generate.proofs.Acts.{line_goes_on, lines_end}
 use Rattle.afs_generate.proofs.generate.lines_from.Goals as goal
 

@@ -1,5 +1,5 @@
 use Rattle.std.proofs.Common.{◌≡◌, length, arith, rules, subst}
-use Rattle.afs_ideal.specs.Tables.{AscendsFrom}
+use Rattle.spec_ideal.specs.Tables.{AscendsFrom}
 use Rattle.afs_vnode.specs.Stores.{Held}
 use Rattle.afs_grammar.specs.Lines.{filled_up}
 use Rattle.afs_ground.specs.Sizes.{images_size}

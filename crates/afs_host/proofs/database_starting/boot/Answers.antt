@@ -3,13 +3,13 @@ use Rattle.std.proofs.Common.{refl, ap, sym, subst, ◌∙◌}
 use Rattle.afs_num.specs.declared.faults.StoreFault.{StoreFault}
 use Rattle.afs_num.specs.declared.faults.StoreFault.TheVariants as refusals
 use Rattle.afs_num.specs.declared.types.Node.TheVariants.{Loc}
-use Rattle.afs_history.specs.declared.lines.Line.{Line}
-use Rattle.afs_history.specs.declared.lines.Line.TheVariants as lines
+use Rattle.spec_history.specs.declared.lines.Line.{Line}
+use Rattle.spec_history.specs.declared.lines.Line.TheVariants as lines
 use Rattle.afs_disk.specs.Fuses.{Fused}
 use Rattle.afs_journal.specs.Records.{whole_records}
-use Rattle.afs_records.specs.LocDurable.{loc_can_boot, LocDurable}
-use Rattle.afs_records.specs.LocRecords.{LocRecord}
-use Rattle.afs_rows.specs.LocSteps.{loc_start_row}
+use Rattle.spec_records.specs.LocDurable.{loc_can_boot, LocDurable}
+use Rattle.spec_records.specs.LocRecords.{LocRecord}
+use Rattle.spec_rows.specs.LocSteps.{loc_start_row}
 use Rattle.afs_store.specs.Stores.{IsEarly, StoreOf}
 use Rattle.afs_locdb.specs.Seen.{Database, SameBut}
 use Rattle.afs_host.specs.LocStanding.{loc_keeping}

@@ -1,7 +1,7 @@
 use Rattle.std.proofs.Common.{◌≡◌, ◌<◌, ◌≤◌, ◌-◌, ◌*◌, ℕ, suc, List, ◌++◌, [], ◌∷◌, length, map, None, arith, refl, sym, ◌∙◌, ap, subst, length-append}
 use Rattle.std.proofs.lemmas.List.{length-map, map-append}
 use Rattle.afs_journal.specs.Found.{piece_of}
-use Rattle.afs_journal.specs.Records.{blocks, record_at, whole_records, Fit, StartsWith, EndsAt}
+use Rattle.afs_journal.specs.Records.{blocks, whole_record_at, whole_records, Fit, StartsWith, EndsAt}
 use Rattle.afs_journal.proofs.Crash.{ends_whole, ends_counts}
 use Rattle.afs_journal.proofs.Records.{one_found, all_found, few, fit-push, piece_found}
 use Rattle.afs_journal.proofs.scan.scan.Goals as goal
@@ -22,9 +22,9 @@ loop-body-preserved c =
     }
 
 -- what the loop ends with
-module _ (bytes : List ℕ) (bodies : List (List ℕ)) (rest : List ℕ) (number : ℕ) (split : bytes ≡ blocks 1 bodies ++ rest) (more : 0 < length rest) (fit : Fit 1 bodies) (counted : number ≡ suc (length bodies)) (none : record_at number rest ≡ None) where
+module _ (bytes : List ℕ) (bodies : List (List ℕ)) (rest : List ℕ) (number : ℕ) (split : bytes ≡ blocks 1 bodies ++ rest) (more : 0 < length rest) (fit : Fit 1 bodies) (counted : number ≡ suc (length bodies)) (none : whole_record_at number rest ≡ None) where
   ends : EndsAt (length bytes - length rest) bodies bytes
-  ends = all_found bytes bodies rest (length bytes - length rest) split refl more fit (subst (λ (n : ℕ). record_at n rest ≡ None) counted none)
+  ends = all_found bytes bodies rest (length bytes - length rest) split refl more fit (subst (λ (n : ℕ). whole_record_at n rest ≡ None) counted none)
 
   whole : bodies ≡ whole_records bytes
   whole = ends_whole bodies (length bytes - length rest) bytes ends

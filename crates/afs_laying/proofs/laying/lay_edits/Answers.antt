@@ -1,5 +1,5 @@
 use Rattle.std.proofs.Common.{◌≡◌, Some, map, refl, sym, ap, ◌∙◌}
-use Rattle.afs_records.specs.Changes.{stored_between}
+use Rattle.spec_records.specs.Changes.{stored_between}
 use Rattle.afs_laying.specs.Filled.{at_once}
 use Rattle.afs_changes.specs.Planning.{edits_seen}
 use Rattle.afs_volume.specs.Giving.{volume_of}

@@ -1,9 +1,9 @@
 use Rattle.std.proofs.Common.{◌≡◌, ◌∷◌, ◌+◌, ◌∙◌, refl, drop, true, Some, None, ap, sym, rules}
-use Rattle.afs_ideal.specs.Directories.{named}
-use Rattle.afs_ideal.specs.Operations.{is_kind, named_vnode, number_named}
-use Rattle.afs_ideal.specs.SetUp.{led_to}
-use Rattle.afs_ideal.specs.Tables.{get}
-use Rattle.afs_ideal.specs.Volumes.{a_directory}
+use Rattle.spec_ideal.specs.Directories.{named}
+use Rattle.spec_ideal.specs.Operations.{is_kind, named_vnode, number_named}
+use Rattle.spec_ideal.specs.SetUp.{led_to}
+use Rattle.spec_ideal.specs.Tables.{get}
+use Rattle.spec_ideal.specs.Volumes.{a_directory}
 use Rattle.afs_laying.specs.Filled.{found_seen}
 use Rattle.afs_volume.specs.Giving.{volume_of}
 use Rattle.afs_volume.specs.Seen.{seen}

@@ -1,6 +1,6 @@
 use Rattle.std.proofs.Common.{◌≡◌, drop, Some}
-use Rattle.afs_ideal.specs.SetUp.{led, led_to}
-use Rattle.afs_ideal.specs.Tables.{get}
+use Rattle.spec_ideal.specs.SetUp.{led, led_to}
+use Rattle.spec_ideal.specs.Tables.{get}
 use Rattle.afs_laying.specs.Filled.{found_seen}
 use Rattle.afs_volume.specs.Giving.{volume_of}
 use Rattle.afs_laying.proofs.laying.led.Given as goal

@@ -1,12 +1,12 @@
 use Rattle.std.proofs.Common.{◌≡◌, ◌≤◌, List, true, false, length, nat_lt, rules, sym, subst, ◌∙◌, arith}
 use Rattle.std.proofs.lemmas.Bool.Decides.{nat_tests}
 use Rattle.std.proofs.lemmas.List.{length-map}
-use Rattle.afs_ideal.specs.Operations.{most_bytes}
-use Rattle.afs_ideal.specs.SetUp.{a_file_of, laid_in}
-use Rattle.afs_ideal.specs.Soundness.{IsSound}
-use Rattle.afs_ideal.specs.Volumes.{blocks_in, edited_all}
-use Rattle.afs_ideal.proofs.Looks.{Distinct}
-use Rattle.afs_ideal.proofs.Tables.{ascends_lower}
+use Rattle.spec_ideal.specs.Operations.{most_file_bytes}
+use Rattle.spec_ideal.specs.SetUp.{a_file_of, laid_in}
+use Rattle.spec_ideal.specs.Soundness.{IsSound}
+use Rattle.spec_ideal.specs.Volumes.{blocks_in, edited_all}
+use Rattle.spec_ideal.proofs.Looks.{Distinct}
+use Rattle.spec_ideal.proofs.Tables.{ascends_lower}
 use Rattle.afs_changes.specs.Planning.{edit_seen, edits_seen}
 use Rattle.afs_volume.specs.Giving.{volume_of}
 use Rattle.afs_changes.specs.declared.edits.Edit.{Edit}
@@ -22,7 +22,7 @@ pub returns-in_err-check : goal.returns-in_err-check
 returns-in_err-check c =
     let w = c.args.volume.now in
     let f = failed _ 27 c.in_err-check.field-0.0 c.in_err-check.ensures in
-    let long : nat_lt most_bytes (length c.args.contents.now) ≡ true = grind (arith, nat_tests, f.0, c.len.ensures.value) in
+    let long : nat_lt most_file_bytes (length c.args.contents.now) ≡ true = grind (arith, nat_tests, f.0, c.len.ensures.value) in
     lays_as w.head.id (volume_of w) (laid_in w.head.id (volume_of w) c.args.d.now c.args.name.now (a_file_of c.args.contents.now)) c.from_residual-in_err-check.result c.in_err-check.field-0.0 (search rules)
     (code_as (laid_in w.head.id (volume_of w) c.args.d.now c.args.name.now (a_file_of c.args.contents.now)) 27 c.in_err-check.field-0.0 f.1 (long_refused w.head.id c.args.d.now c.args.name.now c.args.contents.now (volume_of w) (sound w) c.in_ok-accepts_file.ensures.accepts long))
 
@@ -46,7 +46,7 @@ returns-in_err-check-2 c =
     let w = c.args.volume.now in
     let p = passed _ 27 _ c.in_ok-check.ensures in
     let f = failed _ 109 c.in_err-check-2.field-0.0 c.in_err-check-2.ensures in
-    let short : nat_lt most_bytes (length c.args.contents.now) ≡ false = grind (arith, nat_tests, p, c.len.ensures.value) in
+    let short : nat_lt most_file_bytes (length c.args.contents.now) ≡ false = grind (arith, nat_tests, p, c.len.ensures.value) in
     let more = not_false (nat_lt w.head.quota (blocks_in (edited_all w.head.id (edits_seen c.as_slice.result.now) (volume_of w)).vnodes)) (sym c.is_within_quota.ensures ∙ f.0) in
     let over = subst (λ (es : List Edit). nat_lt w.head.quota (blocks_in (edited_all w.head.id (edits_seen es) (volume_of w)).vnodes) ≡ true) c.as_slice.ensures more in
     lays_as w.head.id (volume_of w) (laid_in w.head.id (volume_of w) c.args.d.now c.args.name.now (a_file_of c.args.contents.now)) c.from_residual-in_err-check-2.result c.in_err-check-2.field-0.0 (search rules)
@@ -58,7 +58,7 @@ returns c =
     let w = c.args.volume.now in
     let p = passed _ 27 _ c.in_ok-check.ensures in
     let q = passed _ 109 _ c.in_ok-check-2.ensures in
-    let short : nat_lt most_bytes (length c.args.contents.now) ≡ false = grind (arith, nat_tests, p, c.len.ensures.value) in
+    let short : nat_lt most_file_bytes (length c.args.contents.now) ≡ false = grind (arith, nat_tests, p, c.len.ensures.value) in
     let less = not_true (nat_lt w.head.quota (blocks_in (edited_all w.head.id (edits_seen c.as_slice.result.now) (volume_of w)).vnodes)) (sym c.is_within_quota.ensures ∙ q) in
     let enough = subst (λ (es : List Edit). nat_lt w.head.quota (blocks_in (edited_all w.head.id (edits_seen es) (volume_of w)).vnodes) ≡ false) c.as_slice.ensures less in
     file_lays w.head.id c.args.d.now c.args.name.now c.args.contents.now (volume_of w) (edits_seen c.in_ok-edits.edits) (sound w) c.in_ok-accepts_file.ensures.few c.in_ok-edits.ensures short enough

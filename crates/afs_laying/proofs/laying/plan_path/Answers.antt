@@ -1,7 +1,7 @@
 use Rattle.std.proofs.Common.{◌≡◌, ◌-◌, ℕ, pos, length, take, slice_get, Some, None, Result, rules, sym, ap, subst}
 use Rattle.std.specs.Option.{option_map}
-use Rattle.afs_ideal.specs.SetUp.{a_file_of, laid_at}
-use Rattle.afs_ideal.specs.Volumes.{Volume}
+use Rattle.spec_ideal.specs.SetUp.{a_file_of, laid_at}
+use Rattle.spec_ideal.specs.Volumes.{Volume}
 use Rattle.afs_laying.specs.Filled.{code_in, LaysEdits}
 use Rattle.afs_volume.specs.Giving.{volume_of}
 use Rattle.afs_laying.proofs.Files.{lays_as}

@@ -1,7 +1,7 @@
 use Rattle.std.proofs.Common.{◌≡◌, ◌-◌, ℕ, List, pos, length, take, slice_get, Some, None, Result, rules, ap, sym, ◌∙◌}
 use Rattle.std.specs.Option.{option_map}
-use Rattle.afs_ideal.specs.SetUp.{laid_at, laid_in, Laid}
-use Rattle.afs_ideal.specs.Volumes.{Volume}
+use Rattle.spec_ideal.specs.SetUp.{laid_at, laid_in, Laid}
+use Rattle.spec_ideal.specs.Volumes.{Volume}
 use Rattle.afs_laying.specs.Filled.{code_in, IsCodeOf}
 use Rattle.afs_volume.specs.Giving.{volume_of}
 use Rattle.afs_reads.specs.declared.faults.OpFault.{OpFault}

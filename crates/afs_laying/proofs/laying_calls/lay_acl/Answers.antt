@@ -1,6 +1,6 @@
 use Rattle.std.proofs.Common.{refl, rules}
 use Rattle.afs_num.specs.declared.calls.FsCall.TheVariants as calls
-use Rattle.afs_ideal.specs.SetUp.{acl_laid, called}
+use Rattle.spec_ideal.specs.SetUp.{acl_laid, called}
 use Rattle.afs_volume.specs.Giving.{volume_of}
 use Rattle.afs_laying.proofs.Called.{lays_as, lays_refused, list_led, list_refused}
 use Rattle.afs_laying.proofs.laying_calls.lay_acl.Goals as goal

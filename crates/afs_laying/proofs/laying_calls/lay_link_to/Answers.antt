@@ -1,5 +1,5 @@
 use Rattle.std.proofs.Common.{refl, rules}
-use Rattle.afs_ideal.specs.SetUp.{a_link_to, laid_at}
+use Rattle.spec_ideal.specs.SetUp.{a_link_to, laid_at}
 use Rattle.afs_volume.specs.Giving.{volume_of}
 use Rattle.afs_laying.proofs.Called.{lays_refused}
 use Rattle.afs_laying.proofs.laying_calls.lay_link_to.Goals as goal

@@ -1,5 +1,5 @@
 use Rattle.std.proofs.Common.{◌≡◌, ◌++◌, drop}
-use Rattle.afs_records.specs.LocDurable.{lines_listed}
+use Rattle.spec_records.specs.LocDurable.{lines_listed}
 use Rattle.afs_locdb.proofs.creating.entries_of.Given as goal
 
 abbrev pub invariant-loop-line : goal.invariant-loop-line

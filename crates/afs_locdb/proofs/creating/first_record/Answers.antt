@@ -1,5 +1,5 @@
 use Rattle.std.proofs.Common.{sym, subst}
-use Rattle.afs_records.specs.LocRecords.{FitsLocRecord}
+use Rattle.spec_records.specs.LocRecords.{FitsLocRecord}
 use Rattle.afs_locdb.proofs.Recorded.{first_fits}
 use Rattle.afs_locdb.proofs.creating.first_record.Goals as goal
 

@@ -1,7 +1,7 @@
 use Rattle.std.proofs.Common.{drop}
 use Rattle.std.specs.List.{AllByRecursion}
 use Rattle.afs_num.specs.declared.location_calls.LocSite.{LocSite}
-use Rattle.afs_shape.specs.Spelling.{site_words}
+use Rattle.spec_shape.specs.Spelling.{site_words}
 use Rattle.afs_xdr.specs.Words.{AreWords}
 use Rattle.afs_locdb.proofs.forms.are_of_words.Given as goal
 

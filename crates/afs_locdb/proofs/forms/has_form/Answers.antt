@@ -1,7 +1,7 @@
 use Rattle.std.proofs.Common.{subst, List}
 use Rattle.std.specs.List.{AllByRecursion}
 use Rattle.afs_num.specs.declared.location_calls.LocSite.{LocSite}
-use Rattle.afs_shape.specs.Spelling.{site_words}
+use Rattle.spec_shape.specs.Spelling.{site_words}
 use Rattle.afs_xdr.specs.Words.{AreWords}
 use Rattle.afs_locdb.proofs.Formed.{entry_formed}
 use Rattle.afs_locdb.proofs.forms.has_form.Goals as goal

@@ -1,5 +1,5 @@
 use Rattle.std.proofs.Common.{refl, sym, subst}
-use Rattle.afs_records.specs.LocRecords.{entry_form, Listed}
+use Rattle.spec_records.specs.LocRecords.{entry_form, Listed}
 use Rattle.afs_locdb.proofs.Formed.{entry_within}
 use Rattle.afs_locdb.proofs.operations.get_by_id.Goals as goal
 

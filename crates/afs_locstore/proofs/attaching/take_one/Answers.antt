@@ -1,5 +1,5 @@
 use Rattle.std.proofs.Common.{sym, subst, rules}
-use Rattle.afs_records.specs.LocRecords.{LocRecord}
+use Rattle.spec_records.specs.LocRecords.{LocRecord}
 use Rattle.afs_store.proofs.Folding.{bad_alone, takes_one}
 use Rattle.afs_locrecord.specs.Bodies as records
 use Rattle.afs_locstore.specs.Kept.{IsCaller}

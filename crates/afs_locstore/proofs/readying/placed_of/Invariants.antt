@@ -1,7 +1,7 @@
 use Rattle.std.proofs.Common.{◌≡◌, ◌++◌}
 use Rattle.std.specs.List.{AllByRecursion}
 use Rattle.std.specs.Vec.Iter.{into_iter_items}
-use Rattle.afs_records.specs.LocRecords.{listed_form}
+use Rattle.spec_records.specs.LocRecords.{listed_form}
 use Rattle.afs_locstore.specs.Listings.{are_placed, CanBeAllPut}
 use Rattle.afs_locstore.proofs.readying.placed_of.Given as goal
 

@@ -1,6 +1,6 @@
 use Rattle.std.proofs.Common.{◌<◌, ℕ, Option, sym, subst}
 use Rattle.std.specs.Prelude.{IfSome}
-use Rattle.afs_records.specs.LocRecords.{listed_form, Listed}
+use Rattle.spec_records.specs.LocRecords.{listed_form, Listed}
 use Rattle.afs_locstore.proofs.Sites.{site_is_small}
 use Rattle.afs_locstore.proofs.state.tell_set.Goals as goal
 

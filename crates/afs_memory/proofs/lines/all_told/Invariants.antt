@@ -1,5 +1,5 @@
 use Rattle.std.proofs.Common.{◌≡◌, ◌++◌, drop, map}
-use Rattle.afs_records.specs.Durable.{outcome_versions}
+use Rattle.spec_records.specs.Durable.{outcome_versions}
 use Rattle.afs_volume.specs.Seen.{volume_seen}
 use Rattle.afs_memory.specs.Telling.{outcomes_seen, version_within}
 use Rattle.afs_memory.proofs.lines.all_told.Given as goal

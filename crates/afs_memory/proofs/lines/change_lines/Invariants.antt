@@ -1,7 +1,7 @@
 use Rattle.std.proofs.Common.{◌≡◌, ◌++◌, ◌∷◌, length, map, min}
 use Rattle.std.specs.Vec.Iter.{into_iter_items}
-use Rattle.afs_history.specs.declared.lines.Line.TheVariants as lines
-use Rattle.afs_ideal.specs.Operations.{last_count}
+use Rattle.spec_history.specs.declared.lines.Line.TheVariants as lines
+use Rattle.spec_ideal.specs.Operations.{last_count}
 use Rattle.afs_memory.proofs.lines.change_lines.Given as goal
 
 abbrev pub invariant-loop-version : goal.invariant-loop-version

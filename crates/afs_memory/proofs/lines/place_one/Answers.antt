@@ -1,6 +1,6 @@
 use Rattle.std.proofs.Common.{ap, sym, refl, drop, List}
 use Rattle.afs_num.specs.declared.vnodes.Vnode as image
-use Rattle.afs_records.specs.Durable.{with_outcomes}
+use Rattle.spec_records.specs.Durable.{with_outcomes}
 use Rattle.afs_memory.specs.Telling.{outcomes_seen}
 use Rattle.afs_shelves.proofs.Lists.{on_ok}
 use Rattle.afs_shelves.proofs.Lists.{drop_none}

@@ -1,5 +1,5 @@
 use Rattle.std.proofs.Common.{◌≡◌, [], drop}
-use Rattle.afs_records.specs.Durable.{with_outcomes}
+use Rattle.spec_records.specs.Durable.{with_outcomes}
 use Rattle.afs_memory.specs.Telling.{outcomes_seen}
 use Rattle.afs_memory.proofs.lines.places.Given as goal
 

@@ -1,5 +1,5 @@
 use Rattle.std.proofs.Common.{ℕ, ap, sym, List}
-use Rattle.afs_records.specs.Durable.{with_removed}
+use Rattle.spec_records.specs.Durable.{with_removed}
 use Rattle.afs_memory.specs.Telling.{outcomes_seen}
 use Rattle.afs_shelves.proofs.Lists.{on_ok}
 use Rattle.afs_shelves.proofs.Lists.{drop_none}

@@ -1,6 +1,6 @@
 use Rattle.std.proofs.Common.{ℕ, ◌++◌, ap, sym, map, Option}
-use Rattle.afs_ideal.specs.Tables.{Table}
-use Rattle.afs_records.specs.Durable.{outcome_versions}
+use Rattle.spec_ideal.specs.Tables.{Table}
+use Rattle.spec_records.specs.Durable.{outcome_versions}
 use Rattle.afs_volume.specs.Seen.{volume_seen}
 use Rattle.afs_memory.specs.Telling.{outcomes_seen, version_within}
 use Rattle.afs_shelves.proofs.Lists.{on_ok}

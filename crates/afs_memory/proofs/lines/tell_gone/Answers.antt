@@ -1,8 +1,8 @@
 use Rattle.std.proofs.Common.{◌≡◌, ◌++◌, ◌∷◌, [], ◌∙◌, List, refl, ap, sym, map}
 use Rattle.afs_num.specs.declared.histories.Version.{Version}
 use Rattle.afs_num.specs.declared.volumes.VolumeHead.{VolumeHead}
-use Rattle.afs_ideal.specs.Tables.{get}
-use Rattle.afs_ideal.specs.Volumes.{gone_at}
+use Rattle.spec_ideal.specs.Tables.{get}
+use Rattle.spec_ideal.specs.Volumes.{gone_at}
 use Rattle.afs_volume.specs.Seen.{seen}
 use Rattle.afs_vnode.specs.Stores.{Held}
 use Rattle.afs_memory.specs.Telling.{version_within}

@@ -1,6 +1,6 @@
 use Rattle.std.proofs.Common.{◌≡◌, ◌++◌, ◌∷◌, [], ◌∙◌, List, Option, Some, None, ap, sym, map}
 use Rattle.afs_num.specs.declared.histories.Version.{Version}
-use Rattle.afs_ideal.specs.Volumes.{Vnode}
+use Rattle.spec_ideal.specs.Volumes.{Vnode}
 use Rattle.afs_volume.specs.Seen.{volume_seen}
 use Rattle.afs_memory.specs.Telling.{outcome_at, told_at, value_there, version_within}
 use Rattle.afs_shelves.proofs.Lists.{on_ok}

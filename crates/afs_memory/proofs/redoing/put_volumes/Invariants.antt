@@ -1,7 +1,7 @@
 use Rattle.std.proofs.Common.{◌≡◌, ◌≤◌, map, length}
 use Rattle.std.specs.List.{AllByRecursion}
 use Rattle.std.specs.Vec.Iter.{into_iter_items}
-use Rattle.afs_records.specs.Durable.{Durable, with_volumes}
+use Rattle.spec_records.specs.Durable.{Durable, with_volumes}
 use Rattle.afs_shelves.specs.Numbered.{AreShelved}
 use Rattle.afs_memory.specs.Redoing.{holding}
 use Rattle.afs_memory.specs.Redos.{told, IsMadeAgain}

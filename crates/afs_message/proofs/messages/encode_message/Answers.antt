@@ -1,6 +1,6 @@
 use Rattle.std.proofs.Common.{ap, ◌∙◌}
-use Rattle.afs_model.specs.Messages.{received}
-use Rattle.afs_model.proofs.Spellings.{message_again}
+use Rattle.spec_model.specs.Messages.{received}
+use Rattle.spec_model.proofs.Spellings.{message_again}
 use Rattle.afs_message.proofs.messages.encode_message.Goals as goal
 
 pub returns-clause-read : goal.returns-clause-read

@@ -1,8 +1,8 @@
 use Rattle.std.proofs.Common.{◌≡◌, Result, Ok, Err, subst, sym, arith}
 use Rattle.std.specs.Prelude.{IfOk}
 use Rattle.afs_num.specs.declared.messages.Received.{Received}
-use Rattle.afs_model.specs.Messages.{IsSoundReceived}
-use Rattle.afs_model.proofs.Spellings.{read_sound}
+use Rattle.spec_model.specs.Messages.{IsSoundReceived}
+use Rattle.spec_model.proofs.Spellings.{read_sound}
 use Rattle.afs_message.proofs.messages.read_message.Goals as goal
 
 sound_where_read : {E : Type 0} (result : Result Received E) (x : Received) → IfOk result (λ y. y ≡ x) → IsSoundReceived x → IfOk result IsSoundReceived

@@ -1,8 +1,8 @@
 use Rattle.std.proofs.Common.{◌≡◌, arith, ap, sym, subst}
-use Rattle.afs_model.specs.CellRows.{all_calls}
-use Rattle.afs_model.specs.Messages.{received, HasSpelling, IsSoundReceived}
-use Rattle.afs_model.proofs.Headers.{no_header, read_head_is}
-use Rattle.afs_model.proofs.Spellings.{read_sound}
+use Rattle.spec_model.specs.CellRows.{all_calls}
+use Rattle.spec_model.specs.Messages.{received, HasSpelling, IsSoundReceived}
+use Rattle.spec_model.proofs.Headers.{no_header, read_head_is}
+use Rattle.spec_model.proofs.Spellings.{read_sound}
 use Rattle.afs_message.specs.Spelled.{message_read}
 use Rattle.afs_message.proofs.spelled.head_in.Goals as goal
 

@@ -1,6 +1,6 @@
 use Rattle.std.proofs.Common.{rules}
 use Rattle.std.proofs.lemmas.Fn.{filter_same}
-use Rattle.afs_adminrows.specs.AdminRow.{has_other_label}
+use Rattle.spec_adminrows.specs.AdminRow.{has_other_label}
 use Rattle.afs_mover.proofs.dumps.drop_labelled.Goals as goal
 
 pub returns-clause-items : goal.returns-clause-items

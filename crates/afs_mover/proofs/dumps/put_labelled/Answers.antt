@@ -1,6 +1,6 @@
 use Rattle.std.proofs.Common.{◌≡◌, [], ◌∷◌, ◌++◌, filter, rules, subst, sym}
 use Rattle.afs_adminparts.specs.Fitting.{FitDumps}
-use Rattle.afs_adminrows.specs.AdminRow.{has_other_label}
+use Rattle.spec_adminrows.specs.AdminRow.{has_other_label}
 use Rattle.afs_mover.proofs.Held.{fits_put}
 use Rattle.afs_mover.proofs.dumps.put_labelled.Goals as goal
 

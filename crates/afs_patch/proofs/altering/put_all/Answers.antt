@@ -1,6 +1,6 @@
 use Rattle.std.proofs.Common.{◌≡◌, ◌∷◌, false, true, rules}
 use Rattle.std.specs.Vec.Iter.{into_iter_items}
-use Rattle.afs_ideal.specs.VnodeMaps.{is_full_for}
+use Rattle.spec_ideal.specs.VnodeMaps.{is_full_for}
 use Rattle.afs_volume.specs.Taking.{is_among}
 use Rattle.afs_patch.proofs.Left.{many_left}
 use Rattle.afs_patch.proofs.altering.put_all.Goals as goal

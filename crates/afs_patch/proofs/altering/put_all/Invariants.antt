@@ -1,7 +1,7 @@
 use Rattle.std.proofs.Common.{◌≡◌}
 use Rattle.std.specs.List.{AllByRecursion}
 use Rattle.std.specs.Vec.Iter.{into_iter_items}
-use Rattle.afs_ideal.specs.VnodeImage.{FitsImage}
+use Rattle.spec_ideal.specs.VnodeImage.{FitsImage}
 use Rattle.afs_vnode.specs.Stores.{AreVnodes}
 use Rattle.afs_volume.specs.Taking.{put_but}
 use Rattle.afs_patch.proofs.altering.put_all.Given as goal

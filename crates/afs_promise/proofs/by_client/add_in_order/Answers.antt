@@ -1,6 +1,6 @@
 use Rattle.std.proofs.Common.{◌≡◌, ◌+◌, ◌++◌, ◌∷◌, [], List, Some, None, rules, sym, ap, ◌∙◌, arith, append_assoc, append-nil}
-use Rattle.afs_breaks.specs.declared.types.Promise.{Promise}
-use Rattle.afs_breaks.specs.Promises.{lasting}
+use Rattle.spec_breaks.specs.declared.types.Promise.{Promise}
+use Rattle.spec_breaks.specs.Promises.{lasting}
 use Rattle.afs_promise.proofs.Gathering.{first_is_within}
 use Rattle.afs_promise.proofs.Since.{lasting_first}
 use Rattle.afs_promise.proofs.by_client.add_in_order.Goals as goal

@@ -1,6 +1,6 @@
 use Rattle.std.proofs.Common.{◌≡◌, ◌-◌, ◌++◌, ℕ, List}
-use Rattle.afs_breaks.specs.declared.types.Promise.{Promise}
-use Rattle.afs_breaks.specs.Promises.{lasting}
+use Rattle.spec_breaks.specs.declared.types.Promise.{Promise}
+use Rattle.spec_breaks.specs.Promises.{lasting}
 use Rattle.afs_promise.specs.Gathered.{IsInOrder}
 use Rattle.afs_promise.proofs.by_client.add_in_order.Given as goal
 

@@ -1,5 +1,5 @@
 use Rattle.std.proofs.Common.{◌≡◌, ◌+◌, ◌++◌, drop}
-use Rattle.afs_breaks.specs.Promises.{owes_from}
+use Rattle.spec_breaks.specs.Promises.{owes_from}
 use Rattle.afs_promise.specs.Granting.{promises_in}
 use Rattle.afs_promise.proofs.promises.owe_each.Given as goal
 

@@ -1,5 +1,5 @@
 use Rattle.std.proofs.Common.{◌≡◌, ◌≤◌, ◌+◌, drop, length}
-use Rattle.afs_breaks.specs.Promises.{with_promises}
+use Rattle.spec_breaks.specs.Promises.{with_promises}
 use Rattle.afs_promise.proofs.promises.put_each.Given as goal
 
 abbrev pub invariant-loop-fid : goal.invariant-loop-fid

@@ -1,5 +1,5 @@
 use Rattle.std.proofs.Common.{◌≡◌, ◌+◌, ◌++◌, drop}
-use Rattle.afs_breaks.specs.Promises.{owes_from}
+use Rattle.spec_breaks.specs.Promises.{owes_from}
 use Rattle.afs_promise.specs.Found.{without_found}
 use Rattle.afs_promise.proofs.promises.take_found.Given as goal
 

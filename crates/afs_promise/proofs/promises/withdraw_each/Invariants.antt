@@ -1,5 +1,5 @@
 use Rattle.std.proofs.Common.{◌≡◌, ◌≤◌, ◌+◌, ◌++◌, length}
-use Rattle.afs_breaks.specs.Promises.{owes_from, hits, left}
+use Rattle.spec_breaks.specs.Promises.{owes_from, hits, left}
 use Rattle.afs_promise.proofs.promises.withdraw_each.Given as goal
 
 abbrev pub invariant-loop-promise : goal.invariant-loop-promise

@@ -1,5 +1,5 @@
 use Rattle.std.proofs.Common.{◌+◌, arith, rules}
-use Rattle.afs_shape.specs.Rows.{no_callback}
+use Rattle.spec_shape.specs.Rows.{no_callback}
 use Rattle.afs_reads.proofs.Statuses.{one_more_same}
 use Rattle.afs_reads.proofs.bulk.no_callbacks.Goals as goal
 

@@ -1,6 +1,6 @@
 use Rattle.std.proofs.Common.{◌≡◌, map, take}
 use Rattle.afs_num.specs.declared.types.Fid.{Fid}
-use Rattle.afs_shape.specs.Rows.{no_callback}
+use Rattle.spec_shape.specs.Rows.{no_callback}
 use Rattle.afs_reads.proofs.bulk.no_callbacks.Given as goal
 
 abbrev pub invariant-loop-fid : goal.invariant-loop-fid

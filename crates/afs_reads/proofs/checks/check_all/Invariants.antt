@@ -1,6 +1,6 @@
 use Rattle.std.proofs.Common.{◌≡◌, drop}
 use Rattle.std.specs.List.{AllByRecursion}
-use Rattle.afs_ideal.specs.Operations.{first_failing}
+use Rattle.spec_ideal.specs.Operations.{first_failing}
 use Rattle.afs_reads.specs.Replying.{HasPassed}
 use Rattle.afs_reads.proofs.checks.check_all.Given as goal
 

@@ -2,8 +2,8 @@ use Rattle.std.proofs.Common.{◌≡◌, None, false, rules, sym, subst}
 use Rattle.std.specs.List.{list_all}
 use Rattle.afs_num.specs.declared.records.RecordBody.{RecordBody}
 use Rattle.afs_num.specs.declared.records.RecordBody.TheVariants as bodies
-use Rattle.afs_fold.specs.Fold.{body_taken}
-use Rattle.afs_records.specs.Records.{row}
+use Rattle.spec_fold.specs.Fold.{body_taken}
+use Rattle.spec_records.specs.Records.{row}
 use Rattle.afs_volume.specs.Assembling.{can_be_read}
 use Rattle.afs_memory.specs.States.{parts_of}
 use Rattle.afs_readying.proofs.Readied.{change_fits}

@@ -1,7 +1,7 @@
 use Rattle.std.proofs.Common.{◌≡◌, ◌∷◌, false, rules, arith}
 use Rattle.std.specs.Vec.Iter.{into_iter_items}
-use Rattle.afs_ideal.specs.VnodeMaps.{is_full_for}
-use Rattle.afs_records.specs.Durable.{by_number}
+use Rattle.spec_ideal.specs.VnodeMaps.{is_full_for}
+use Rattle.spec_records.specs.Durable.{by_number}
 use Rattle.afs_readying.proofs.Readied.{ascends_of, is_room, one_put}
 use Rattle.afs_readying.proofs.readying.store_of.Goals as goal
 

@@ -1,8 +1,8 @@
 use Rattle.std.proofs.Common.{◌≡◌, ◌++◌}
 use Rattle.std.specs.List.{AllByRecursion}
 use Rattle.std.specs.Vec.Iter.{into_iter_items}
-use Rattle.afs_ideal.specs.VnodeImage.{FitsImage}
-use Rattle.afs_records.specs.Durable.{by_number}
+use Rattle.spec_ideal.specs.VnodeImage.{FitsImage}
+use Rattle.spec_records.specs.Durable.{by_number}
 use Rattle.afs_readying.proofs.readying.store_of.Given as goal
 
 abbrev pub invariant-loop-vnode : goal.invariant-loop-vnode

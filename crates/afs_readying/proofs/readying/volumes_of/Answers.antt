@@ -1,7 +1,7 @@
 use Rattle.std.proofs.Common.{◌≡◌, ◌∷◌, ◌++◌, ◌∙◌, ap, sym, map, None, List, rules}
 use Rattle.std.specs.Vec.Iter.{into_iter_items}
 use Rattle.afs_num.specs.declared.records.StoredVolume.{StoredVolume}
-use Rattle.afs_records.specs.Durable.{stored_of, with_volumes}
+use Rattle.spec_records.specs.Durable.{stored_of, with_volumes}
 use Rattle.afs_memory.specs.Redos.{told}
 use Rattle.afs_readying.proofs.Readied.{none_among}
 use Rattle.afs_readying.proofs.readying.volumes_of.Goals as goal

@@ -1,7 +1,7 @@
 use Rattle.std.proofs.Common.{◌≡◌, ◌++◌, map}
 use Rattle.std.specs.List.{AllByRecursion}
 use Rattle.std.specs.Vec.Iter.{into_iter_items}
-use Rattle.afs_records.specs.Records.{volume_form}
+use Rattle.spec_records.specs.Records.{volume_form}
 use Rattle.afs_memory.specs.Redos.{told, IsMadeAgain}
 use Rattle.afs_readying.proofs.readying.volumes_of.Given as goal
 

@@ -1,5 +1,5 @@
 use Rattle.afs_record.proofs.Loops.{goes_on}
-use Rattle.afs_records.specs.Forms.{many_at}
+use Rattle.spec_records.specs.Forms.{many_at}
 use Rattle.afs_record.proofs.lists.read_many.Goals as goal
 
 pub loop-preserved : goal.loop-preserved

@@ -1,5 +1,5 @@
 use Rattle.std.proofs.Common.{◌≡◌, ◌-◌}
-use Rattle.afs_records.specs.Forms.{many_at}
+use Rattle.spec_records.specs.Forms.{many_at}
 use Rattle.afs_record.proofs.Loops.{with_front}
 use Rattle.afs_record.proofs.lists.read_many.Given as goal
 

@@ -1,5 +1,5 @@
 use Rattle.std.proofs.Common.{◌≡◌, drop}
-use Rattle.afs_records.specs.Records.{are_listed}
+use Rattle.spec_records.specs.Records.{are_listed}
 use Rattle.afs_record.proofs.volumes.are_listed.Given as goal
 
 abbrev pub invariant-loop-pair : goal.invariant-loop-pair

@@ -1,5 +1,5 @@
 use Rattle.std.proofs.Common.{◌≡◌, drop}
-use Rattle.afs_records.specs.Records.{ascend_from}
+use Rattle.spec_records.specs.Records.{ascend_from}
 use Rattle.afs_record.proofs.volumes.ascend.Given as goal
 
 abbrev pub invariant-loop-vnode : goal.invariant-loop-vnode

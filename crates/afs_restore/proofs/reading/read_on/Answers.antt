@@ -1,7 +1,7 @@
 use Rattle.std.proofs.Common.{◌≡◌, ℕ, ◌-◌, length, drop, subst, sym, ◌∙◌, rules, arith}
 use Rattle.std.specs.Prelude.{Err}
-use Rattle.afs_dumps.specs.Fields.{took}
-use Rattle.afs_dumps.specs.Laws.{IsReading}
+use Rattle.spec_dumps.specs.Fields.{took}
+use Rattle.spec_dumps.specs.Laws.{IsReading}
 use Rattle.afs_restore.specs.ReadOn.{bytes_read, Reaches}
 use Rattle.afs_restore.specs.Reading.{ReadsField}
 use Rattle.afs_restore.specs.Steps.{stage_of, stepped_past, StaysThere}

@@ -1,6 +1,6 @@
 use Rattle.std.proofs.Common.{◌≡◌, ◌≤◌, ◌-◌, drop, length}
-use Rattle.afs_ideal.specs.DirectoryLaws.{IsBytes}
-use Rattle.afs_dumps.specs.Laws.{IsReading}
+use Rattle.afs_xdr.specs.Words.{IsBytes}
+use Rattle.spec_dumps.specs.Laws.{IsReading}
 use Rattle.afs_restore.specs.Parts.{Keeps}
 use Rattle.afs_restore.specs.ReadOn.{bytes_read}
 use Rattle.afs_restore.specs.Steps.{stage_of, IsStep}

@@ -1,5 +1,5 @@
 use Rattle.std.proofs.Common.{ℕ, List, ◌++◌, Err, sym, ap, ◌∙◌}
-use Rattle.afs_dumps.specs.Restores.{fed}
+use Rattle.spec_dumps.specs.Restores.{fed}
 use Rattle.afs_volume.specs.Taking.{stored_of}
 use Rattle.afs_restore.specs.declared.faults.DumpFault.{DumpFault}
 use Rattle.afs_restore.proofs.Finished.{refused_finished, same_fault}

@@ -1,5 +1,5 @@
 use Rattle.std.proofs.Common.{List, Option, IfSome, subst, arith}
-use Rattle.afs_ideal.specs.Images.{Image}
+use Rattle.spec_ideal.specs.Images.{Image}
 use Rattle.afs_restore.specs.Filling.{AreMade}
 use Rattle.afs_restore.proofs.Made.{made_ascend, made_few, made_fit}
 use Rattle.afs_restore.proofs.restoring.assembled.Goals as goal

@@ -1,5 +1,5 @@
 use Rattle.std.proofs.Common.{◌+◌, slice_index_or, drop, take, List, ℕ, Option, sym, ap, ◌∙◌, arith}
-use Rattle.afs_ideal.specs.Images.{Image}
+use Rattle.spec_ideal.specs.Images.{Image}
 use Rattle.afs_restore.specs.Filling.{filled, given_in, kept, next_given, or_kept}
 use Rattle.afs_restore.proofs.Filled.{next_filled}
 use Rattle.afs_restore.proofs.Given.{first_good}

@@ -1,6 +1,6 @@
 use Rattle.std.proofs.Common.{List, ℕ, subst, sym}
-use Rattle.afs_ideal.specs.DirectoryLaws.{IsBytes}
-use Rattle.afs_ideal.specs.Images.{Image}
+use Rattle.afs_xdr.specs.Words.{IsBytes}
+use Rattle.spec_ideal.specs.Images.{Image}
 use Rattle.afs_restore.specs.Filling.{IsMade}
 use Rattle.afs_restore.proofs.Good.{good_made}
 use Rattle.afs_restore.proofs.restoring.given_copy.Goals as goal

@@ -1,5 +1,5 @@
 use Rattle.std.proofs.Common.{subst, sym}
-use Rattle.afs_ideal.specs.Images.{Image}
+use Rattle.spec_ideal.specs.Images.{Image}
 use Rattle.afs_restore.specs.Filling.{IsMade}
 use Rattle.afs_restore.proofs.restoring.kept.Goals as goal
 

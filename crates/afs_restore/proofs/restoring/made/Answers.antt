@@ -1,7 +1,7 @@
 use Rattle.std.proofs.Common.{◌≡◌, ℕ, Bool, List, IfSome, nat_eq, ap, subst, sym, ◌∙◌}
 use Rattle.std.specs.Prelude.{◌&&◌, not}
 use Rattle.afs_num.specs.declared.volumes.VolumeHead.{VolumeHead}
-use Rattle.afs_ideal.specs.Images.{Image}
+use Rattle.spec_ideal.specs.Images.{Image}
 use Rattle.afs_vnode.specs.Stores.{Held}
 use Rattle.afs_volume.specs.Seen.{AreReadable}
 use Rattle.afs_restore.specs.Filling.{filled, given_in, AreMade}

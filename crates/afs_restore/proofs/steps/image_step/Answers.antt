@@ -1,6 +1,6 @@
 use Rattle.std.proofs.Common.{ℕ, Option, refl, ap, ◌∙◌, drop}
-use Rattle.afs_dumps.specs.Fields.{took}
-use Rattle.afs_dumps.specs.Streams.{next_at}
+use Rattle.spec_dumps.specs.Fields.{took}
+use Rattle.spec_dumps.specs.Streams.{next_at}
 use Rattle.afs_restore.specs.Steps.{stage_of}
 use Rattle.afs_restore.specs.declared.steps.Step.{Step}
 use Rattle.afs_restore.specs.declared.steps.Step.TheVariants as steps

@@ -1,4 +1,4 @@
-use Rattle.afs_model.proofs.RpcLaws.{call_spells}
+use Rattle.spec_model.proofs.RpcLaws.{call_spells}
 use Rattle.afs_rpc.proofs.calls.encode_call.Goals as goal
 
 pub returns-clause-spells : goal.returns-clause-spells

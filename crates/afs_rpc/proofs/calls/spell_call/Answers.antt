@@ -1,4 +1,4 @@
-use Rattle.afs_model.proofs.RpcLaws.{message_spellable}
+use Rattle.spec_model.proofs.RpcLaws.{message_spellable}
 use Rattle.afs_rpc.proofs.calls.spell_call.Goals as goal
 
 pub write-requires : goal.write-requires

@@ -1,5 +1,5 @@
 use Rattle.std.proofs.Common.{arith}
-use Rattle.afs_model.proofs.RpcLaws.{read_reply_is_spelled, spelled_reply_is_read}
+use Rattle.spec_model.proofs.RpcLaws.{read_reply_is_spelled, spelled_reply_is_read}
 use Rattle.afs_rpc.proofs.replies.decode_reply.Goals as goal
 
 pub returns-clause-spelled : goal.returns-clause-spelled

@@ -1,5 +1,5 @@
 use Rattle.std.specs.Option.{option_copied}
-use Rattle.afs_model.proofs.RpcLaws.{reply_spells}
+use Rattle.spec_model.proofs.RpcLaws.{reply_spells}
 use Rattle.afs_rpc.proofs.replies.encode_reply.Goals as goal
 
 pub returns-clause-spells : goal.returns-clause-spells

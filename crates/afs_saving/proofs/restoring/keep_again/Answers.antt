@@ -1,8 +1,8 @@
 use Rattle.std.proofs.Common.{◌≡◌, rules, List, [], ◌∷◌, ◌++◌, Some, None, ap, sym, subst, ◌∙◌}
 use Rattle.afs_num.specs.Nodes.{node_number, node_of}
 use Rattle.afs_num.specs.declared.types.Node.{Node}
-use Rattle.afs_model.specs.Calls.{call_seat, call_seated}
-use Rattle.afs_rows.specs.States.{Seat}
+use Rattle.spec_model.specs.Calls.{call_seat, call_seated}
+use Rattle.spec_rows.specs.States.{Seat}
 use Rattle.afs_message.specs.Spelled.{reply_in}
 use Rattle.afs_saving.specs.Kept.{or_loc}
 use Rattle.afs_saving.proofs.Kept.{no_others}

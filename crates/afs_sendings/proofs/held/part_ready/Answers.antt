@@ -1,17 +1,17 @@
 use Rattle.std.proofs.Common.{◌≡◌, ◌++◌, ◌∷◌, List, length, rules, sym, ap, ◌∙◌, arith}
 use Rattle.std.specs.Prelude.{filter}
 use Rattle.std.specs.Vec.Iter.{into_iter_items}
-use Rattle.afs_model.specs.Messages.{messages_spelled, parcels_read}
-use Rattle.afs_rows.specs.Callbacks.{is_ready, replies_of}
-use Rattle.afs_rows.specs.States.{Held}
-use Rattle.afs_volrows.specs.VolSteps.{is_waiting}
+use Rattle.spec_model.specs.Messages.{messages_spelled, parcels_read}
+use Rattle.spec_rows.specs.Callbacks.{is_ready, replies_of}
+use Rattle.spec_rows.specs.States.{Held}
+use Rattle.spec_volrows.specs.VolSteps.{waits_for_breaks}
 use Rattle.afs_sendings.proofs.Waiting.{held_next, sent_next}
 use Rattle.afs_sendings.proofs.held.part_ready.Goals as goal
 
 pub loop-one-preserved : goal.loop-one-preserved
 loop-one-preserved c =
     let ready = is_ready c.args.owed.now.breaks in
-    let waits = is_waiting c.args.owed.now.breaks in
+    let waits = waits_for_breaks c.args.owed.now.breaks in
     let one = c.in-Some.one in
     let rest = into_iter_items c.next.new.self in
     let next : into_iter_items c.loop-one.one-iterator ≡ one ∷ rest = search rules in

@@ -1,6 +1,6 @@
 use Rattle.std.proofs.Common.{[], ◌∷◌, ap, ◌∙◌}
-use Rattle.afs_model.specs.Messages.{messages_spelled}
-use Rattle.afs_rows.specs.States.{Held}
+use Rattle.spec_model.specs.Messages.{messages_spelled}
+use Rattle.spec_rows.specs.States.{Held}
 use Rattle.afs_sendings.proofs.Waiting.{sent_one}
 use Rattle.afs_sendings.proofs.held.push_sent.Goals as goal
 

@@ -1,5 +1,5 @@
 use Rattle.std.proofs.Common.{◌≡◌, drop}
-use Rattle.afs_rows.specs.Callbacks.{waits_none}
+use Rattle.spec_rows.specs.Callbacks.{waits_none}
 use Rattle.afs_sendings.proofs.held.waits_none.Given as goal
 
 abbrev pub invariant-loop-number : goal.invariant-loop-number

@@ -1,7 +1,7 @@
 use Rattle.std.proofs.Common.{◌≡◌, Option, Some, ap, sym, ◌∙◌}
 use Rattle.afs_num.specs.declared.messages.Message.{Message}
 use Rattle.afs_num.specs.declared.types.Key.{Key}
-use Rattle.afs_model.specs.Calls.{call_seated}
+use Rattle.spec_model.specs.Calls.{call_seated}
 use Rattle.afs_call.proofs.Runs.{room_for}
 use Rattle.afs_message.specs.Spelled.{message_in, reply_in}
 use Rattle.afs_server.proofs.answering.keep_reply.Goals as goal

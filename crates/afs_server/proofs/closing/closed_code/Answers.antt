@@ -2,8 +2,8 @@ use Rattle.std.specs.Prelude.{ℕ, Option, Some, nat_eq, pos, if◌then◌else�
 use Rattle.std.specs.Option.{option_map}
 use Rattle.std.proofs.Common.{ap, ◌∙◌}
 use Rattle.afs_num.specs.declared.volumes.VolumeHead.{VolumeHead}
-use Rattle.afs_ideal.specs.Tables.{get}
-use Rattle.afs_volrows.specs.FileRow.{held_code, out_of_service}
+use Rattle.spec_ideal.specs.Tables.{get}
+use Rattle.spec_volrows.specs.FileRow.{held_code, out_of_service}
 use Rattle.afs_server.specs.Handling.{holds_seen}
 use Rattle.afs_server.proofs.HeldCodes.{held_as}
 use Rattle.afs_server.proofs.closing.closed_code.Goals as goal

@@ -2,10 +2,10 @@ use Rattle.std.proofs.Common.{◌≡◌, ℕ, sym, ap, subst, to_z-of_z, rules, 
 use Rattle.std.specs.Int.{w32}
 use Rattle.std.specs.Prelude.{pos, ℤ}
 use Rattle.std.specs.Option.{option_map}
-use Rattle.afs_ideal.specs.Tables.{get}
+use Rattle.spec_ideal.specs.Tables.{get}
 use Rattle.afs_shelves.specs.Shelving.{is_new_in, stored_as}
-use Rattle.afs_volrows.specs.FileRow.{closed_code, file_sight}
-use Rattle.afs_ideal.specs.Operations.{the_user}
+use Rattle.spec_volrows.specs.FileRow.{closed_code, file_sight}
+use Rattle.spec_ideal.specs.Operations.{the_user}
 use Rattle.afs_server.specs.Handling.{holds_seen}
 use Rattle.afs_decisions.specs.Several.{IsRefused}
 use Rattle.afs_decisions.proofs.Sights.{closed_sees, missing_sees, open_sees}

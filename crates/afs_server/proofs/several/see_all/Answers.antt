@@ -1,9 +1,9 @@
 use Rattle.std.proofs.Common.{◌≡◌, ◌∷◌, ◌+◌, ℕ, List, drop, get_or, length, refl, rules, sym, subst}
 use Rattle.std.specs.Prelude.{Err}
-use Rattle.afs_ideal.specs.Operations.{the_user, Caller}
-use Rattle.afs_ideal.specs.Tables.{get}
+use Rattle.spec_ideal.specs.Operations.{the_user, Caller}
+use Rattle.spec_ideal.specs.Tables.{get}
 use Rattle.afs_num.specs.declared.types.Fid.{Fid}
-use Rattle.afs_volrows.specs.FileRow.{file_sight, file_sights}
+use Rattle.spec_volrows.specs.FileRow.{file_sight, file_sights}
 use Rattle.afs_server.specs.Handling.{holds_seen}
 use Rattle.afs_decisions.specs.Several.{AreFirst, IsFault, SeesAll, TellsOne}
 use Rattle.afs_volume.proofs.Walked.{from_place}

@@ -1,6 +1,6 @@
 use Rattle.std.proofs.Common.{drop}
-use Rattle.afs_ideal.specs.Operations.{the_user}
-use Rattle.afs_volrows.specs.FileRow.{file_sights}
+use Rattle.spec_ideal.specs.Operations.{the_user}
+use Rattle.spec_volrows.specs.FileRow.{file_sights}
 use Rattle.afs_server.specs.Handling.{holds_seen}
 use Rattle.afs_decisions.specs.Several.{AreFirst}
 use Rattle.afs_sharing.specs.Lasting.{lasting_of}

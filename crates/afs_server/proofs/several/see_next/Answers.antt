@@ -1,7 +1,7 @@
 use Rattle.std.proofs.Common.{◌≡◌, List}
-use Rattle.afs_ideal.specs.Operations.{the_user}
-use Rattle.afs_ideal.specs.Tables.{get}
-use Rattle.afs_volrows.specs.FileRow.{file_sight}
+use Rattle.spec_ideal.specs.Operations.{the_user}
+use Rattle.spec_ideal.specs.Tables.{get}
+use Rattle.spec_volrows.specs.FileRow.{file_sight}
 use Rattle.afs_server.specs.Handling.{holds_seen}
 use Rattle.afs_decisions.proofs.Sights.{tells_one}
 use Rattle.afs_sharing.specs.Lasting.{lasting_of}

@@ -1,7 +1,7 @@
 use Rattle.std.proofs.Common.{◌≡◌, List, None, Option, Some, ℕ, ap, sym, ◌∙◌}
 use Rattle.afs_num.specs.declared.messages.Message.{Message}
-use Rattle.afs_model.specs.Calls.{call_seated}
-use Rattle.afs_model.specs.Messages.{received}
+use Rattle.spec_model.specs.Calls.{call_seated}
+use Rattle.spec_model.specs.Messages.{received}
 use Rattle.afs_message.specs.Spelled.{message_in, reply_in}
 use Rattle.afs_message.proofs.Read.{no_message}
 use Rattle.afs_server_parts.proofs.callers.restore.Goals as goal

@@ -1,5 +1,5 @@
 use Rattle.std.proofs.Common.{◌≡◌, map, take}
-use Rattle.afs_rows.specs.Callbacks.{broken_until}
+use Rattle.spec_rows.specs.Callbacks.{broken_until}
 use Rattle.afs_server_parts.proofs.calling.callbacks.Given as goal
 
 abbrev pub invariant-loop-owed : goal.invariant-loop-owed

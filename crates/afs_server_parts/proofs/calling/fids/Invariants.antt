@@ -1,5 +1,5 @@
 use Rattle.std.proofs.Common.{◌≡◌, ◌++◌, drop}
-use Rattle.afs_rows.specs.Callbacks.{fids_of}
+use Rattle.spec_rows.specs.Callbacks.{fids_of}
 use Rattle.afs_server_parts.proofs.calling.fids.Given as goal
 
 abbrev pub invariant-loop-owed : goal.invariant-loop-owed

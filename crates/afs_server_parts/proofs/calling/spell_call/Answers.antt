@@ -1,5 +1,5 @@
 use Rattle.std.proofs.Common.{sym, subst}
-use Rattle.afs_model.specs.Messages.{HasSpelling}
+use Rattle.spec_model.specs.Messages.{HasSpelling}
 use Rattle.afs_server_parts.proofs.Spelling.{break_spelled}
 use Rattle.afs_server_parts.proofs.calling.spell_call.Goals as goal
 

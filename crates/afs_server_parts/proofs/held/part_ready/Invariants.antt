@@ -1,8 +1,8 @@
 use Rattle.std.proofs.Common.{◌≡◌, ◌++◌, not}
 use Rattle.std.specs.Prelude.{filter}
 use Rattle.std.specs.Vec.Iter.{into_iter_items}
-use Rattle.afs_rows.specs.Callbacks.{is_ready, replies_of}
-use Rattle.afs_rows.specs.States.{Held}
+use Rattle.spec_rows.specs.Callbacks.{is_ready, replies_of}
+use Rattle.spec_rows.specs.States.{Held}
 use Rattle.afs_server_parts.proofs.held.part_ready.Given as goal
 
 abbrev pub invariant-loop-one : goal.invariant-loop-one

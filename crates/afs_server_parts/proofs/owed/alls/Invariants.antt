@@ -1,5 +1,5 @@
 use Rattle.std.proofs.Common.{◌≡◌, ◌++◌, drop}
-use Rattle.afs_rows.specs.Callbacks.{alls}
+use Rattle.spec_rows.specs.Callbacks.{alls}
 use Rattle.afs_server_parts.proofs.owed.alls.Given as goal
 
 abbrev pub invariant-loop-one : goal.invariant-loop-one

@@ -3,7 +3,7 @@ use Rattle.std.specs.Prelude.{filter}
 use Rattle.std.specs.List.{All}
 use Rattle.std.proofs.lemmas.Fn.{filter_same}
 use Rattle.std.proofs.lemmas.List.Elements.{All-filter}
-use Rattle.afs_breaks.specs.declared.types.OwedBreak.{OwedBreak}
+use Rattle.spec_breaks.specs.declared.types.OwedBreak.{OwedBreak}
 use Rattle.afs_server_parts.specs.Turning.{IsBreakToNode}
 use Rattle.afs_server_parts.proofs.owed.end_break.Goals as goal
 

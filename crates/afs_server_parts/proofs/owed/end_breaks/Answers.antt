@@ -1,5 +1,5 @@
 use Rattle.std.proofs.Common.{◌+◌, List, arith, drop, sym, ap, ◌∙◌}
-use Rattle.afs_breaks.specs.declared.types.OwedBreak.{OwedBreak}
+use Rattle.spec_breaks.specs.declared.types.OwedBreak.{OwedBreak}
 use Rattle.afs_server_parts.specs.Turning.{breaks_left}
 use Rattle.afs_server_parts.proofs.Steps.{drop_step}
 use Rattle.afs_server_parts.proofs.owed.end_breaks.Goals as goal

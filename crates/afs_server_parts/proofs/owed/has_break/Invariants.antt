@@ -1,5 +1,5 @@
 use Rattle.std.proofs.Common.{◌≡◌, drop}
-use Rattle.afs_breaks.specs.Promises.{has_break}
+use Rattle.spec_breaks.specs.Promises.{has_break}
 use Rattle.afs_server_parts.proofs.owed.has_break.Given as goal
 
 abbrev pub invariant-loop-one : goal.invariant-loop-one

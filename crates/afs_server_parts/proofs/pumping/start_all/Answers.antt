@@ -1,6 +1,6 @@
 use Rattle.std.proofs.Common.{◌+◌, List, arith, drop, sym, ap, ◌∙◌}
-use Rattle.afs_breaks.specs.declared.types.OwedBreak.{OwedBreak}
-use Rattle.afs_rows.specs.Callbacks.{starts}
+use Rattle.spec_breaks.specs.declared.types.OwedBreak.{OwedBreak}
+use Rattle.spec_rows.specs.Callbacks.{starts}
 use Rattle.afs_server_parts.specs.Turning.{started_with}
 use Rattle.afs_server_parts.proofs.Steps.{drop_step}
 use Rattle.afs_server_parts.proofs.pumping.start_all.Goals as goal

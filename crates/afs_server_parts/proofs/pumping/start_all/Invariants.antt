@@ -1,7 +1,7 @@
 use Rattle.std.proofs.Common.{◌≡◌, ◌≤◌, List, drop}
-use Rattle.afs_breaks.specs.Promises.{Lists}
-use Rattle.afs_rows.specs.Callbacks.{starts}
-use Rattle.afs_rows.specs.States.{Held}
+use Rattle.spec_breaks.specs.Promises.{Lists}
+use Rattle.spec_rows.specs.Callbacks.{starts}
+use Rattle.spec_rows.specs.States.{Held}
 use Rattle.afs_callees.specs.Called.{AreGoodCalls}
 use Rattle.afs_server_parts.specs.Turning.{started_with}
 use Rattle.afs_server_parts.proofs.pumping.start_all.Given as goal

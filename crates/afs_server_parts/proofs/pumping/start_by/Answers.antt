@@ -1,6 +1,6 @@
 use Rattle.std.proofs.Common.{◌≡◌, false, rules, sym, ap, ◌∙◌}
 use Rattle.std.specs.Prelude.{is_some}
-use Rattle.afs_rows.specs.Callbacks.{starts_by}
+use Rattle.spec_rows.specs.Callbacks.{starts_by}
 use Rattle.afs_callees.specs.Called.{call_to}
 use Rattle.afs_server_parts.specs.Turning.{started_with}
 use Rattle.afs_server_parts.proofs.Turning.{not_waiting}

@@ -1,8 +1,8 @@
 use Rattle.std.specs.Prelude.{◌≡◌, ℕ, List, false}
 use Rattle.std.proofs.Common.{refl, ap, sym, subst, ◌∙◌, inl}
 use Rattle.afs_num.specs.declared.records.Mark.{Mark}
-use Rattle.afs_rows.specs.Hosts.{at_rest}
-use Rattle.afs_volrows.specs.VolStates.{NodeState}
+use Rattle.spec_rows.specs.Hosts.{at_rest}
+use Rattle.spec_volrows.specs.VolStates.{NodeState}
 use Rattle.afs_disk.specs.Disk.{LeavesJust}
 use Rattle.afs_journal.specs.Records.{whole_records}
 use Rattle.afs_host.specs.Standing.{LiesBefore}

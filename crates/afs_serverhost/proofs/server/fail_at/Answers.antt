@@ -1,7 +1,7 @@
 use Rattle.std.specs.Prelude.{◌≤◌, ℕ, Some}
 use Rattle.std.proofs.Common.{ap, arith, sym, subst}
 use Rattle.std.proofs.Math.Nat.{min-eq_left}
-use Rattle.afs_records.proofs.Forms.{some_is}
+use Rattle.spec_records.proofs.Forms.{some_is}
 use Rattle.afs_disk.specs.Fuses.{failing}
 use Rattle.afs_serverhost.specs.Seats.{CanRun, ServerRunning}
 use Rattle.afs_serverhost.proofs.Handled.{set_goes}

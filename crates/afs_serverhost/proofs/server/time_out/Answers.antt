@@ -1,10 +1,10 @@
 use Rattle.std.specs.Prelude.{◌≡◌, List, [], None, Some, Err}
 use Rattle.std.proofs.Common.{refl, ap, sym, subst}
-use Rattle.afs_rows.specs.States.{BackCall}
+use Rattle.spec_rows.specs.States.{BackCall}
 use Rattle.afs_num.specs.declared.types.Parcel.{Parcel}
-use Rattle.afs_history.specs.declared.lines.Outs.{Outs}
-use Rattle.afs_volrows.specs.NodeHosts.{node_timed_out, piece_timed_out}
-use Rattle.afs_volrows.specs.VolStates.{PieceCall}
+use Rattle.spec_history.specs.declared.lines.Outs.{Outs}
+use Rattle.spec_volrows.specs.NodeHosts.{node_timed_out, piece_timed_out}
+use Rattle.spec_volrows.specs.VolStates.{PieceCall}
 use Rattle.afs_server_parts.specs.declared.faults.NodeFault.{NodeFault}
 use Rattle.afs_serverhost.specs.Seats.{with_behind, CanRun, GoesOn, IsStepUp, IsUp, OnlyDraws, ServerRunning}
 use Rattle.afs_host.specs.Setting.{armed_seen}

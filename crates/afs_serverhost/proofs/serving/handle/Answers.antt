@@ -4,12 +4,12 @@ use Rattle.afs_num.specs.declared.messages.Message.{Message}
 use Rattle.afs_num.specs.declared.records.Mark.{Mark}
 use Rattle.afs_num.specs.declared.records.StoreRecord.{StoreRecord}
 use Rattle.afs_num.specs.declared.types.Parcel.{Parcel}
-use Rattle.afs_history.specs.declared.lines.Line.TheVariants as lines
-use Rattle.afs_history.specs.declared.lines.Outs.{Outs}
+use Rattle.spec_history.specs.declared.lines.Line.TheVariants as lines
+use Rattle.spec_history.specs.declared.lines.Outs.{Outs}
 use Rattle.afs_disk.specs.Disk.{Setting}
-use Rattle.afs_model.specs.Messages.{received}
-use Rattle.afs_rows.specs.Hosts.{lowered}
-use Rattle.afs_volrows.specs.VolSteps.{node_device_calls, node_row}
+use Rattle.spec_model.specs.Messages.{received}
+use Rattle.spec_rows.specs.Hosts.{lowered}
+use Rattle.spec_volrows.specs.VolSteps.{node_device_calls, node_row}
 use Rattle.afs_volstore.specs.Stores.{Store}
 use Rattle.afs_server_parts.specs.declared.faults.NodeFault.{NodeFault}
 use Rattle.afs_server_parts.specs.declared.faults.NodeFault.TheVariants as nodes

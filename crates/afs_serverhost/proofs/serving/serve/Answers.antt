@@ -1,4 +1,4 @@
-use Rattle.afs_model.specs.Messages.{received}
+use Rattle.spec_model.specs.Messages.{received}
 use Rattle.afs_serverhost.proofs.Becoming.{faults_so, goes_on_so, limit_so, mark_so, rests_so, row_so, served_so, told_so}
 use Rattle.afs_serverhost.proofs.serving.serve.Goals as goal
 

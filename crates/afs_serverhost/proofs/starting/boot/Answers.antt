@@ -3,11 +3,11 @@ use Rattle.std.proofs.Common.{refl, ap, sym, subst, ◌∙◌}
 use Rattle.afs_num.specs.declared.faults.StoreFault.{StoreFault}
 use Rattle.afs_num.specs.declared.faults.StoreFault.TheVariants as refusals
 use Rattle.afs_num.specs.declared.types.Node.{Node}
-use Rattle.afs_history.specs.declared.lines.Line.{Line}
-use Rattle.afs_history.specs.declared.lines.Line.TheVariants as lines
+use Rattle.spec_history.specs.declared.lines.Line.{Line}
+use Rattle.spec_history.specs.declared.lines.Line.TheVariants as lines
 use Rattle.afs_disk.specs.Fuses.{Fused}
 use Rattle.afs_journal.specs.Records.{whole_records}
-use Rattle.afs_records.specs.Changes.{can_boot}
+use Rattle.spec_records.specs.Changes.{can_boot}
 use Rattle.afs_volstore.specs.Stores.{recorded, IsEarly, SameBut, Store}
 use Rattle.afs_host.specs.Seats.{Resting}
 use Rattle.afs_serverhost.specs.Standing.{server_keeping}

@@ -3,11 +3,11 @@ use Rattle.std.proofs.Common.{refl, ap, sym, subst, ◌∙◌}
 use Rattle.afs_num.specs.declared.faults.StoreFault.{StoreFault}
 use Rattle.afs_num.specs.declared.faults.StoreFault.TheVariants as refusals
 use Rattle.afs_num.specs.declared.types.Node.{Node}
-use Rattle.afs_history.specs.declared.lines.Line.{Line}
+use Rattle.spec_history.specs.declared.lines.Line.{Line}
 use Rattle.afs_disk.specs.Disk.{Rose, Setting}
 use Rattle.afs_disk.specs.Fuses.{Fused}
-use Rattle.afs_volrows.specs.VolStates.{NodeState}
-use Rattle.afs_rows.specs.Steps.{Begun}
+use Rattle.spec_volrows.specs.VolStates.{NodeState}
+use Rattle.spec_rows.specs.Steps.{Begun}
 use Rattle.afs_volstore.specs.Stores.{recorded, IsCaused, Store}
 use Rattle.afs_host.specs.Seats.{Resting}
 use Rattle.afs_serverhost.specs.Seats.{ServerRunning}

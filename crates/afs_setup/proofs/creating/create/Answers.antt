@@ -2,10 +2,10 @@ use Rattle.std.proofs.Common.{◌≡◌, ◌∙◌, ◌+◌, ◌≤◌, Bor, [],
 use Rattle.afs_disk.specs.Disk.{LeavesOnly}
 use Rattle.afs_journal.specs.Records.{whole_records, IsBeforeOrAfter}
 use Rattle.afs_journal.proofs.Moments.{and_on, begins, weaker}
-use Rattle.afs_history.specs.declared.scripts.VolumeLine.{VolumeLine}
-use Rattle.afs_fold.specs.Fold.{first_folded}
-use Rattle.afs_records.specs.Durable.{nothing_on, Durable}
-use Rattle.afs_records.specs.Records.{record_bytes}
+use Rattle.spec_history.specs.declared.scripts.VolumeLine.{VolumeLine}
+use Rattle.spec_fold.specs.Fold.{first_folded}
+use Rattle.spec_records.specs.Durable.{nothing_on, Durable}
+use Rattle.spec_records.specs.Records.{record_bytes}
 use Rattle.afs_volstore.specs.Opening.{IsSetUpSoFar}
 use Rattle.afs_volstore.proofs.Created.{left_so_far, made_on, matched_on, not_none, nothing_there, on_ok, set_up_is, IsMade}
 use Rattle.afs_setup.proofs.creating.create.Goals as goal

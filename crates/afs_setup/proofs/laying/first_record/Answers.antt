@@ -1,7 +1,7 @@
 use Rattle.std.proofs.Common.{◌≡◌, ◌∙◌, ◌≤◌, [], List, Some, Bor, ℕ, ap, length, map, refl, sym, subst}
 use Rattle.std.proofs.lemmas.List.{length-map}
-use Rattle.afs_history.specs.declared.scripts.VolumeLine.{VolumeLine}
-use Rattle.afs_records.specs.Durable.{most_volumes}
+use Rattle.spec_history.specs.declared.scripts.VolumeLine.{VolumeLine}
+use Rattle.spec_records.specs.Durable.{most_volumes}
 use Rattle.afs_seats.specs.Seated.{seen_as}
 use Rattle.afs_volume.specs.Taking.{stored_of}
 use Rattle.afs_setup.proofs.Laid.{first_fits, first_is, first_taken}

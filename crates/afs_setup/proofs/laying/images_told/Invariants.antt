@@ -2,8 +2,8 @@ use Rattle.std.proofs.Common.{◌≡◌, ◌++◌, true}
 use Rattle.std.specs.List.{AllByRecursion}
 use Rattle.std.specs.Vec.Iter.{into_iter_items}
 use Rattle.afs_num.specs.declared.vnodes.Vnode as image
-use Rattle.afs_ideal.specs.VnodeImage.{kind_fits, FitsImage}
-use Rattle.afs_records.specs.Forms.{HasImageForm}
+use Rattle.spec_ideal.specs.VnodeImage.{kind_fits, FitsImage}
+use Rattle.spec_records.specs.Forms.{HasImageForm}
 use Rattle.afs_setup.proofs.laying.images_told.Given as goal
 
 abbrev pub invariant-loop-vnode : goal.invariant-loop-vnode

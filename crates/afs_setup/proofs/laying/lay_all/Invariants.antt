@@ -1,5 +1,5 @@
 use Rattle.std.proofs.Common.{◌≡◌, drop}
-use Rattle.afs_records.specs.Changes.{laid_all}
+use Rattle.spec_records.specs.Changes.{laid_all}
 use Rattle.afs_volume.specs.Giving.{volume_of}
 use Rattle.afs_volume.specs.Taking.{IsAtSetUp}
 use Rattle.afs_setup.proofs.laying.lay_all.Given as goal

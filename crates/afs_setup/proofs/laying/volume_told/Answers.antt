@@ -3,10 +3,10 @@ use Rattle.std.specs.List.{AllByRecursion}
 use Rattle.afs_num.specs.declared.vnodes.Vnode as image
 use Rattle.afs_num.specs.declared.volumes.VolumeHead.{VolumeHead}
 use Rattle.afs_num.specs.declared.records.StoredVolume.{StoredVolume}
-use Rattle.afs_records.specs.Durable as durable
-use Rattle.afs_records.specs.Durable.{by_number}
-use Rattle.afs_records.specs.Forms.{HasImageForm}
-use Rattle.afs_records.specs.Records.{volume_form}
+use Rattle.spec_records.specs.Durable as durable
+use Rattle.spec_records.specs.Durable.{by_number}
+use Rattle.spec_records.specs.Forms.{HasImageForm}
+use Rattle.spec_records.specs.Records.{volume_form}
 use Rattle.afs_vnode.specs.Stores.{Held}
 use Rattle.afs_volume.specs.Assembling.{make_volume}
 use Rattle.afs_volume.specs.Seen.{FitsHead}

@@ -1,5 +1,5 @@
 use Rattle.std.proofs.Common.{◌≡◌, ◌∷◌, ◌+◌, Bor, List, drop, map, subst}
-use Rattle.afs_history.specs.declared.scripts.VolumeLine.{VolumeLine}
+use Rattle.spec_history.specs.declared.scripts.VolumeLine.{VolumeLine}
 use Rattle.afs_volstore.specs.Laying.{HaveShortNames}
 use Rattle.afs_setup.proofs.Laid.{next_of, next_volume, still_few, still_laid}
 use Rattle.afs_memory.specs.Numbered.{volume_number}

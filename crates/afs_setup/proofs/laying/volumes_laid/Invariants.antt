@@ -1,5 +1,5 @@
 use Rattle.std.proofs.Common.{◌≡◌, ◌≤◌, [], drop, length, map}
-use Rattle.afs_records.specs.Changes.{volumes_laid}
+use Rattle.spec_records.specs.Changes.{volumes_laid}
 use Rattle.afs_seats.specs.Seated.{seen_as}
 use Rattle.afs_volume.specs.Taking.{stored_of}
 use Rattle.afs_volstore.specs.Laying.{AreLaid, HaveShortNames}

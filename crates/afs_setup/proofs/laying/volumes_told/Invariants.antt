@@ -2,9 +2,9 @@ use Rattle.std.proofs.Common.{◌≡◌, ◌++◌, ℕ, map, is_some, true}
 use Rattle.std.specs.List.{AllByRecursion}
 use Rattle.std.specs.Vec.Iter.{into_iter_items}
 use Rattle.afs_num.specs.declared.records.StoredVolume.{StoredVolume}
-use Rattle.afs_records.specs.Changes.{stored_volume}
-use Rattle.afs_records.specs.Durable as durable
-use Rattle.afs_records.specs.Records.{volume_form}
+use Rattle.spec_records.specs.Changes.{stored_volume}
+use Rattle.spec_records.specs.Durable as durable
+use Rattle.spec_records.specs.Records.{volume_form}
 use Rattle.afs_seats.specs.Seated.{seen_as}
 use Rattle.afs_volume.specs.Taking.{stored_of}
 use Rattle.afs_volstore.specs.Laying.{AreLaid}

@@ -1,8 +1,8 @@
 use Rattle.std.proofs.Common.{◌≡◌, rules, sym, ◌∙◌}
 use Rattle.afs_num.specs.Nodes.{node_number}
-use Rattle.afs_ideal.specs.Tables.{get}
-use Rattle.afs_model.specs.Calls.{call_seat}
-use Rattle.afs_rows.specs.Callbacks.{is_seat_of}
+use Rattle.spec_ideal.specs.Tables.{get}
+use Rattle.spec_model.specs.Calls.{call_seat}
+use Rattle.spec_rows.specs.Callbacks.{is_seat_of}
 use Rattle.afs_sharing.specs.Callers.{is_answer_to}
 use Rattle.afs_sharing.specs.Lasting.{lasting_of}
 use Rattle.afs_sharing.proofs.Repeating.{found_answer, last_change}

@@ -1,6 +1,6 @@
 use Rattle.std.proofs.Common.{◌≡◌, ◌<◌, rules, arith, List, map, ap, sym, subst, ◌∙◌}
 use Rattle.std.proofs.lemmas.List.{take_all}
-use Rattle.afs_rows.specs.States.{Seat}
+use Rattle.spec_rows.specs.States.{Seat}
 use Rattle.afs_saving.specs.Kept.{seat_kept, seats_after, CanFollow}
 use Rattle.afs_saving.proofs.Kept.{can_follow, few_kept, next_after}
 use Rattle.afs_sharing.proofs.Known.{known_to_nodes}

@@ -1,8 +1,8 @@
 use Rattle.std.proofs.Common.{rules, not, filter, ap, sym, subst, ◌∙◌}
 use Rattle.std.proofs.lemmas.Fn.{filter_same}
-use Rattle.afs_ideal.specs.Tables.{Table, AscendsFrom}
+use Rattle.spec_ideal.specs.Tables.{Table, AscendsFrom}
 use Rattle.afs_seats.proofs.Places.{filter_ascends}
-use Rattle.afs_records.specs.Durable.{is_flagged}
+use Rattle.spec_records.specs.Durable.{is_flagged}
 use Rattle.afs_shelves.specs.Shelving.{shelved}
 use Rattle.afs_shelves.specs.declared.shelf.Shelf.{Shelf}
 use Rattle.afs_shelves.proofs.doing.unflagged.Goals as goal

@@ -1,5 +1,5 @@
 use Rattle.std.proofs.Common.{◌≡◌, ◌++◌, ◌∷◌, [], drop, length}
-use Rattle.afs_history.specs.declared.lines.Line.TheVariants as lines
+use Rattle.spec_history.specs.declared.lines.Line.TheVariants as lines
 use Rattle.afs_shelves.specs.Words.{AreInWords}
 use Rattle.afs_shelves.proofs.Told.{rest_told}
 use Rattle.afs_shelves.proofs.telling.tell_whole.Given as goal

@@ -1,6 +1,6 @@
 use Rattle.std.proofs.Common.{◌≡◌, drop, map}
 use Rattle.std.specs.List.{list_any}
-use Rattle.afs_copyrows.specs.CopyRow.{expiry_in, is_over}
+use Rattle.spec_copyrows.specs.CopyRow.{expiry_in, is_over}
 use Rattle.afs_sites.proofs.offers.is_any_over.Given as goal
 
 abbrev pub invariant-loop-callback : goal.invariant-loop-callback

@@ -1,6 +1,6 @@
 use Rattle.std.proofs.Common.{◌≡◌, map, take, filter}
-use Rattle.afs_adminrows.specs.Entries.{is_read_only_site}
-use Rattle.afs_adminrows.specs.Releasing.{server_of}
+use Rattle.spec_adminrows.specs.Entries.{is_read_only_site}
+use Rattle.spec_adminrows.specs.Releasing.{server_of}
 use Rattle.afs_sites.proofs.rounds.read_only_servers.Given as goal
 
 abbrev pub invariant-loop-site : goal.invariant-loop-site

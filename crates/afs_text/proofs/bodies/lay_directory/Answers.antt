@@ -1,5 +1,5 @@
 use Rattle.std.proofs.Common.{codes}
-use Rattle.afs_model.specs.LineText.{directory_text}
+use Rattle.spec_model.specs.LineText.{directory_text}
 use Rattle.afs_text.proofs.Laid.{lays_stop, lays_then}
 use Rattle.afs_text.proofs.bodies.lay_directory.Goals as goal
 

@@ -2,7 +2,7 @@
 use Rattle.std.proofs.Common.{ℕ, ◌++◌, List, codes}
 use Rattle.std.specs.List.{flat_map}
 use Rattle.afs_num.specs.declared.directories.Name.{Name}
-use Rattle.afs_model.specs.LineText.{entry_name_text, more_names_text}
+use Rattle.spec_model.specs.LineText.{entry_name_text, more_names_text}
 use Rattle.afs_text.proofs.Laid.{lays_end, lays_item, lays_itself, lays_last, lays_more, lays_no_more}
 use Rattle.afs_text.proofs.bodies.lay_more_names.Goals as goal
 

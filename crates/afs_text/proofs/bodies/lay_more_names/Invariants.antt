@@ -1,6 +1,6 @@
 use Rattle.std.proofs.Common.{◌++◌, drop, codes}
 use Rattle.std.specs.List.{flat_map}
-use Rattle.afs_model.specs.LineText.{entry_name_text}
+use Rattle.spec_model.specs.LineText.{entry_name_text}
 use Rattle.afs_text.proofs.Laid.{LaysAll}
 use Rattle.afs_text.proofs.bodies.lay_more_names.Given as goal
 

@@ -2,7 +2,7 @@
 use Rattle.std.proofs.Common.{ℕ, List, ◌++◌, ap, codes}
 use Rattle.std.specs.Fmt.{decimal}
 use Rattle.afs_num.specs.declared.directories.Name.{Name}
-use Rattle.afs_model.specs.LineText.{name_text}
+use Rattle.spec_model.specs.LineText.{name_text}
 use Rattle.afs_text.proofs.Laid.{laid_nowhere, lays_as, lays_stop, lays_then}
 use Rattle.afs_text.proofs.bodies.lay_name.Goals as goal
 

@@ -1,4 +1,4 @@
-use Rattle.afs_model.specs.LineText.{entry_name_text, more_names_text}
+use Rattle.spec_model.specs.LineText.{entry_name_text, more_names_text}
 use Rattle.afs_text.proofs.Laid.{lays_stop, lays_then}
 use Rattle.afs_text.proofs.bodies.lay_names.Goals as goal
 

@@ -1,5 +1,5 @@
 use Rattle.std.proofs.Common.{codes}
-use Rattle.afs_model.specs.LineText.{entry_name_text}
+use Rattle.spec_model.specs.LineText.{entry_name_text}
 use Rattle.afs_text.proofs.Laid.{laid_nowhere, lays_stop, lays_then}
 use Rattle.afs_text.proofs.bodies.lay_next_name.Goals as goal
 

@@ -1,5 +1,5 @@
 -- Each chunk goes on behind those before it.
-use Rattle.afs_model.specs.LineText.{hex_text}
+use Rattle.spec_model.specs.LineText.{hex_text}
 use Rattle.afs_text.proofs.Laid.{lays_end, lays_itself, lays_more, lays_no_more}
 use Rattle.afs_text.proofs.Sent.{hex_laid, hex_left}
 use Rattle.afs_text.proofs.bytes.lay_hex.Goals as goal

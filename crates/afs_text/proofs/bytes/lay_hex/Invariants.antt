@@ -1,5 +1,5 @@
 use Rattle.std.proofs.Common.{length}
-use Rattle.afs_model.specs.LineText.{hex_text}
+use Rattle.spec_model.specs.LineText.{hex_text}
 use Rattle.afs_text.proofs.Laid.{LaysAll}
 use Rattle.afs_text.proofs.bytes.lay_hex.Given as goal
 

@@ -1,6 +1,6 @@
 use Rattle.std.proofs.Common.{refl}
 use Rattle.std.specs.List.{flat_map}
-use Rattle.afs_model.specs.LineText.{name_byte, name_text}
+use Rattle.spec_model.specs.LineText.{name_byte, name_text}
 use Rattle.afs_outside.proofs.Puts.{completes_more, completes_stop, completes_end, at_item, at_end}
 use Rattle.afs_text.proofs.bytes.put_escaped.Goals as goal
 

@@ -1,6 +1,6 @@
 use Rattle.std.proofs.Common.{drop}
 use Rattle.std.specs.List.{flat_map}
-use Rattle.afs_model.specs.LineText.{name_byte}
+use Rattle.spec_model.specs.LineText.{name_byte}
 use Rattle.afs_outside.proofs.Puts.{Completes}
 use Rattle.afs_text.proofs.bytes.put_escaped.Given as goal
 

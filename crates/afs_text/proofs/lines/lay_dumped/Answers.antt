@@ -3,7 +3,7 @@ use Rattle.std.proofs.Common.{◌≡◌, ℕ, List, [], ◌∷◌, ◌++◌, ref
 use Rattle.std.specs.Fmt.{decimal}
 use Rattle.afs_num.specs.Texts.{node_text}
 use Rattle.afs_num.specs.declared.types.Node.{Node}
-use Rattle.afs_model.specs.LineText.{name_text}
+use Rattle.spec_model.specs.LineText.{name_text}
 use Rattle.afs_text.specs.RunText.{dumped_text}
 use Rattle.afs_text.proofs.Laid.{behind_row, lays_as, lays_stop, lays_then, row}
 use Rattle.afs_text.proofs.lines.lay_dumped.Goals as goal

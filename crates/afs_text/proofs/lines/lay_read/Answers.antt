@@ -6,7 +6,7 @@ use Rattle.afs_num.specs.declared.types.Fid.{Fid}
 use Rattle.afs_num.specs.declared.types.Node.{Node}
 use Rattle.afs_num.specs.declared.histories.ReadBody.{ReadBody}
 use Rattle.afs_num.specs.declared.histories.ReadSource.{ReadSource}
-use Rattle.afs_model.specs.LineText.{read_body_text, read_text, source_text}
+use Rattle.spec_model.specs.LineText.{read_body_text, read_text, source_text}
 use Rattle.afs_text.proofs.Laid.{behind_row, lays_as, lays_stop, lays_then, row}
 use Rattle.afs_text.proofs.lines.lay_read.Goals as goal
 

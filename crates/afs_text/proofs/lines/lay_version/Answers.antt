@@ -3,7 +3,7 @@ use Rattle.std.proofs.Common.{◌≡◌, ℕ, List, [], ◌∷◌, ◌++◌, cod
 use Rattle.std.specs.Fmt.{decimal}
 use Rattle.afs_num.specs.Texts.{fid_text}
 use Rattle.afs_num.specs.declared.histories.Version.{Version}
-use Rattle.afs_model.specs.LineText.{body_text, version_text}
+use Rattle.spec_model.specs.LineText.{body_text, version_text}
 use Rattle.afs_text.proofs.Laid.{behind_row, lays_as, lays_stop, lays_then, row}
 use Rattle.afs_text.proofs.lines.lay_version.Goals as goal
 

@@ -3,8 +3,8 @@ use Rattle.std.proofs.Common.{◌≡◌, true, length, drop, refl, arith, length
 use Rattle.std.proofs.lemmas.Bool.{lt-ltb}
 use Rattle.std.proofs.Math.Dec.{ltb}
 use Rattle.afs_xdr.specs.Words.{word_at}
-use Rattle.afs_shape.specs.Reading.{signed_at}
-use Rattle.afs_model.specs.Telling.{code_at}
+use Rattle.spec_shape.specs.Reading.{signed_at}
+use Rattle.spec_model.specs.Telling.{code_at}
 use Rattle.afs_text.proofs.printing.code_of.Goals as goal
 
 pub returns-then-bytes-lt-HEADER : goal.returns-then-bytes-lt-HEADER

@@ -2,9 +2,9 @@
 use Rattle.std.proofs.Common.{◌≡◌, ℕ, ℤ, Bool, true, List, [], ◌∷◌, ◌++◌, ap, ◌∙◌, codes}
 use Rattle.std.specs.Fmt.{decimal}
 use Rattle.afs_num.specs.declared.types.Head.{Head}
-use Rattle.afs_model.specs.LineText.{hex_text}
-use Rattle.afs_model.specs.Telling.{code_at}
-use Rattle.afs_model.specs.Text.{code_text, head_text, sent_text}
+use Rattle.spec_model.specs.LineText.{hex_text}
+use Rattle.spec_model.specs.Telling.{code_at}
+use Rattle.spec_model.specs.Text.{code_text, head_text, sent_text}
 use Rattle.afs_text.proofs.Laid.{lays_as, lays_stop, lays_then, row, sent_with_bytes}
 use Rattle.afs_text.proofs.printing.lay_parcel.Goals as goal
 

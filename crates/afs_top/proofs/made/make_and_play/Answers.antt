@@ -1,5 +1,5 @@
 use Rattle.std.proofs.Common.{refl, sym, subst, inl, inr}
-use Rattle.afs_history.specs.declared.scripts.Script.{Script}
+use Rattle.spec_history.specs.declared.scripts.Script.{Script}
 use Rattle.afs_generate.specs.Generated.{generated}
 use Rattle.afs_grammar.specs.CellScripts.{IsCellScript}
 use Rattle.afs_cell.specs.Replays.{LendingLeaves, SetUpLeaves}

@@ -1,9 +1,9 @@
 use Rattle.std.proofs.Common.{ℕ, List, ap}
 use Rattle.afs_num.specs.declared.types.Head.{Head}
 use Rattle.afs_num.specs.declared.location_calls.LocCall.{LocCall}
-use Rattle.afs_model.specs.LocRows.{loc_calls}
-use Rattle.afs_model.proofs.RpcLaws.{no_call_begins}
-use Rattle.afs_model.proofs.LocMade.{calls_sound}
+use Rattle.spec_model.specs.LocRows.{loc_calls}
+use Rattle.spec_model.proofs.RpcLaws.{no_call_begins}
+use Rattle.spec_model.proofs.LocMade.{calls_sound}
 use Rattle.afs_vlrpc.proofs.laws.no_call_begins_another.Goals as goal
 
 pub returns : goal.returns

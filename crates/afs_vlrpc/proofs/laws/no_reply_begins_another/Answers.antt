@@ -1,9 +1,9 @@
 use Rattle.std.proofs.Common.{ℤ, Option, ap}
 use Rattle.afs_num.specs.declared.types.Head.{Head}
 use Rattle.afs_num.specs.declared.location_calls.LocReply.{LocReply}
-use Rattle.afs_model.specs.LocRows.{loc_replies}
-use Rattle.afs_model.proofs.RpcLaws.{no_reply_begins}
-use Rattle.afs_model.proofs.LocMade.{replies_sound}
+use Rattle.spec_model.specs.LocRows.{loc_replies}
+use Rattle.spec_model.proofs.RpcLaws.{no_reply_begins}
+use Rattle.spec_model.proofs.LocMade.{replies_sound}
 use Rattle.afs_vlrpc.proofs.laws.no_reply_begins_another.Goals as goal
 
 pub returns : goal.returns

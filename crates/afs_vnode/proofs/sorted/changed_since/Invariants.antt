@@ -1,5 +1,5 @@
 use Rattle.std.proofs.Common.{◌≡◌, take}
-use Rattle.afs_ideal.specs.VnodeMaps.{changed_since}
+use Rattle.spec_ideal.specs.VnodeMaps.{changed_since}
 use Rattle.afs_vnode.specs.Stores.{table_of}
 use Rattle.afs_vnode.proofs.sorted.changed_since.Given as goal
 

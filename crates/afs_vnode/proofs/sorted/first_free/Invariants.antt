@@ -1,5 +1,5 @@
 use Rattle.std.proofs.Common.{◌≡◌, ◌≤◌, ◌+◌, ◌*◌, drop}
-use Rattle.afs_ideal.specs.Tables.{lowest_free}
+use Rattle.spec_ideal.specs.Tables.{lowest_free}
 use Rattle.afs_vnode.specs.Stores.{table_of}
 use Rattle.afs_vnode.proofs.sorted.first_free.Given as goal
 

@@ -1,7 +1,7 @@
 use Rattle.std.proofs.Common.{◌≡◌, ◌<◌, ◌∙◌, subst, sym, arith, None}
-use Rattle.afs_ideal.specs.Tables.{get, lowest_free}
-use Rattle.afs_ideal.specs.VnodeMaps.{first_number}
-use Rattle.afs_ideal.proofs.Tables.{free_is_free, lower_taken}
+use Rattle.spec_ideal.specs.Tables.{get, lowest_free}
+use Rattle.spec_ideal.specs.VnodeMaps.{first_number}
+use Rattle.spec_ideal.proofs.Tables.{free_is_free, lower_taken}
 use Rattle.afs_vnode.specs.Stores.{table_of}
 use Rattle.afs_vnode.proofs.Hints.{hint_free, hint_bound}
 use Rattle.afs_vnode.proofs.Kept.{size_of, first_low}

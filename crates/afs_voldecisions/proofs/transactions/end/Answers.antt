@@ -1,7 +1,7 @@
 use Rattle.std.proofs.Common.{rules, not, nat_eq, ℕ}
 use Rattle.std.proofs.lemmas.Fn.{filter_same}
 use Rattle.afs_seats.proofs.Places.{less_ascends}
-use Rattle.afs_volrows.specs.VolStates.{Transaction}
+use Rattle.spec_volrows.specs.VolStates.{Transaction}
 use Rattle.afs_voldecisions.proofs.transactions.end.Goals as goal
 
 pub returns-clause-table : goal.returns-clause-table

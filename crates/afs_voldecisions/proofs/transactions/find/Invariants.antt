@@ -1,5 +1,5 @@
 use Rattle.std.proofs.Common.{◌≡◌, drop}
-use Rattle.afs_ideal.specs.Tables.{get}
+use Rattle.spec_ideal.specs.Tables.{get}
 use Rattle.afs_voldecisions.proofs.transactions.find.Given as goal
 
 abbrev pub invariant-loop-item : goal.invariant-loop-item

@@ -1,5 +1,5 @@
 use Rattle.afs_num.specs.declared.messages.Call.TheVariants as ask
-use Rattle.afs_model.specs.CellRows.{call_number}
+use Rattle.spec_model.specs.CellRows.{call_number}
 use Rattle.afs_voldecisions.specs.Verdicts.{judged_in}
 use Rattle.afs_voldecisions.proofs.Judging.{judged_with, weaker}
 use Rattle.afs_voldecisions.proofs.verdicts.in_its_volume.Goals as goal

@@ -1,5 +1,5 @@
 use Rattle.std.proofs.Common.{◌≡◌, rules, Some}
-use Rattle.afs_volrows.specs.VolRow.{family_of, found}
+use Rattle.spec_volrows.specs.VolRow.{family_of, found}
 use Rattle.afs_voldecisions.specs.Verdicts.{number_in}
 use Rattle.afs_voldecisions.proofs.Deciding.{found_decides}
 use Rattle.afs_voldecisions.proofs.verdicts.in_transaction.Goals as goal

@@ -1,7 +1,7 @@
 use Rattle.std.proofs.Common.{◌≡◌, ◌∙◌, Some, ap, sym}
 use Rattle.std.proofs.lemmas.Result.{IfOk-weaker}
 use Rattle.std.specs.Option.{option_copied}
-use Rattle.afs_volrows.specs.VolStates.{Transaction}
+use Rattle.spec_volrows.specs.VolStates.{Transaction}
 use Rattle.afs_voldecisions.specs.Verdicts.{family_in}
 use Rattle.afs_voldecisions.proofs.Cloning.{again_is}
 use Rattle.afs_voldecisions.proofs.verdicts.reclones.Goals as goal

@@ -1,6 +1,6 @@
 use Rattle.std.proofs.Common.{[], sym, subst}
 use Rattle.std.proofs.lemmas.List.{append-nil}
-use Rattle.afs_breaks.specs.Promises.{expired, lasting_breaks}
+use Rattle.spec_breaks.specs.Promises.{expired, lasting_breaks}
 use Rattle.afs_server_parts.specs.Ending.{IsPlan}
 use Rattle.afs_server_parts.specs.Turning.{sent_turns}
 use Rattle.afs_server_parts.specs.declared.turns.Stand.{Stand}

@@ -1,6 +1,6 @@
 use Rattle.std.proofs.Common.{◌≡◌, ◌<◌, ℕ, true, is_some, arith, subst, ◌∙◌}
-use Rattle.afs_ideal.specs.Tables.{get, unset}
-use Rattle.afs_volrows.specs.VolStates.{Transaction}
+use Rattle.spec_ideal.specs.Tables.{get, unset}
+use Rattle.spec_volrows.specs.VolStates.{Transaction}
 use Rattle.afs_volserv.proofs.Held.{free_next}
 use Rattle.afs_volserv.proofs.holding.free_all.Goals as goal
 

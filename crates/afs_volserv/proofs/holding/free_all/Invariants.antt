@@ -1,5 +1,5 @@
 use Rattle.std.proofs.Common.{◌≡◌, ◌≤◌, ◌+◌, drop}
-use Rattle.afs_volrows.specs.VolRow.{holds_of}
+use Rattle.spec_volrows.specs.VolRow.{holds_of}
 use Rattle.afs_volanswers.specs.Flagged.{AreAlone}
 use Rattle.afs_volserv.proofs.holding.free_all.Given as goal
 

@@ -1,6 +1,6 @@
 use Rattle.std.proofs.Common.{◌≡◌, ℕ, arith, rules, subst, ◌∙◌}
-use Rattle.afs_ideal.specs.Tables.{set}
-use Rattle.afs_volrows.specs.VolStates.{Transaction}
+use Rattle.spec_ideal.specs.Tables.{set}
+use Rattle.spec_volrows.specs.VolStates.{Transaction}
 use Rattle.afs_volserv.proofs.Held.{hold_next}
 use Rattle.afs_volserv.proofs.holding.hold_all.Goals as goal
 

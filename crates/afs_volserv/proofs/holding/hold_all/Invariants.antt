@@ -1,5 +1,5 @@
 use Rattle.std.proofs.Common.{◌≡◌, ◌≤◌, ◌+◌, ◌-◌, drop, length}
-use Rattle.afs_volrows.specs.VolRow.{holds_of}
+use Rattle.spec_volrows.specs.VolRow.{holds_of}
 use Rattle.afs_volserv.proofs.holding.hold_all.Given as goal
 
 abbrev pub invariant-loop-behind : goal.invariant-loop-behind

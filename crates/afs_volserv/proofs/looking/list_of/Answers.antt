@@ -1,7 +1,7 @@
 use Rattle.std.proofs.Common.{◌≡◌, List, length, ap, subst, sym, ◌∙◌, arith}
 use Rattle.std.specs.List.{AllByRecursion}
 use Rattle.afs_num.specs.declared.volume_calls.ListedVolume.{ListedVolume}
-use Rattle.afs_shape.specs.Tables.{IsListedVolume}
+use Rattle.spec_shape.specs.Tables.{IsListedVolume}
 use Rattle.afs_volanswers.specs.Looking.{with_one}
 use Rattle.afs_volanswers.proofs.Listed.{all_listed, all_with, next_listed, one_longer}
 use Rattle.afs_volserv.proofs.looking.list_of.Goals as goal

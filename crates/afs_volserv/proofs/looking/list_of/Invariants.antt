@@ -1,6 +1,6 @@
 use Rattle.std.proofs.Common.{◌≡◌, ◌≤◌, ◌<◌, length}
 use Rattle.std.specs.List.{AllByRecursion}
-use Rattle.afs_shape.specs.Tables.{IsListedVolume}
+use Rattle.spec_shape.specs.Tables.{IsListedVolume}
 use Rattle.afs_volanswers.specs.Looking.{listed_before}
 use Rattle.afs_volserv.proofs.looking.list_of.Given as goal
 

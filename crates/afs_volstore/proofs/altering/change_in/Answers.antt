@@ -1,5 +1,5 @@
 use Rattle.std.proofs.Common.{◌∙◌, ap, sym}
-use Rattle.afs_ideal.specs.Tables.{Table, set}
+use Rattle.spec_ideal.specs.Tables.{Table, set}
 use Rattle.afs_shelves.specs.declared.shelf.Shelf.{Shelf}
 use Rattle.afs_seats.proofs.Places.{put_again}
 use Rattle.afs_shelves.specs.Numbered.{shelf_number}

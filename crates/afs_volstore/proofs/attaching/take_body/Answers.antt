@@ -1,7 +1,7 @@
 use Rattle.std.proofs.Common.{◌∙◌, ap, sym, map, rules}
-use Rattle.afs_ideal.specs.Tables.{Table}
-use Rattle.afs_fold.specs.Fold.{body_taken}
-use Rattle.afs_records.specs.Durable.{with_volumes}
+use Rattle.spec_ideal.specs.Tables.{Table}
+use Rattle.spec_fold.specs.Fold.{body_taken}
+use Rattle.spec_records.specs.Durable.{with_volumes}
 use Rattle.afs_shelves.specs.declared.shelf.Shelf.{Shelf}
 use Rattle.afs_memory.specs.Redoing.{holding}
 use Rattle.afs_memory.specs.Redos.{body_of, told}

@@ -1,8 +1,8 @@
 use Rattle.std.proofs.Common.{◌∙◌, ap, sym, rules}
 use Rattle.std.specs.Option.{option_map}
 use Rattle.afs_num.specs.declared.records.RecordBody.{RecordBody}
-use Rattle.afs_fold.specs.Fold.{body_taken}
-use Rattle.afs_records.specs.Durable.{noted}
+use Rattle.spec_fold.specs.Fold.{body_taken}
+use Rattle.spec_records.specs.Durable.{noted}
 use Rattle.afs_memory.specs.States.{parts_of}
 use Rattle.afs_store.proofs.Folding.{bad_alone, takes_one}
 use Rattle.afs_volstore.specs.VolumeFold.{volume_fold}

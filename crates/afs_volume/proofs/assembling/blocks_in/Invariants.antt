@@ -1,5 +1,5 @@
 use Rattle.std.proofs.Common.{◌≡◌, ◌≤◌, ◌*◌, take}
-use Rattle.afs_ideal.specs.Volumes.{blocks_in}
+use Rattle.spec_ideal.specs.Volumes.{blocks_in}
 use Rattle.afs_volume.specs.Seen.{all_seen}
 use Rattle.afs_volume.proofs.assembling.blocks_in.Given as goal
 

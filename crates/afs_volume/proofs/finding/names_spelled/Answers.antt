@@ -1,6 +1,6 @@
 use Rattle.std.proofs.Common.{◌≡◌, Ok, rules, arith}
-use Rattle.afs_ideal.specs.Directories.{directory_of}
-use Rattle.afs_ideal.proofs.DirectoryBytes.{read_is_spelled}
+use Rattle.spec_ideal.specs.Directories.{directory_of}
+use Rattle.spec_ideal.proofs.DirectoryBytes.{read_is_spelled}
 use Rattle.afs_volume.proofs.finding.names_spelled.Goals as goal
 
 pub returns-in-Ok-clause-few : goal.returns-in-Ok-clause-few

@@ -1,5 +1,5 @@
 use Rattle.std.proofs.Common.{◌≡◌, ◌∙◌, Some, None, rules}
-use Rattle.afs_ideal.specs.Tables.{get}
+use Rattle.spec_ideal.specs.Tables.{get}
 use Rattle.afs_volume.proofs.Taken.{blocks_found, no_blocks}
 use Rattle.afs_volume.proofs.taking.blocks_at.Goals as goal
 

@@ -1,9 +1,9 @@
 use Rattle.std.proofs.Common.{◌≡◌, ◌≤◌, length, map, nat_eq}
 use Rattle.std.specs.List.{AllByRecursion}
 use Rattle.std.specs.Vec.Iter.{into_iter_items}
-use Rattle.afs_ideal.specs.VnodeImage.{FitsImage}
-use Rattle.afs_ideal.specs.VnodeMaps.{most_vnodes}
-use Rattle.afs_ideal.specs.Volumes.{blocks_in}
+use Rattle.spec_ideal.specs.VnodeImage.{FitsImage}
+use Rattle.spec_ideal.specs.VnodeMaps.{most_vnodes}
+use Rattle.spec_ideal.specs.Volumes.{blocks_in}
 use Rattle.indexmap.specs.IndexMap as maps
 use Rattle.afs_volume.specs.Listed.{listed_as, Lists}
 use Rattle.afs_volume.specs.Seen.{all_seen, AreReadable, IsReadable}

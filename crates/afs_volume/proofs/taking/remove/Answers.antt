@@ -1,6 +1,6 @@
 use Rattle.std.proofs.Common.{◌≡◌, ◌+◌, nat_eq, arith}
 use Rattle.indexmap.specs.IndexMap as maps
-use Rattle.afs_ideal.specs.Volumes.{blocks_in}
+use Rattle.spec_ideal.specs.Volumes.{blocks_in}
 use Rattle.afs_volume.specs.Seen.{all_seen}
 use Rattle.afs_volume.proofs.Listing.{listed_unset}
 use Rattle.afs_volume.proofs.Taken.{left_counted, left_readable}

@@ -1,5 +1,5 @@
 use Rattle.std.proofs.Common.{◌≡◌, ◌≤◌, drop, nat_eq}
-use Rattle.afs_ideal.specs.Volumes.{blocks_in}
+use Rattle.spec_ideal.specs.Volumes.{blocks_in}
 use Rattle.indexmap.specs.IndexMap as maps
 use Rattle.afs_volume.specs.Listed.{Lists}
 use Rattle.afs_volume.specs.Seen.{all_seen, AreReadable}

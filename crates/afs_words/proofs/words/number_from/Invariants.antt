@@ -1,5 +1,5 @@
 use Rattle.std.proofs.Common.{◌≡◌, ◌≤◌, drop}
-use Rattle.afs_model.specs.ScriptWords.{number_from}
+use Rattle.spec_model.specs.ScriptWords.{number_from}
 use Rattle.afs_words.proofs.words.number_from.Given as goal
 
 abbrev pub invariant-loop-digit : goal.invariant-loop-digit

@@ -1,5 +1,5 @@
 use Rattle.std.proofs.Common.{◌≡◌, [], length}
-use Rattle.afs_model.specs.ScriptWords.{hex_from}
+use Rattle.spec_model.specs.ScriptWords.{hex_from}
 use Rattle.afs_words.proofs.words.unhexed.Given as goal
 
 abbrev pub invariant-loop-high : goal.invariant-loop-high

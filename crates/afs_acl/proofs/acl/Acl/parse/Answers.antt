@@ -1,6 +1,6 @@
 use Rattle.std.proofs.Common.{◌≡◌, ◌+◌, ◌-◌, List, ℕ, length, Err, arith, ap, ◌∙◌, length-append}
-use Rattle.afs_ideal.specs.AccessLists.{bad_from, acl_at}
-use Rattle.afs_ideal.proofs.AccessLists.{read_is_text, bad_is_near, IsNear}
+use Rattle.spec_ideal.specs.AccessLists.{bad_from, acl_at}
+use Rattle.spec_ideal.proofs.AccessLists.{read_is_text, bad_is_near, IsNear}
 use Rattle.afs_acl.specs.Reading.{IsBadAt}
 use Rattle.afs_acl.proofs.acl.Acl.parse.Goals as goal
 

@@ -1,5 +1,5 @@
 use Rattle.std.proofs.Common.{rules}
-use Rattle.afs_ideal.proofs.AccessLists.{acl_again}
+use Rattle.spec_ideal.proofs.AccessLists.{acl_again}
 use Rattle.afs_acl.proofs.acl.Acl.text.Goals as goal
 
 pub returns-clause-parsed : goal.returns-clause-parsed

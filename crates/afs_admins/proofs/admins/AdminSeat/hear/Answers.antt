@@ -1,6 +1,6 @@
 use Rattle.std.proofs.Common.{refl, [], arith}
-use Rattle.afs_model.specs.Messages.{received_by}
-use Rattle.afs_model.proofs.Spellings.{found_in}
+use Rattle.spec_model.specs.Messages.{received_by}
+use Rattle.spec_model.proofs.Spellings.{found_in}
 use Rattle.afs_admins.proofs.Heard.{hears_message}
 use Rattle.afs_admins.proofs.admins.AdminSeat.hear.Goals as goal
 

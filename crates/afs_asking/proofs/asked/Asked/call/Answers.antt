@@ -1,9 +1,9 @@
 use Rattle.std.proofs.Common.{subst}
-use Rattle.afs_shape.specs.Rows.{IsWithin}
-use Rattle.afs_model.specs.CellRows.{cell_calls}
+use Rattle.spec_shape.specs.Rows.{IsWithin}
+use Rattle.spec_model.specs.CellRows.{cell_calls}
 use Rattle.afs_num.specs.declared.messages.Call.TheVariants as ask
-use Rattle.afs_rows.specs.Going.{next}
-use Rattle.afs_rows.specs.ClientRow.{call_by}
+use Rattle.spec_rows.specs.Going.{next}
+use Rattle.spec_rows.specs.ClientRow.{call_by}
 use Rattle.afs_asking.specs.Asking.{Asking}
 use Rattle.afs_asking.proofs.Calling.{call_within}
 use Rattle.afs_asking.proofs.asked.Asked.call.Goals as goal

@@ -1,9 +1,9 @@
 use Rattle.std.proofs.Common.{subst}
-use Rattle.afs_shape.specs.Rows.{IsWithin}
-use Rattle.afs_model.specs.CellRows.{cell_calls}
+use Rattle.spec_shape.specs.Rows.{IsWithin}
+use Rattle.spec_model.specs.CellRows.{cell_calls}
 use Rattle.afs_num.specs.declared.messages.Call.TheVariants as ask
-use Rattle.afs_rows.specs.Going.{Seek}
-use Rattle.afs_rows.specs.ClientRow.{question}
+use Rattle.spec_rows.specs.Going.{Seek}
+use Rattle.spec_rows.specs.ClientRow.{question}
 use Rattle.afs_asking.proofs.Calling.{question_within}
 use Rattle.afs_asking.proofs.seeking.Seeking.call.Goals as goal
 

@@ -1,4 +1,4 @@
-use Rattle.afs_copyrows.specs.CopyRow.{copy_begin_row}
+use Rattle.spec_copyrows.specs.CopyRow.{copy_begin_row}
 use Rattle.afs_cache.proofs.Numbers.{answers_last, answers_rise, copy_begin_rises}
 use Rattle.afs_cache.proofs.node.CacheManager.act.Goals as goal
 

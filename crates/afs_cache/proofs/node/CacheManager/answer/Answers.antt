@@ -1,8 +1,8 @@
 use Rattle.std.proofs.Common.{◌≡◌, ℕ, List, [], ◌∷◌, ◌++◌, Some, None, true, false, ap, map, filter, sym, ◌∙◌}
-use Rattle.afs_rows.specs.Going.{ClientState, Going}
-use Rattle.afs_history.specs.declared.lines.Line.{Line}
-use Rattle.afs_history.specs.declared.lines.Line.TheVariants as lines
-use Rattle.afs_rows.specs.ClientRow.{answers_step, ends_step}
+use Rattle.spec_rows.specs.Going.{ClientState, Going}
+use Rattle.spec_history.specs.declared.lines.Line.{Line}
+use Rattle.spec_history.specs.declared.lines.Line.TheVariants as lines
+use Rattle.spec_rows.specs.ClientRow.{answers_step, ends_step}
 use Rattle.afs_cache.proofs.Planning.{plan_taken}
 use Rattle.afs_cache.proofs.Replying.{ends_alone}
 use Rattle.afs_cache.proofs.node.CacheManager.answer.Goals as goal

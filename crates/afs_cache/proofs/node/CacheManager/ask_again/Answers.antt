@@ -1,5 +1,5 @@
 use Rattle.std.proofs.Common.{◌≡◌, ℕ, ◌+◌, ◌∷◌, ◌++◌, List, Some, None, ap, sym, ◌∙◌}
-use Rattle.afs_rows.specs.Going.{ClientState, Going}
+use Rattle.spec_rows.specs.Going.{ClientState, Going}
 use Rattle.afs_cache.proofs.Sought.{again_taken}
 use Rattle.afs_cache.proofs.node.CacheManager.ask_again.Goals as goal
 

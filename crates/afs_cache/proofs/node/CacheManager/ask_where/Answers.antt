@@ -1,7 +1,7 @@
 use Rattle.std.proofs.Common.{◌≡◌, ℕ, ◌+◌, ◌∷◌, ◌++◌, List, Some, None, ap, sym, ◌∙◌}
-use Rattle.afs_rows.specs.Going.{ClientState, Going}
-use Rattle.afs_rows.specs.ClientRow.{asks_where, call_of, volume_asked}
-use Rattle.afs_rows.specs.Going.{operand_in}
+use Rattle.spec_rows.specs.Going.{ClientState, Going}
+use Rattle.spec_rows.specs.ClientRow.{asks_where, call_of, volume_asked}
+use Rattle.spec_rows.specs.Going.{operand_in}
 use Rattle.afs_cache.proofs.Sought.{nowhere_taken, where_taken}
 use Rattle.afs_cache.proofs.Replying.{idle_act}
 use Rattle.afs_cache.proofs.node.CacheManager.ask_where.Goals as goal

@@ -1,7 +1,7 @@
 use Rattle.std.specs.declared.alloc.AllocError.{AllocError}
 use Rattle.std.proofs.Common.{◌≡◌, ℕ, ◌<◌, Ok, subst, sym, ap, ◌∙◌}
-use Rattle.afs_model.specs.Steps.{NodeState}
-use Rattle.afs_copyrows.specs.Sites.{CopyState}
+use Rattle.spec_model.specs.Steps.{NodeState}
+use Rattle.spec_copyrows.specs.Sites.{CopyState}
 use Rattle.afs_cache.specs.Managing.{number_limit}
 use Rattle.afs_cache.proofs.Siting.{begun_anew, round_back}
 use Rattle.afs_cache.proofs.node.CacheManager.begin.Goals as goal

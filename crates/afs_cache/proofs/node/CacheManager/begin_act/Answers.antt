@@ -1,7 +1,7 @@
 use Rattle.std.proofs.Common.{◌≡◌, [], ◌∷◌, ap, ◌∙◌}
-use Rattle.afs_history.specs.declared.acts.Act.{Act}
-use Rattle.afs_history.specs.declared.lines.Line.TheVariants as lines
-use Rattle.afs_rows.specs.Going.{began}
+use Rattle.spec_history.specs.declared.acts.Act.{Act}
+use Rattle.spec_history.specs.declared.lines.Line.TheVariants as lines
+use Rattle.spec_rows.specs.Going.{began}
 use Rattle.afs_cache.proofs.Dropping.{begun}
 use Rattle.afs_cache.proofs.node.CacheManager.begin_act.Goals as goal
 

@@ -1,11 +1,11 @@
 use Rattle.std.proofs.Common.{List, ap, ◌++◌, ◌∙◌}
-use Rattle.afs_history.specs.declared.lines.Line.{Line}
+use Rattle.spec_history.specs.declared.lines.Line.{Line}
 use Rattle.afs_num.specs.declared.types.Fid.{Fid}
-use Rattle.afs_model.specs.Steps.{NodeState}
-use Rattle.afs_rows.specs.Going.{ClientState}
-use Rattle.afs_rows.specs.ClientRow.{gives_all, gives_by}
+use Rattle.spec_model.specs.Steps.{NodeState}
+use Rattle.spec_rows.specs.Going.{ClientState}
+use Rattle.spec_rows.specs.ClientRow.{gives_all, gives_by}
 use Rattle.afs_entries.specs.Cached.{unlisted}
-use Rattle.afs_copyrows.specs.Sites.{CopyState}
+use Rattle.spec_copyrows.specs.Sites.{CopyState}
 use Rattle.afs_cache.specs.Acting.{but_for, but_for_these, followed}
 use Rattle.afs_cache.proofs.Dropping.{changed_busy, gives_dropped, plan_moves}
 use Rattle.afs_cache.proofs.node.CacheManager.begin_giving.Goals as goal

@@ -1,11 +1,11 @@
 use Rattle.std.proofs.Common.{List, None, ap, ◌∙◌}
-use Rattle.afs_history.specs.declared.lines.Line.{Line}
+use Rattle.spec_history.specs.declared.lines.Line.{Line}
 use Rattle.afs_num.specs.declared.types.Fid.{Fid}
-use Rattle.afs_model.specs.Steps.{NodeState}
-use Rattle.afs_rows.specs.Going.{ClientState}
-use Rattle.afs_rows.specs.ClientRow.{goes_on}
+use Rattle.spec_model.specs.Steps.{NodeState}
+use Rattle.spec_rows.specs.Going.{ClientState}
+use Rattle.spec_rows.specs.ClientRow.{goes_on}
 use Rattle.afs_entries.specs.Cached.{touched_all}
-use Rattle.afs_copyrows.specs.Sites.{CopyState}
+use Rattle.spec_copyrows.specs.Sites.{CopyState}
 use Rattle.afs_cache.specs.Acting.{followed, over, seen_with, whole_walk}
 use Rattle.afs_cache.proofs.Planning.{plan_goes, touch_view, way_goes}
 use Rattle.afs_cache.proofs.node.CacheManager.begin_walking.Goals as goal

@@ -1,5 +1,5 @@
 use Rattle.std.proofs.Common.{◌≡◌, ℕ}
-use Rattle.afs_rows.specs.ClientRow.{calls_again}
+use Rattle.spec_rows.specs.ClientRow.{calls_again}
 use Rattle.afs_cache.specs.Managing.{by_act}
 use Rattle.afs_cache.proofs.Placing.{told_none}
 use Rattle.afs_cache.proofs.node.CacheManager.call_again.Goals as goal

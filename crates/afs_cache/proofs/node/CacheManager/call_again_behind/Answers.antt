@@ -1,8 +1,8 @@
 use Rattle.std.proofs.Common.{◌≡◌, ℕ, List, [], ◌∷◌, ◌++◌, Some, None, true, false, ap, map, filter, sym, ◌∙◌}
-use Rattle.afs_rows.specs.Going.{ClientState, Going}
-use Rattle.afs_history.specs.declared.lines.Line.{Line}
-use Rattle.afs_history.specs.declared.lines.Line.TheVariants as lines
-use Rattle.afs_rows.specs.ClientRow.{calls_again, calls_step}
+use Rattle.spec_rows.specs.Going.{ClientState, Going}
+use Rattle.spec_history.specs.declared.lines.Line.{Line}
+use Rattle.spec_history.specs.declared.lines.Line.TheVariants as lines
+use Rattle.spec_rows.specs.ClientRow.{calls_again, calls_step}
 use Rattle.afs_cache.specs.Managing.{by_act, by_call, telling}
 use Rattle.afs_cache.proofs.Planning.{plan_taken}
 use Rattle.afs_cache.proofs.Replying.{again_as, idle_act, idle_behind}

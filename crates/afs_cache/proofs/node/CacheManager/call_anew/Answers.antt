@@ -1,7 +1,7 @@
 use Rattle.std.proofs.Common.{◌≡◌, ℕ, List}
-use Rattle.afs_history.specs.declared.lines.Line.{Line}
-use Rattle.afs_rows.specs.Going.{ClientState}
-use Rattle.afs_rows.specs.ClientRow.{calls_again, calls_step}
+use Rattle.spec_history.specs.declared.lines.Line.{Line}
+use Rattle.spec_rows.specs.Going.{ClientState}
+use Rattle.spec_rows.specs.ClientRow.{calls_again, calls_step}
 use Rattle.afs_cache.proofs.Planning.{plan_taken}
 use Rattle.afs_cache.proofs.Sought.{calls_alone}
 use Rattle.afs_cache.proofs.node.CacheManager.call_anew.Goals as goal

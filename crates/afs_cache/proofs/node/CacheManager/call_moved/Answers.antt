@@ -2,8 +2,8 @@ use Rattle.std.proofs.Common.{◌≡◌, ◌+◌, ◌∷◌, ◌++◌, ℕ, List
 use Rattle.afs_num.specs.Nodes.{same_node}
 use Rattle.afs_num.specs.declared.types.Code.{Code}
 use Rattle.afs_num.specs.declared.types.Node.{Node}
-use Rattle.afs_rows.specs.Going.{Going, Seek}
-use Rattle.afs_rows.specs.ClientRow.{calls_again, given, sought_ends}
+use Rattle.spec_rows.specs.Going.{Going, Seek}
+use Rattle.spec_rows.specs.ClientRow.{calls_again, with_given, sought_ends}
 use Rattle.std.specs.Prelude.{Option}
 use Rattle.afs_cache.specs.Locating.{calls_elsewhere, IsAskedAnew}
 use Rattle.afs_cache.specs.Managing.{Takes}
@@ -18,7 +18,7 @@ returns-then-is_left c = λ k e.
     let so = subst (λ (o : Option Seek). IsAskedAnew old.state.client o asked) e c.in_ok-asked.ensures in
     stays_there old.node old.state.client k.act c.args.left old c.answer_seeking.new.self c.answer_seeking.result
     (sym c.if-is_left.true ∙ (c.is-is_left.ensures ∙ (ap (same_node c.callee.result) c.server-server.ensures ∙ ap (λ (n : Node). same_node n c.args.left.server) (anew_callee old.state.client k asked c.callee.result so c.callee.ensures.value))))
-    (subst (λ (x : Code). Takes (λ (place : ℕ). sought_ends old.node old.state.client (given place) x) old c.answer_seeking.new.self c.answer_seeking.result) c.code-code.ensures c.answer_seeking.ensures)
+    (subst (λ (x : Code). Takes (λ (place : ℕ). sought_ends old.node old.state.client (with_given place) x) old c.answer_seeking.new.self c.answer_seeking.result) c.code-code.ensures c.answer_seeking.ensures)
 
 pub returns-else-is_left : goal.returns-else-is_left
 returns-else-is_left c = λ k e.

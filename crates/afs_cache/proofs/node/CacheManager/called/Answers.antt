@@ -1,5 +1,5 @@
 use Rattle.std.proofs.Common.{◌≡◌, ℕ, ap}
-use Rattle.afs_model.specs.Calls.{admitted}
+use Rattle.spec_model.specs.Calls.{admitted}
 use Rattle.afs_cache.specs.Serving.{admits_asking}
 use Rattle.afs_cache.proofs.Placing.{stills_same}
 use Rattle.afs_cache.proofs.node.CacheManager.called.Goals as goal

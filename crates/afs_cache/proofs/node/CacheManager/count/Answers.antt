@@ -1,7 +1,7 @@
 use Rattle.std.proofs.Common.{◌≡◌, ℕ, List, [], ◌∷◌, ◌++◌, Some, None, true, false, ap, map, filter, sym, ◌∙◌}
-use Rattle.afs_rows.specs.Going.{ClientState, Going}
+use Rattle.spec_rows.specs.Going.{ClientState, Going}
 use Rattle.afs_num.specs.declared.messages.Carried.{Carried}
-use Rattle.afs_rows.specs.ClientRow.{counts, resends_step}
+use Rattle.spec_rows.specs.ClientRow.{counts, resends_step}
 use Rattle.afs_cache.specs.Wanted.{counts_reply}
 use Rattle.afs_cache.specs.Managing.{hears_refusal, by_act}
 use Rattle.afs_cache.proofs.Replying.{counted_as, ignored_taken, replied_as, resends_keep}

@@ -1,6 +1,6 @@
 use Rattle.afs_cache.proofs.Replying.{ignored_taken}
 use Rattle.std.proofs.Common.{◌≡◌, ℕ, ap, sym, ◌∙◌}
-use Rattle.afs_rows.specs.Going.{Going}
+use Rattle.spec_rows.specs.Going.{Going}
 use Rattle.afs_cache.specs.Wanted.{counts_reply}
 use Rattle.afs_num.specs.declared.messages.Reply.{Reply}
 use Rattle.afs_cache.specs.Managing.{by_act}

@@ -1,7 +1,7 @@
 use Rattle.std.proofs.Common.{◌≡◌, ◌<◌, ◌+◌, ℕ, Bool, true, false, cond, ◌||◌, ◌&&◌, List, [], ◌∷◌, ◌++◌, map, filter, Option, Some, None, Ok, Err, refl, ap, sym, subst, ◌∙◌}
-use Rattle.afs_rows.specs.Going.{Going}
-use Rattle.afs_rows.specs.ClientRow.{call_of, gives_up}
-use Rattle.afs_copyrows.specs.Sites.{Round, round_of}
+use Rattle.spec_rows.specs.Going.{Going}
+use Rattle.spec_rows.specs.ClientRow.{call_of, gives_up}
+use Rattle.spec_copyrows.specs.Sites.{Round, round_of}
 use Rattle.afs_cache.proofs.Siting.{dies_given_up, dies_in, round_is}
 use Rattle.afs_cache.proofs.node.CacheManager.die.Goals as goal
 

@@ -1,8 +1,8 @@
 use Rattle.std.proofs.Common.{◌≡◌, ◌<◌, ◌+◌, ℕ, Bool, true, false, cond, ◌||◌, ◌&&◌, List, [], ◌∷◌, ◌++◌, map, filter, Option, Some, None, Ok, Err, refl, ap, sym, subst, ◌∙◌}
-use Rattle.afs_model.specs.Steps.{NodeState}
+use Rattle.spec_model.specs.Steps.{NodeState}
 use Rattle.afs_num.specs.declared.types.Fid.{Fid}
-use Rattle.afs_rows.specs.Going.{Going}
-use Rattle.afs_copyrows.specs.Sites.{CopyState}
+use Rattle.spec_rows.specs.Going.{Going}
+use Rattle.spec_copyrows.specs.Sites.{CopyState}
 use Rattle.afs_entries.specs.Cached.{unlisted}
 use Rattle.afs_cache.specs.Acting.{but_for_these, followed}
 use Rattle.afs_cache.proofs.Dropping.{changed_view}

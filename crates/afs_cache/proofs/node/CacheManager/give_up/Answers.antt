@@ -1,8 +1,8 @@
 use Rattle.std.proofs.Common.{◌≡◌, ℕ, ◌+◌, List, [], ◌∷◌, ◌++◌, Some, None, true, false, ap, map, filter, sym, ◌∙◌}
-use Rattle.afs_rows.specs.Going.{ClientState, Going}
-use Rattle.afs_history.specs.declared.lines.Line.{Line}
-use Rattle.afs_history.specs.declared.lines.Line.TheVariants as lines
-use Rattle.afs_rows.specs.ClientRow.{dead_code, dropped, ends_step}
+use Rattle.spec_rows.specs.Going.{ClientState, Going}
+use Rattle.spec_history.specs.declared.lines.Line.{Line}
+use Rattle.spec_history.specs.declared.lines.Line.TheVariants as lines
+use Rattle.spec_rows.specs.ClientRow.{dead_code, dropped, ends_step}
 use Rattle.afs_entries.specs.Cached.{drops_of, left}
 use Rattle.afs_cache.specs.Managing.{given_up}
 use Rattle.afs_cache.proofs.Answering.{goes_answered}

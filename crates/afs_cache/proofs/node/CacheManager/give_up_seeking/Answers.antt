@@ -1,7 +1,7 @@
 use Rattle.std.proofs.Common.{◌≡◌, ℕ, ◌+◌, ◌∷◌, ◌++◌, List, Some, None, ap, sym, ◌∙◌}
-use Rattle.afs_history.specs.declared.lines.Line.{Line}
-use Rattle.afs_model.specs.Calls.{last_timeout}
-use Rattle.afs_rows.specs.ClientRow.{dead_code, sought_ends, timeout_line}
+use Rattle.spec_history.specs.declared.lines.Line.{Line}
+use Rattle.spec_model.specs.Calls.{last_timeout}
+use Rattle.spec_rows.specs.ClientRow.{dead_code, sought_ends, timeout_line}
 use Rattle.afs_cache.proofs.Placing.{still_goes_answered}
 use Rattle.afs_cache.proofs.node.CacheManager.give_up_seeking.Goals as goal
 

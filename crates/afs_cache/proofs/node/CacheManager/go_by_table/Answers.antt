@@ -1,5 +1,5 @@
 use Rattle.std.proofs.Common.{◌≡◌, ℕ, ◌+◌, ◌∷◌, ◌++◌, List, Some, None, ap, sym, ◌∙◌}
-use Rattle.afs_rows.specs.Going.{ClientState, Going}
+use Rattle.spec_rows.specs.Going.{ClientState, Going}
 use Rattle.afs_cache.specs.Locating.{volume_sought}
 use Rattle.afs_cache.proofs.Sought.{found_taken, missed_taken}
 use Rattle.afs_cache.proofs.node.CacheManager.go_by_table.Goals as goal

@@ -1,7 +1,7 @@
 use Rattle.std.proofs.Common.{◌≡◌, ℕ, ◌+◌, ◌∷◌, ◌++◌, List, Some, None, ap, sym, ◌∙◌}
-use Rattle.afs_rows.specs.Going.{ClientState, Going}
-use Rattle.afs_rows.specs.Going.{Left, filled}
-use Rattle.afs_rows.specs.ClientRow.{given, walks_on}
+use Rattle.spec_rows.specs.Going.{ClientState, Going}
+use Rattle.spec_rows.specs.Going.{Left, filled}
+use Rattle.spec_rows.specs.ClientRow.{with_given, walks_on}
 use Rattle.afs_cache.specs.Locating.{calls_elsewhere, found_on, left_sought}
 use Rattle.afs_cache.proofs.Answering.{takes_same}
 use Rattle.afs_cache.proofs.node.CacheManager.go_found.Goals as goal
@@ -15,5 +15,5 @@ returns-in-Some c = λ k e.
 pub returns-in-None : goal.returns-in-None
 returns-in-None c = λ k e.
     let old = c.args.self.now in
-    takes_same (λ (place : ℕ). walks_on old.node old.state.client c.args.now (given place) (filled old.state.client.table k.act) old.state.client.cache) (λ (place : ℕ). found_on old.node old.state.client c.args.now place k k.left) old c.go_located.new.self c.go_located.result
+    takes_same (λ (place : ℕ). walks_on old.node old.state.client c.args.now (with_given place) (filled old.state.client.table k.act) old.state.client.cache) (λ (place : ℕ). found_on old.node old.state.client c.args.now place k k.left) old c.go_located.new.self c.go_located.result
     (λ place. ap (found_on old.node old.state.client c.args.now place k) (sym c.in-None.is ∙ (c.left_sought.ensures ∙ ap left_sought e))) (c.go_located.ensures k e)

@@ -1,10 +1,10 @@
 use Rattle.std.specs.declared.alloc.AllocError.{AllocError}
 use Rattle.std.proofs.Common.{◌≡◌, ℕ, ◌+◌, ◌∷◌, ◌++◌, List, Some, None, ap, sym, ◌∙◌}
-use Rattle.afs_rows.specs.Going.{ClientState, Going}
-use Rattle.afs_model.specs.Steps.{NodeState}
+use Rattle.spec_rows.specs.Going.{ClientState, Going}
+use Rattle.spec_model.specs.Steps.{NodeState}
 use Rattle.std.proofs.Common.{subst}
 use Rattle.std.specs.Prelude.{◌<◌, IsSome, Ok}
-use Rattle.afs_copyrows.specs.Sites.{CopyState}
+use Rattle.spec_copyrows.specs.Sites.{CopyState}
 use Rattle.afs_cache.specs.Managing.{number_limit}
 use Rattle.afs_cache.specs.Locating.{goes_by_table}
 use Rattle.afs_cache.specs.Managing.{Takes}

@@ -1,9 +1,9 @@
 use Rattle.std.proofs.Common.{◌≡◌, ℕ, ◌+◌, ◌∷◌, ◌++◌, List, Some, None, ap, sym, ◌∙◌}
-use Rattle.afs_rows.specs.Going.{ClientState, Going}
+use Rattle.spec_rows.specs.Going.{ClientState, Going}
 use Rattle.std.proofs.Common.{subst}
 use Rattle.afs_num.specs.declared.messages.Carried.{Carried}
-use Rattle.afs_model.specs.Messages.{HasSpelling}
-use Rattle.afs_rows.specs.ClientRow.{given, located_by, seeks_again, sought_by, sought_ends}
+use Rattle.spec_model.specs.Messages.{HasSpelling}
+use Rattle.spec_rows.specs.ClientRow.{with_given, located_by, seeks_again, sought_by, sought_ends}
 use Rattle.afs_cache.specs.Locating.{entry_told}
 use Rattle.afs_cache.proofs.Answering.{takes_same}
 use Rattle.afs_cache.proofs.Sought.{told_as, entry_fits}
@@ -12,7 +12,7 @@ use Rattle.afs_cache.proofs.node.CacheManager.hear_database.Goals as goal
 pub returns-in-Refusal : goal.returns-in-Refusal
 returns-in-Refusal c = λ k e.
     let old = c.args.self.now in
-    takes_same (λ (place : ℕ). sought_ends old.node old.state.client (given place) c.in-Refusal.code) (λ (place : ℕ). sought_by old.node old.state.client c.args.now place k c.args.head.now c.args.carried) old c.answer_seeking.new.self c.answer_seeking.result
+    takes_same (λ (place : ℕ). sought_ends old.node old.state.client (with_given place) c.in-Refusal.code) (λ (place : ℕ). sought_by old.node old.state.client c.args.now place k c.args.head.now c.args.carried) old c.answer_seeking.new.self c.answer_seeking.result
     (λ place. ap (sought_by old.node old.state.client c.args.now place k c.args.head.now) (sym c.in-Refusal.is)) c.answer_seeking.ensures
 
 pub returns-in-Reply : goal.returns-in-Reply

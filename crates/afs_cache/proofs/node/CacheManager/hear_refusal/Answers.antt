@@ -1,6 +1,6 @@
 use Rattle.std.proofs.Common.{◌≡◌, ℕ, List, [], ◌∷◌, ◌++◌, Some, None, true, false, ap, map, filter, sym, ◌∙◌}
-use Rattle.afs_rows.specs.Going.{ClientState, Going}
-use Rattle.afs_rows.specs.ClientRow.{calls_again, refuses}
+use Rattle.spec_rows.specs.Going.{ClientState, Going}
+use Rattle.spec_rows.specs.ClientRow.{calls_again, refuses}
 use Rattle.afs_cache.proofs.Replying.{spent_again, unspent_heard}
 use Rattle.afs_cache.proofs.node.CacheManager.hear_refusal.Goals as goal
 

@@ -1,5 +1,5 @@
 use Rattle.std.proofs.Common.{◌≡◌, ℕ, refl}
-use Rattle.afs_rows.specs.ClientRow.{ignores}
+use Rattle.spec_rows.specs.ClientRow.{ignores}
 use Rattle.afs_cache.proofs.Placing.{still_taken}
 use Rattle.afs_cache.proofs.node.CacheManager.ignore.Goals as goal
 

@@ -1,7 +1,7 @@
 use Rattle.std.proofs.Common.{◌≡◌, ◌<◌, ◌+◌, ℕ, Bool, true, false, cond, ◌||◌, ◌&&◌, List, [], ◌∷◌, ◌++◌, map, filter, Option, Some, None, Ok, Err, refl, ap, sym, subst, ◌∙◌}
-use Rattle.afs_history.specs.declared.lines.Line.TheVariants as lines
-use Rattle.afs_rows.specs.Going.{Going}
-use Rattle.afs_copyrows.specs.Sites.{calls_round, Round}
+use Rattle.spec_history.specs.declared.lines.Line.TheVariants as lines
+use Rattle.spec_rows.specs.Going.{Going}
+use Rattle.spec_copyrows.specs.Sites.{calls_round, Round}
 use Rattle.afs_cache.specs.Rounds.{OfAct}
 use Rattle.afs_cache.proofs.node.CacheManager.leave_site.Goals as goal
 

@@ -1,5 +1,5 @@
 use Rattle.std.proofs.Common.{◌≡◌, ℕ, ◌+◌, ◌∷◌, ◌++◌, List, Some, None, ap, sym, ◌∙◌}
-use Rattle.afs_rows.specs.Going.{ClientState, Going}
+use Rattle.spec_rows.specs.Going.{ClientState, Going}
 use Rattle.std.proofs.Common.{subst}
 use Rattle.std.proofs.Common.{Option, Vec, Global}
 use Rattle.std.specs.Option.{option_map}

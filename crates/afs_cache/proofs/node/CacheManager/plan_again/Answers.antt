@@ -1,8 +1,8 @@
 use Rattle.std.proofs.Common.{◌≡◌, List, subst}
 use Rattle.std.specs.Prelude.{IfOk}
-use Rattle.afs_history.specs.declared.lines.Line.{Line}
-use Rattle.afs_rows.specs.Going.{ClientState}
-use Rattle.afs_rows.specs.ClientRow.{calls_step}
+use Rattle.spec_history.specs.declared.lines.Line.{Line}
+use Rattle.spec_rows.specs.Going.{ClientState}
+use Rattle.spec_rows.specs.ClientRow.{calls_step}
 use Rattle.afs_asking.specs.Asking.{Asking}
 use Rattle.afs_cache.specs.Acting.{PlansFor}
 use Rattle.afs_cache.proofs.node.CacheManager.plan_again.Goals as goal

@@ -1,13 +1,13 @@
 use Rattle.std.proofs.Common.{◌≡◌, List, Result, map, ap, sym, subst, ◌∙◌}
 use Rattle.std.specs.Prelude.{IfOk}
 use Rattle.std.specs.List.{All}
-use Rattle.afs_model.specs.Steps.{NodeState}
-use Rattle.afs_rows.specs.Going.{ClientState}
-use Rattle.afs_rows.specs.States.{Gift}
-use Rattle.afs_rows.specs.ClientRow.{gift_of, in_order, trusted_in}
+use Rattle.spec_model.specs.Steps.{NodeState}
+use Rattle.spec_rows.specs.Going.{ClientState}
+use Rattle.spec_rows.specs.States.{Gift}
+use Rattle.spec_rows.specs.ClientRow.{gift_of, in_order, trusted_in}
 use Rattle.afs_asking.specs.Asking.{IsGift}
 use Rattle.afs_asking.proofs.Calling.{in_order_nodes}
-use Rattle.afs_copyrows.specs.Sites.{CopyState}
+use Rattle.spec_copyrows.specs.Sites.{CopyState}
 use Rattle.afs_cache.proofs.Planning.{if_ok}
 use Rattle.afs_cache.proofs.node.CacheManager.promised.Goals as goal
 

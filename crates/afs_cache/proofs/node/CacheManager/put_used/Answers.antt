@@ -1,5 +1,5 @@
 use Rattle.std.proofs.Common.{◌≡◌}
-use Rattle.afs_rows.specs.ClientRow.{put_entry}
+use Rattle.spec_rows.specs.ClientRow.{put_entry}
 use Rattle.afs_entries.specs.Cached.{entry_of}
 use Rattle.afs_cache.proofs.Planning.{used_view}
 use Rattle.afs_cache.proofs.node.CacheManager.put_used.Goals as goal

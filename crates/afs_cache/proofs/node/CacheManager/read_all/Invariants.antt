@@ -1,5 +1,5 @@
 use Rattle.std.proofs.Common.{◌≡◌, ◌++◌, [], drop, map}
-use Rattle.afs_rows.specs.ClientRow.{looked, status_look, with_statuses}
+use Rattle.spec_rows.specs.ClientRow.{looked, status_look, with_statuses}
 use Rattle.afs_entries.specs.Cached.{entry_of}
 use Rattle.afs_cache.proofs.node.CacheManager.read_all.Given as goal
 

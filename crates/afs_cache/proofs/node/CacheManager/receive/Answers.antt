@@ -1,7 +1,7 @@
 use Rattle.std.proofs.Common.{ℕ}
-use Rattle.afs_model.specs.CellRows.{client_calls}
-use Rattle.afs_model.specs.Messages.{received_by}
-use Rattle.afs_copyrows.specs.CopyRow.{copy_row}
+use Rattle.spec_model.specs.CellRows.{client_calls}
+use Rattle.spec_model.specs.Messages.{received_by}
+use Rattle.spec_copyrows.specs.CopyRow.{copy_row}
 use Rattle.afs_cache.proofs.Numbers.{copy_row_rises, takes_last, takes_rise}
 use Rattle.afs_cache.proofs.Siting.{received_as}
 use Rattle.afs_cache.proofs.node.CacheManager.receive.Goals as goal

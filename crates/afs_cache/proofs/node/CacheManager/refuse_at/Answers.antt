@@ -1,9 +1,9 @@
 use Rattle.std.proofs.Common.{◌≡◌, ◌<◌, ◌+◌, ℕ, Bool, true, false, cond, ◌||◌, ◌&&◌, List, [], ◌∷◌, ◌++◌, map, filter, Option, Some, None, Ok, Err, refl, ap, sym, subst, ◌∙◌}
-use Rattle.afs_history.specs.declared.lines.Line.TheVariants as lines
+use Rattle.spec_history.specs.declared.lines.Line.TheVariants as lines
 use Rattle.afs_num.specs.declared.messages.Carried.TheVariants as carried
-use Rattle.afs_rows.specs.Going.{Going}
-use Rattle.afs_rows.specs.ClientRow.{is_busy_code, is_spent}
-use Rattle.afs_copyrows.specs.Sites.{leaves_site, Round}
+use Rattle.spec_rows.specs.Going.{Going}
+use Rattle.spec_rows.specs.ClientRow.{is_busy_code, is_spent}
+use Rattle.spec_copyrows.specs.Sites.{leaves_site, Round}
 use Rattle.afs_cache.specs.Rounds.{OfAct}
 use Rattle.afs_cache.proofs.Siting.{refusal_leaves, refusal_used, spent_is}
 use Rattle.afs_cache.proofs.node.CacheManager.refuse_at.Goals as goal

@@ -1,6 +1,6 @@
 use Rattle.std.proofs.Common.{◌≡◌, ℕ, ◌+◌, ◌∷◌, ◌++◌, List, Some, None, ap, sym, ◌∙◌}
-use Rattle.afs_rows.specs.Going.{ClientState, Going}
-use Rattle.afs_rows.specs.ClientRow.{refuses_for_good}
+use Rattle.spec_rows.specs.Going.{ClientState, Going}
+use Rattle.spec_rows.specs.ClientRow.{refuses_for_good}
 use Rattle.afs_cache.proofs.Sought.{moves_taken, stays_taken}
 use Rattle.afs_cache.proofs.Replying.{idle_act}
 use Rattle.afs_cache.proofs.node.CacheManager.refuse_for_good.Goals as goal

@@ -1,6 +1,6 @@
 use Rattle.std.proofs.Common.{◌≡◌, ◌<◌, ◌+◌, ℕ, Bool, true, false, cond, ◌||◌, ◌&&◌, List, [], ◌∷◌, ◌++◌, map, filter, Option, Some, None, Ok, Err, refl, ap, sym, subst, ◌∙◌}
 use Rattle.std.specs.Prelude.{IfOk}
-use Rattle.afs_rows.specs.Going.{Seek}
+use Rattle.spec_rows.specs.Going.{Seek}
 use Rattle.afs_cache.proofs.Siting.{renewed_ok}
 use Rattle.afs_cache.proofs.node.CacheManager.renew.Goals as goal
 

@@ -1,7 +1,7 @@
 use Rattle.std.proofs.Common.{◌≡◌, ◌<◌, ◌+◌, ℕ, Bool, true, false, cond, ◌||◌, ◌&&◌, List, [], ◌∷◌, ◌++◌, map, filter, Option, Some, None, Ok, Err, refl, ap, sym, subst, ◌∙◌}
 use Rattle.std.specs.Option.{option_copied, option_map}
-use Rattle.afs_rows.specs.Going.{Seek}
-use Rattle.afs_rows.specs.States.{Location}
+use Rattle.spec_rows.specs.Going.{Seek}
+use Rattle.spec_rows.specs.States.{Location}
 use Rattle.afs_acts.specs.Located.{Puts}
 use Rattle.afs_acts.specs.declared.known.Location.{Location as Known}
 use Rattle.std.proofs.Common.{Vec, Global}

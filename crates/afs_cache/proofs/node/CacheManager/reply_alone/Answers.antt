@@ -1,6 +1,6 @@
 use Rattle.std.proofs.Common.{◌≡◌, ℕ, List, [], ap}
-use Rattle.afs_history.specs.declared.lines.Line.{Line}
-use Rattle.afs_rows.specs.ClientRow.{replies_step}
+use Rattle.spec_history.specs.declared.lines.Line.{Line}
+use Rattle.spec_rows.specs.ClientRow.{replies_step}
 use Rattle.afs_cache.proofs.Placing.{stills_same}
 use Rattle.afs_cache.proofs.node.CacheManager.reply_alone.Goals as goal
 

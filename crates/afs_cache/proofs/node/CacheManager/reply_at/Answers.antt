@@ -1,5 +1,5 @@
 use Rattle.std.proofs.Common.{◌≡◌, ◌<◌, ◌+◌, ℕ, Bool, true, false, cond, ◌||◌, ◌&&◌, List, [], ◌∷◌, ◌++◌, map, filter, Option, Some, None, Ok, Err, refl, ap, sym, subst, ◌∙◌}
-use Rattle.afs_model.specs.Messages.{HasSpelling}
+use Rattle.spec_model.specs.Messages.{HasSpelling}
 use Rattle.afs_num.specs.declared.messages.Carried.TheVariants as carried
 use Rattle.afs_num.specs.declared.messages.Reply.{Reply}
 use Rattle.afs_num.specs.declared.messages.Reply.TheVariants as tell

@@ -1,8 +1,8 @@
 use Rattle.std.proofs.Common.{◌≡◌, ℕ, ◌+◌, List, [], ◌∷◌, ◌++◌, Some, None, true, false, ap, map, filter, sym, ◌∙◌}
-use Rattle.afs_rows.specs.Going.{ClientState, Going}
-use Rattle.afs_model.specs.Steps.{NodeState}
-use Rattle.afs_rows.specs.ClientRow.{resends_step}
-use Rattle.afs_copyrows.specs.Sites.{CopyState}
+use Rattle.spec_rows.specs.Going.{ClientState, Going}
+use Rattle.spec_model.specs.Steps.{NodeState}
+use Rattle.spec_rows.specs.ClientRow.{resends_step}
+use Rattle.spec_copyrows.specs.Sites.{CopyState}
 use Rattle.afs_cache.proofs.Replying.{idle_stays, resent_taken}
 use Rattle.afs_cache.proofs.node.CacheManager.resend.Goals as goal
 

@@ -1,5 +1,5 @@
 use Rattle.std.proofs.Common.{◌≡◌, ℕ, ap, sym, ◌∙◌}
-use Rattle.afs_model.specs.CellRows.{call_number}
+use Rattle.spec_model.specs.CellRows.{call_number}
 use Rattle.afs_num.specs.declared.messages.Call.{Call}
 use Rattle.afs_cache.specs.Serving.{runs_asking}
 use Rattle.afs_cache.specs.declared.serving.Asking.TheVariants as askings

@@ -1,9 +1,9 @@
 use Rattle.std.proofs.Common.{◌≡◌, ℕ, ◌+◌, ◌∷◌, ◌++◌, List, Some, None, ap, sym, ◌∙◌}
-use Rattle.afs_rows.specs.Going.{ClientState, Going}
-use Rattle.afs_history.specs.declared.lines.Line.{Line}
-use Rattle.afs_model.specs.Steps.{NodeState}
-use Rattle.afs_rows.specs.ClientRow.{asks_where, seeks_step}
-use Rattle.afs_copyrows.specs.Sites.{CopyState}
+use Rattle.spec_rows.specs.Going.{ClientState, Going}
+use Rattle.spec_history.specs.declared.lines.Line.{Line}
+use Rattle.spec_model.specs.Steps.{NodeState}
+use Rattle.spec_rows.specs.ClientRow.{asks_where, seeks_step}
+use Rattle.spec_copyrows.specs.Sites.{CopyState}
 use Rattle.afs_cache.specs.Acting.{followed}
 use Rattle.afs_cache.specs.Managing.{by_act}
 use Rattle.afs_cache.proofs.Sought.{seeks_where}

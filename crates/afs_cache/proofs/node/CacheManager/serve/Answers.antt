@@ -3,7 +3,7 @@ use Rattle.afs_num.specs.declared.types.Fid.{Fid}
 use Rattle.afs_num.specs.declared.calls.FsCall.{FsCall}
 use Rattle.afs_num.specs.declared.calls.FsReply.TheVariants as replies
 use Rattle.afs_num.specs.declared.messages.Carried.{Carried}
-use Rattle.afs_rows.specs.ClientRow.{breaks, done, drop_line, replies_step, without_fids}
+use Rattle.spec_rows.specs.ClientRow.{breaks, reply_carried, drop_line, replies_step, without_fids}
 use Rattle.afs_cache.specs.Managing.{Takes}
 use Rattle.afs_cache.proofs.Placing.{stills_same}
 use Rattle.afs_cache.proofs.Breaking.{refused_others}
@@ -13,8 +13,8 @@ pub returns-in-CallBack : goal.returns-in-CallBack
 returns-in-CallBack c =
     let old = c.args.self.now in
     let named : c.as_slice.result.now ≡ c.in-CallBack.fids = c.as_slice.ensures in
-    stills_same (λ (place : ℕ). replies_step (without_fids old.state.client c.as_slice.result.now) place c.args.head.now (map (drop_line old.node) c.as_slice.result.now) (done replies.CallBack)) (λ (place : ℕ). breaks old.node old.state.client place c.args.head.now c.args.call) old c.break_fids.new.self c.break_fids.result
-    (λ place. ap (λ (fs : List Fid). replies_step (without_fids old.state.client fs) place c.args.head.now (map (drop_line old.node) fs) (done replies.CallBack)) named ∙ ap (breaks old.node old.state.client place c.args.head.now) (sym c.in-CallBack.is))
+    stills_same (λ (place : ℕ). replies_step (without_fids old.state.client c.as_slice.result.now) place c.args.head.now (map (drop_line old.node) c.as_slice.result.now) (reply_carried replies.CallBack)) (λ (place : ℕ). breaks old.node old.state.client place c.args.head.now c.args.call) old c.break_fids.new.self c.break_fids.result
+    (λ place. ap (λ (fs : List Fid). replies_step (without_fids old.state.client fs) place c.args.head.now (map (drop_line old.node) fs) (reply_carried replies.CallBack)) named ∙ ap (breaks old.node old.state.client place c.args.head.now) (sym c.in-CallBack.is))
     c.break_fids.ensures
 
 pub returns-in-InitCallBackState : goal.returns-in-InitCallBackState

@@ -1,6 +1,6 @@
 use Rattle.afs_num.specs.declared.calls.FsCall.{FsCall}
-use Rattle.afs_rows.specs.Going.{ClientState, Going}
-use Rattle.afs_rows.specs.ClientRow.{takes, takes_plain}
+use Rattle.spec_rows.specs.Going.{ClientState, Going}
+use Rattle.spec_rows.specs.ClientRow.{takes, takes_plain}
 use Rattle.afs_cache.specs.Managing.{by_call}
 use Rattle.afs_cache.proofs.Answering.{takes_same}
 use Rattle.std.proofs.Common.{◌≡◌, ℕ, List, [], ◌∷◌, ◌++◌, Some, None, true, false, ap, map, filter, sym, ◌∙◌}

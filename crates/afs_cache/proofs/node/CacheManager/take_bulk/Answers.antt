@@ -1,9 +1,9 @@
 use Rattle.afs_entries.specs.Cached.{entry_of}
 use Rattle.std.proofs.Common.{◌≡◌, ℕ, List, [], ◌∷◌, ◌++◌, Some, None, true, false, ap, map, filter, sym, ◌∙◌}
 use Rattle.afs_num.specs.declared.calls.FsCall.{FsCall}
-use Rattle.afs_rows.specs.Going.{ClientState, Going}
-use Rattle.afs_rows.specs.States.{CacheEntry}
-use Rattle.afs_rows.specs.ClientRow.{call_of, entries_told, takes_bulk, takes_plain}
+use Rattle.spec_rows.specs.Going.{ClientState, Going}
+use Rattle.spec_rows.specs.States.{CacheEntry}
+use Rattle.spec_rows.specs.ClientRow.{call_of, entries_told, takes_bulk, takes_plain}
 use Rattle.afs_cache.specs.Wanted.{shows_statuses, statuses_wanted}
 use Rattle.afs_cache.proofs.Replying.{bulk_as, bulk_none, none_behind, some_behind}
 use Rattle.afs_cache.proofs.node.CacheManager.take_bulk.Goals as goal

@@ -1,8 +1,8 @@
 use Rattle.std.proofs.Common.{◌≡◌, ℕ, List, [], ◌∷◌, ◌++◌, Some, None, true, false, ap, map, filter, sym, ◌∙◌}
-use Rattle.afs_rows.specs.Going.{ClientState, Going}
+use Rattle.spec_rows.specs.Going.{ClientState, Going}
 use Rattle.afs_num.specs.declared.calls.FsCall.{FsCall}
 use Rattle.afs_num.specs.declared.histories.Body.TheVariants as bodies
-use Rattle.afs_rows.specs.ClientRow.{call_of, status_told, takes_bytes, takes_plain, takes_stored}
+use Rattle.spec_rows.specs.ClientRow.{call_of, status_told, takes_bytes, takes_plain, takes_stored}
 use Rattle.afs_cache.proofs.Replying.{spoiled_taken, unspoiled_taken, idle_act}
 use Rattle.afs_cache.proofs.node.CacheManager.take_bytes.Goals as goal
 

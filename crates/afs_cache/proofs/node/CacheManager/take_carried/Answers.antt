@@ -1,7 +1,7 @@
 use Rattle.std.proofs.Common.{◌≡◌, ℕ, ap, sym}
 use Rattle.afs_num.specs.declared.messages.Carried.TheVariants as carried
-use Rattle.afs_model.specs.Calls.{admitted}
-use Rattle.afs_rows.specs.ClientRow.{hears, whole}
+use Rattle.spec_model.specs.Calls.{admitted}
+use Rattle.spec_rows.specs.ClientRow.{hears, whole}
 use Rattle.afs_cache.specs.declared.serving.Asking.TheVariants as askings
 use Rattle.afs_cache.proofs.Answering.{asked_by, takes_same}
 use Rattle.afs_cache.proofs.Placing.{still_taken}

@@ -1,7 +1,7 @@
 use Rattle.std.proofs.Common.{◌≡◌, ℕ, List, Some, None, ap, sym}
-use Rattle.afs_rows.specs.Going.{ClientState, Going}
+use Rattle.spec_rows.specs.Going.{ClientState, Going}
 use Rattle.afs_num.specs.declared.calls.FsCall.{FsCall}
-use Rattle.afs_rows.specs.ClientRow.{call_of, takes_plain, takes_status}
+use Rattle.spec_rows.specs.ClientRow.{call_of, takes_plain, takes_status}
 use Rattle.afs_cache.specs.Wanted.{fields_by, fields_stored, takes_fields}
 use Rattle.afs_cache.proofs.Replying.{none_taken, some_taken}
 use Rattle.afs_cache.proofs.node.CacheManager.take_fields.Goals as goal

@@ -1,9 +1,9 @@
 use Rattle.std.proofs.Common.{◌≡◌, ℕ, ap, refl, sym, subst, ◌∙◌}
 use Rattle.afs_num.specs.declared.messages.Received.{Received}
 use Rattle.afs_num.specs.declared.messages.Received.TheVariants.{Nothing, Unreadable, Unserved, Whole}
-use Rattle.afs_rows.specs.ClientRow.{guest_row, ignores}
-use Rattle.afs_rows.specs.ServerRow.{not_served}
-use Rattle.afs_copyrows.specs.CopyRow.{copy_row}
+use Rattle.spec_rows.specs.ClientRow.{guest_row, ignores}
+use Rattle.spec_rows.specs.ServerRow.{not_served}
+use Rattle.spec_copyrows.specs.CopyRow.{copy_row}
 use Rattle.afs_cache.specs.Managing.{TakesCopy}
 use Rattle.afs_cache.specs.Serving.{takes_asking}
 use Rattle.afs_cache.specs.declared.serving.Asking.TheVariants as askings

@@ -1,7 +1,7 @@
 use Rattle.std.proofs.Common.{◌≡◌, ◌<◌, ◌+◌, ℕ, Bool, true, false, cond, ◌||◌, ◌&&◌, List, [], ◌∷◌, ◌++◌, map, filter, Option, Some, None, Ok, Err, refl, ap, sym, subst, ◌∙◌}
 use Rattle.std.specs.Prelude.{is_some}
-use Rattle.afs_model.specs.Steps.{NodeState}
-use Rattle.afs_copyrows.specs.Sites.{CopyState}
+use Rattle.spec_model.specs.Steps.{NodeState}
+use Rattle.spec_copyrows.specs.Sites.{CopyState}
 use Rattle.afs_cache.proofs.Siting.{idle_heard, message_heard, none_seeks, some_seeks}
 use Rattle.afs_cache.proofs.node.CacheManager.take_message.Goals as goal
 

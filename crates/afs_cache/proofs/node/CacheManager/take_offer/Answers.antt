@@ -2,7 +2,7 @@ use Rattle.std.proofs.Common.{◌≡◌, ◌<◌, ◌+◌, ℕ, Bool, true, fals
 use Rattle.std.specs.Prelude.{IsSome}
 use Rattle.afs_num.specs.declared.messages.Carried.TheVariants as carried
 use Rattle.afs_num.specs.declared.messages.Reply.TheVariants as tell
-use Rattle.afs_copyrows.specs.CopyRow.{offer_in}
+use Rattle.spec_copyrows.specs.CopyRow.{offer_in}
 use Rattle.afs_cache.proofs.Siting.{offer_passed, offer_used, offered_some, unspent}
 use Rattle.afs_cache.proofs.node.CacheManager.take_offer.Goals as goal
 

@@ -1,6 +1,6 @@
 use Rattle.std.proofs.Common.{◌≡◌, ◌<◌, ◌+◌, ℕ, Bool, true, false, cond, ◌||◌, ◌&&◌, List, [], ◌∷◌, ◌++◌, map, filter, Option, Some, None, Ok, Err, refl, ap, sym, subst, ◌∙◌}
-use Rattle.afs_rows.specs.Going.{Going}
-use Rattle.afs_rows.specs.ClientRow.{takes_plain}
+use Rattle.spec_rows.specs.Going.{Going}
+use Rattle.spec_rows.specs.ClientRow.{takes_plain}
 use Rattle.afs_cache.specs.Managing.{by_call}
 use Rattle.afs_cache.proofs.Placing.{told_none}
 use Rattle.afs_cache.proofs.node.CacheManager.take_plain.Goals as goal

@@ -1,9 +1,9 @@
 use Rattle.std.proofs.Common.{◌≡◌, ℕ, List, [], ◌∷◌, ◌++◌, Some, None, true, false, ap, map, filter, sym, ◌∙◌}
-use Rattle.afs_rows.specs.Going.{ClientState, Going}
-use Rattle.afs_history.specs.declared.lines.Line.{Line}
-use Rattle.afs_history.specs.declared.lines.Line.TheVariants as lines
+use Rattle.spec_rows.specs.Going.{ClientState, Going}
+use Rattle.spec_history.specs.declared.lines.Line.{Line}
+use Rattle.spec_history.specs.declared.lines.Line.TheVariants as lines
 use Rattle.afs_num.specs.declared.calls.FsCall.{FsCall}
-use Rattle.afs_rows.specs.ClientRow.{call_of, dropped, ends_step, takes_plain, zero_code}
+use Rattle.spec_rows.specs.ClientRow.{call_of, dropped, ends_step, takes_plain, zero_code}
 use Rattle.afs_entries.specs.Cached.{drops_of, left}
 use Rattle.afs_cache.specs.Managing.{by_act, by_call, telling}
 use Rattle.afs_cache.proofs.Answering.{goes_taken}

@@ -1,6 +1,6 @@
 use Rattle.std.proofs.Common.{◌≡◌, ◌<◌, ◌+◌, ℕ, Bool, true, false, cond, ◌||◌, ◌&&◌, List, [], ◌∷◌, ◌++◌, map, filter, Option, Some, None, Ok, Err, refl, ap, sym, subst, ◌∙◌}
 use Rattle.afs_num.specs.declared.calls.FsCall.{FsCall}
-use Rattle.afs_rows.specs.Going.{Going}
+use Rattle.spec_rows.specs.Going.{Going}
 use Rattle.afs_cache.proofs.Replying.{reading_as}
 use Rattle.afs_cache.proofs.Siting.{reads_none}
 use Rattle.afs_cache.proofs.node.CacheManager.take_reading.Goals as goal

@@ -1,11 +1,11 @@
 use Rattle.std.proofs.Common.{◌≡◌, ◌<◌, ◌+◌, ℕ, Bool, true, false, cond, ◌||◌, ◌&&◌, List, [], ◌∷◌, ◌++◌, map, filter, Option, Some, None, Ok, Err, refl, ap, sym, subst, ◌∙◌}
-use Rattle.afs_history.specs.declared.lines.Line.TheVariants as lines
+use Rattle.spec_history.specs.declared.lines.Line.TheVariants as lines
 use Rattle.afs_num.specs.declared.messages.Carried.TheVariants as carried
 use Rattle.afs_num.specs.declared.messages.Message.{Message}
 use Rattle.afs_num.specs.declared.messages.Reply.TheVariants as tell
-use Rattle.afs_rows.specs.Going.{Going}
-use Rattle.afs_copyrows.specs.CopyRow.{uses_newer}
-use Rattle.afs_copyrows.specs.Sites.{leaves_site, Round, seen_of}
+use Rattle.spec_rows.specs.Going.{Going}
+use Rattle.spec_copyrows.specs.CopyRow.{uses_newer}
+use Rattle.spec_copyrows.specs.Sites.{leaves_site, Round, seen_of}
 use Rattle.std.specs.Prelude.{nat_lt}
 use Rattle.afs_cache.specs.Rounds.{OfAct}
 use Rattle.afs_cache.proofs.Siting.{release_newer, release_older, release_same}

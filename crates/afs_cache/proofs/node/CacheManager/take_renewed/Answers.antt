@@ -1,11 +1,11 @@
 use Rattle.std.proofs.Common.{◌≡◌, ◌<◌, ◌+◌, ℕ, Bool, true, false, cond, ◌||◌, ◌&&◌, List, [], ◌∷◌, ◌++◌, map, filter, Option, Some, None, Ok, Err, refl, ap, sym, subst, ◌∙◌}
 use Rattle.std.specs.declared.alloc.AllocError.{AllocError}
-use Rattle.afs_model.specs.Steps.{NodeState}
+use Rattle.spec_model.specs.Steps.{NodeState}
 use Rattle.afs_num.specs.declared.messages.Received.TheVariants.{Whole}
 use Rattle.afs_num.specs.declared.types.Node.{Node}
-use Rattle.afs_rows.specs.Going.{ClientState}
-use Rattle.afs_rows.specs.ClientRow.{guest_row}
-use Rattle.afs_copyrows.specs.Sites.{CopyState}
+use Rattle.spec_rows.specs.Going.{ClientState}
+use Rattle.spec_rows.specs.ClientRow.{guest_row}
+use Rattle.spec_copyrows.specs.Sites.{CopyState}
 use Rattle.afs_cache.specs.Managing.{number_limit, Takes}
 use Rattle.afs_cache.proofs.Sought.{seeking_back, seeking_taken}
 use Rattle.afs_cache.proofs.node.CacheManager.take_renewed.Goals as goal

@@ -1,7 +1,7 @@
 use Rattle.std.proofs.Common.{◌≡◌, ℕ, List, [], ◌∷◌, ◌++◌, Some, None, true, false, ap, map, filter, sym, ◌∙◌}
 use Rattle.afs_num.specs.declared.calls.FsCall.{FsCall}
-use Rattle.afs_rows.specs.Going.{ClientState, Going}
-use Rattle.afs_rows.specs.ClientRow.{call_of, takes_list, takes_plain}
+use Rattle.spec_rows.specs.Going.{ClientState, Going}
+use Rattle.spec_rows.specs.ClientRow.{call_of, takes_list, takes_plain}
 use Rattle.afs_cache.specs.Wanted.{rights_wanted, shows_rights}
 use Rattle.afs_cache.proofs.Replying.{none_behind, rights_as, rights_none, some_behind}
 use Rattle.afs_cache.proofs.node.CacheManager.take_rights.Goals as goal

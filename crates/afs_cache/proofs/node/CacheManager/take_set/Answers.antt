@@ -1,8 +1,8 @@
 use Rattle.std.proofs.Common.{◌≡◌, ℕ, List, Some, None, ap, sym, ◌∙◌}
 use Rattle.std.specs.Option.{option_map}
 use Rattle.afs_num.specs.declared.types.Fid.{Fid}
-use Rattle.afs_rows.specs.Going.{ClientState, Going}
-use Rattle.afs_rows.specs.ClientRow.{call_of, takes_bytes, takes_set}
+use Rattle.spec_rows.specs.Going.{ClientState, Going}
+use Rattle.spec_rows.specs.ClientRow.{call_of, takes_bytes, takes_set}
 use Rattle.afs_cache.specs.Wanted.{bytes_stored, takes_fields}
 use Rattle.afs_cache.specs.declared.storing.Stored.{Stored}
 use Rattle.afs_cache.proofs.Replying.{none_taken, set_as, some_taken}

@@ -1,7 +1,7 @@
 use Rattle.std.proofs.Common.{◌≡◌, ℕ, List, [], ◌∷◌, ◌++◌, Some, None, true, false, ap, map, filter, sym, ◌∙◌}
-use Rattle.afs_rows.specs.Going.{ClientState, Going}
+use Rattle.spec_rows.specs.Going.{ClientState, Going}
 use Rattle.afs_num.specs.declared.calls.FsCall.{FsCall}
-use Rattle.afs_rows.specs.ClientRow.{call_of, find_cached, is_below, status_told, takes_plain, takes_status, takes_stored}
+use Rattle.spec_rows.specs.ClientRow.{call_of, find_cached, stands_below, status_told, takes_plain, takes_status, takes_stored}
 use Rattle.std.proofs.Common.{not, ◌&&◌}
 use Rattle.afs_cache.proofs.Replying.{else_taken, idle_act, then_taken}
 use Rattle.afs_cache.proofs.node.CacheManager.take_status.Goals as goal
@@ -16,7 +16,7 @@ returns-then-keeps c =
     let old = c.args.self.now in
     let st = old.state.client in
     let status = c.args.status.now in
-    then_taken st (not st.spoiled && is_below c.args.now status.sync_counter (find_cached c.args.fid st.cache)) c.in-Some._asked.now (λ (place : ℕ). takes_stored old.node st c.args.now place c.args.fid status.sync_counter (status_told status) (λ body. body)) (takes_plain old.node st)
+    then_taken st (not st.spoiled && stands_below c.args.now status.sync_counter (find_cached c.args.fid st.cache)) c.in-Some._asked.now (λ (place : ℕ). takes_stored old.node st c.args.now place c.args.fid status.sync_counter (status_told status) (λ body. body)) (takes_plain old.node st)
     old c.take_stored.new.self c.take_stored.result c.in-Some.ensures (sym c.if-keeps.true ∙ c.keeps_body-keeps.ensures) c.take_stored.ensures
 
 pub returns-else-keeps : goal.returns-else-keeps
@@ -24,5 +24,5 @@ returns-else-keeps c =
     let old = c.args.self.now in
     let st = old.state.client in
     let status = c.args.status.now in
-    else_taken st (not st.spoiled && is_below c.args.now status.sync_counter (find_cached c.args.fid st.cache)) (λ (place : ℕ). takes_stored old.node st c.args.now place c.args.fid status.sync_counter (status_told status) (λ body. body)) (takes_plain old.node st)
+    else_taken st (not st.spoiled && stands_below c.args.now status.sync_counter (find_cached c.args.fid st.cache)) (λ (place : ℕ). takes_stored old.node st c.args.now place c.args.fid status.sync_counter (status_told status) (λ body. body)) (takes_plain old.node st)
     old c.take_plain.new.self c.take_plain.result (sym c.if-keeps.false ∙ c.keeps_body-keeps.ensures) c.take_plain.ensures

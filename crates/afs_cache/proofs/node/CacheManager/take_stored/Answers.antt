@@ -1,12 +1,12 @@
 use Rattle.std.proofs.Common.{◌≡◌, ℕ, List, [], ◌∷◌, ◌++◌, Some, None, true, false, ap, map, filter, sym, ◌∙◌}
-use Rattle.afs_rows.specs.Going.{ClientState, Going}
-use Rattle.afs_history.specs.declared.lines.Line.{Line}
-use Rattle.afs_history.specs.declared.lines.Line.TheVariants as lines
-use Rattle.afs_model.specs.Steps.{NodeState}
-use Rattle.afs_rows.specs.ClientRow.{ends_step, refreshed, status_told, takes_stored, zero_code}
+use Rattle.spec_rows.specs.Going.{ClientState, Going}
+use Rattle.spec_history.specs.declared.lines.Line.{Line}
+use Rattle.spec_history.specs.declared.lines.Line.TheVariants as lines
+use Rattle.spec_model.specs.Steps.{NodeState}
+use Rattle.spec_rows.specs.ClientRow.{ends_step, refreshed, status_told, takes_stored, zero_code}
 use Rattle.afs_entries.specs.Cached.{made_of}
-use Rattle.afs_rows.specs.States.{CacheEntry}
-use Rattle.afs_copyrows.specs.Sites.{CopyState}
+use Rattle.spec_rows.specs.States.{CacheEntry}
+use Rattle.spec_copyrows.specs.Sites.{CopyState}
 use Rattle.afs_cache.specs.Acting.{followed}
 use Rattle.afs_cache.proofs.Dropping.{changed_view}
 use Rattle.afs_cache.proofs.Planning.{plan_taken}

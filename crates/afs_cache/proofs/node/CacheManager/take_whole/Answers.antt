@@ -1,10 +1,10 @@
 use Rattle.std.proofs.Common.{◌≡◌, ℕ, ap, ◌∙◌}
 use Rattle.afs_num.specs.Nodes.{same_node}
 use Rattle.afs_num.specs.declared.messages.Received.TheVariants.{Whole}
-use Rattle.afs_model.specs.Steps.{NodeState}
-use Rattle.afs_rows.specs.Going.{ClientState}
-use Rattle.afs_rows.specs.ClientRow.{hears, ignores, takes_in}
-use Rattle.afs_copyrows.specs.Sites.{CopyState}
+use Rattle.spec_model.specs.Steps.{NodeState}
+use Rattle.spec_rows.specs.Going.{ClientState}
+use Rattle.spec_rows.specs.ClientRow.{hears, ignores, takes_in}
+use Rattle.spec_copyrows.specs.Sites.{CopyState}
 use Rattle.afs_cache.proofs.Answering.{takes_same}
 use Rattle.afs_cache.proofs.Breaking.{chosen}
 use Rattle.afs_cache.proofs.node.CacheManager.take_whole.Goals as goal

@@ -1,6 +1,6 @@
 use Rattle.std.proofs.Common.{◌≡◌, ◌∷◌, [], ℕ, ap}
 use Rattle.afs_num.specs.declared.messages.Message.{Message}
-use Rattle.afs_rows.specs.ClientRow.{told_step}
+use Rattle.spec_rows.specs.ClientRow.{told_step}
 use Rattle.afs_cache.proofs.Placing.{stills_same}
 use Rattle.afs_cache.proofs.node.CacheManager.tell_again.Goals as goal
 

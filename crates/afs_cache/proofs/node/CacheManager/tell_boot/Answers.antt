@@ -1,10 +1,10 @@
 use Rattle.std.proofs.Common.{◌≡◌, ◌∷◌, [], ℕ, ap, ◌∙◌}
 use Rattle.afs_num.specs.declared.messages.Message.{Message}
-use Rattle.afs_model.specs.Steps.{NodeState}
-use Rattle.afs_rows.specs.Going.{ClientState}
-use Rattle.afs_rows.specs.ClientRow.{told_step}
-use Rattle.afs_rows.specs.ServerRow.{boot_told}
-use Rattle.afs_copyrows.specs.Sites.{CopyState}
+use Rattle.spec_model.specs.Steps.{NodeState}
+use Rattle.spec_rows.specs.Going.{ClientState}
+use Rattle.spec_rows.specs.ClientRow.{told_step}
+use Rattle.spec_rows.specs.ServerRow.{boot_told}
+use Rattle.spec_copyrows.specs.Sites.{CopyState}
 use Rattle.afs_cache.proofs.Placing.{stills_same}
 use Rattle.afs_cache.proofs.node.CacheManager.tell_boot.Goals as goal
 

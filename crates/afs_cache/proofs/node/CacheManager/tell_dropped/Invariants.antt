@@ -1,5 +1,5 @@
 use Rattle.std.proofs.Common.{◌≡◌, ◌++◌, take, map}
-use Rattle.afs_rows.specs.ClientRow.{drop_line}
+use Rattle.spec_rows.specs.ClientRow.{drop_line}
 use Rattle.afs_cache.proofs.node.CacheManager.tell_dropped.Given as goal
 
 abbrev pub invariant-loop-fid : goal.invariant-loop-fid

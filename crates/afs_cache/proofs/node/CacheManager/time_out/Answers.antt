@@ -1,7 +1,7 @@
 use Rattle.std.proofs.Common.{◌≡◌, ◌<◌, ◌+◌, ℕ, Bool, true, false, cond, ◌||◌, ◌&&◌, List, [], ◌∷◌, ◌++◌, map, filter, Option, Some, None, Ok, Err, refl, ap, sym, subst, ◌∙◌}
-use Rattle.afs_model.specs.Calls.{is_sent_again}
-use Rattle.afs_model.specs.Steps.{NodeState}
-use Rattle.afs_copyrows.specs.Sites.{CopyState}
+use Rattle.spec_model.specs.Calls.{is_sent_again}
+use Rattle.spec_model.specs.Steps.{NodeState}
+use Rattle.spec_copyrows.specs.Sites.{CopyState}
 use Rattle.afs_cache.proofs.Replying.{gifts_is, idle_is, running_is}
 use Rattle.afs_cache.proofs.Siting.{again_answered, dead_answered, idle_timed}
 use Rattle.afs_cache.proofs.node.CacheManager.time_out.Goals as goal

@@ -1,9 +1,9 @@
 use Rattle.std.proofs.Common.{◌≡◌, ◌<◌, ◌+◌, ℕ, Bool, true, false, cond, ◌||◌, ◌&&◌, List, [], ◌∷◌, ◌++◌, map, filter, Option, Some, None, Ok, Err, refl, ap, sym, subst, ◌∙◌}
-use Rattle.afs_rows.specs.States.{CacheEntry}
+use Rattle.spec_rows.specs.States.{CacheEntry}
 use Rattle.afs_entries.specs.Cached.{Kept}
 use Rattle.afs_cache.specs.Acting.{IsDropping}
 use Rattle.afs_entries.specs.declared.drops.Drops.TheVariants as drops
-use Rattle.afs_history.specs.declared.lines.Line.{Line}
+use Rattle.spec_history.specs.declared.lines.Line.{Line}
 use Rattle.afs_cache.proofs.Siting.{newer_taken}
 use Rattle.afs_cache.proofs.node.CacheManager.use_newer.Goals as goal
 

@@ -1,9 +1,9 @@
 use Rattle.std.proofs.Common.{subst}
 use Rattle.std.specs.Option.{option_copied}
-use Rattle.afs_model.specs.Steps.{NodeState}
-use Rattle.afs_rows.specs.Going.{ClientState}
+use Rattle.spec_model.specs.Steps.{NodeState}
+use Rattle.spec_rows.specs.Going.{ClientState}
 use Rattle.afs_asking.specs.Looking.{HasWalked}
-use Rattle.afs_copyrows.specs.Sites.{CopyState}
+use Rattle.spec_copyrows.specs.Sites.{CopyState}
 use Rattle.afs_cache.specs.Acting.{seen_with, whole_walk}
 use Rattle.afs_cache.proofs.Planning.{way_planned}
 use Rattle.afs_cache.proofs.node.CacheManager.way.Goals as goal

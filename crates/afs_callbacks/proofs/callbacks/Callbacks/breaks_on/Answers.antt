@@ -1,6 +1,6 @@
 use Rattle.std.proofs.Common.{◌≡◌, ap, arith, sym, subst, ◌∙◌}
 use Rattle.std.specs.List.{All}
-use Rattle.afs_breaks.specs.Promises.{expired, lasting, owes_from}
+use Rattle.spec_breaks.specs.Promises.{expired, lasting, owes_from}
 use Rattle.afs_callbacks.specs.Besides.{promises_on}
 use Rattle.afs_callbacks.specs.States.{IsPromiseToNode, CallbackState}
 use Rattle.afs_callbacks.proofs.Withdrawing.{found_to_nodes, on_draws, owes_on}

@@ -1,7 +1,7 @@
 use Rattle.std.proofs.Common.{◌≡◌, List, [], length, arith, ap, sym, subst, ◌∙◌}
 use Rattle.std.specs.List.{All}
 use Rattle.afs_num.specs.declared.types.Fid.{Fid}
-use Rattle.afs_breaks.specs.Promises.{lasting, owes_from}
+use Rattle.spec_breaks.specs.Promises.{lasting, owes_from}
 use Rattle.afs_callbacks.specs.Saving.{fids_changed, fids_granted, hits_each, hits_fresh}
 use Rattle.afs_callbacks.specs.States.{IsPromiseToNode, CallbackState}
 use Rattle.afs_callbacks.proofs.Withdrawn.{few_lasting, found_to_nodes, fresh_are}

@@ -1,7 +1,7 @@
 use Rattle.std.proofs.Common.{◌≡◌, sym, subst, ◌∙◌}
 use Rattle.afs_num.specs.declared.messages.Message.{Message}
-use Rattle.afs_model.specs.Messages.{HasSpelling}
-use Rattle.afs_rows.specs.ServerRow.{boot_told}
+use Rattle.spec_model.specs.Messages.{HasSpelling}
+use Rattle.spec_rows.specs.ServerRow.{boot_told}
 use Rattle.afs_server_parts.specs.Ending.{IsPlanOf}
 use Rattle.afs_server_parts.specs.declared.turns.Stand.{Stand}
 use Rattle.afs_server_parts.specs.Turning.{sent_turn}

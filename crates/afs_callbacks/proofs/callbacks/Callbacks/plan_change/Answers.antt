@@ -1,7 +1,7 @@
 use Rattle.std.proofs.Common.{◌<◌, ◌^◌, ◌+◌, ℕ, List, length, ap, sym, subst, ◌∙◌}
 use Rattle.afs_num.specs.declared.types.Fid.{Fid}
-use Rattle.afs_breaks.specs.Promises.{lasting}
-use Rattle.afs_breaks.specs.declared.types.OwedBreak.{OwedBreak}
+use Rattle.spec_breaks.specs.Promises.{lasting}
+use Rattle.spec_breaks.specs.declared.types.OwedBreak.{OwedBreak}
 use Rattle.afs_callees.specs.declared.telling.Grant.{Grant}
 use Rattle.afs_callbacks.specs.Answering.{reply_told, IsRepliedAfter}
 use Rattle.afs_callbacks.specs.Saving.{change_kept, hits_each, new_grants, saved_lines}

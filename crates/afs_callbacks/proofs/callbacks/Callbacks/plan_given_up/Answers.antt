@@ -1,7 +1,7 @@
 use Rattle.std.proofs.Common.{[], sym, subst, ◌∙◌}
 use Rattle.afs_num.specs.declared.calls.FsReply.TheVariants as replies
 use Rattle.afs_num.specs.declared.messages.Message.{Message}
-use Rattle.afs_model.specs.Messages.{HasSpelling}
+use Rattle.spec_model.specs.Messages.{HasSpelling}
 use Rattle.afs_callbacks.specs.Answering.{IsRepliedNow}
 use Rattle.afs_callbacks.proofs.Spelled.{replied_spelled}
 use Rattle.afs_callbacks.proofs.callbacks.Callbacks.plan_given_up.Goals as goal

@@ -1,7 +1,7 @@
 use Rattle.std.proofs.Common.{◌≡◌, [], ap, sym, subst, to_z-of_z, ◌∙◌}
 use Rattle.afs_num.specs.declared.messages.Message.{Message}
-use Rattle.afs_model.specs.Messages.{HasSpelling}
-use Rattle.afs_rows.specs.ServerRow.{refusal}
+use Rattle.spec_model.specs.Messages.{HasSpelling}
+use Rattle.spec_rows.specs.ServerRow.{refusal}
 use Rattle.afs_callbacks.specs.Answering.{IsRepliedNow}
 use Rattle.afs_callbacks.proofs.Spelled.{refused_spelled}
 use Rattle.afs_callbacks.proofs.callbacks.Callbacks.plan_refused.Goals as goal

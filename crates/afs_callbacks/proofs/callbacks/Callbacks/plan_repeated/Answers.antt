@@ -1,5 +1,5 @@
-use Rattle.afs_rows.specs.Callbacks.{held_under, key_answered, repeats_by}
-use Rattle.afs_rows.specs.States.{Backs}
+use Rattle.spec_rows.specs.Callbacks.{held_under, key_answered, repeats_by}
+use Rattle.spec_rows.specs.States.{Backs}
 use Rattle.afs_server_parts.specs.declared.turns.Stand.{Stand}
 use Rattle.afs_callbacks.specs.States.{backs_by}
 use Rattle.afs_callbacks.proofs.Planned.{planned}

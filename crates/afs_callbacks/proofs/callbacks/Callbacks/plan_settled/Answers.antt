@@ -1,4 +1,4 @@
-use Rattle.afs_rows.specs.Callbacks.{settles}
+use Rattle.spec_rows.specs.Callbacks.{settles}
 use Rattle.afs_server_parts.specs.declared.turns.Stand.{Stand}
 use Rattle.afs_callbacks.specs.States.{backs_by}
 use Rattle.afs_callbacks.proofs.Planned.{planned}

@@ -1,4 +1,4 @@
-use Rattle.afs_rows.specs.Callbacks.{timed}
+use Rattle.spec_rows.specs.Callbacks.{call_timed_out}
 use Rattle.afs_server_parts.specs.declared.turns.Stand.{Stand}
 use Rattle.afs_callbacks.specs.States.{backs_by}
 use Rattle.afs_callbacks.proofs.Planned.{planned}
@@ -6,4 +6,4 @@ use Rattle.afs_callbacks.proofs.callbacks.Callbacks.plan_timeout.Goals as goal
 
 pub returns : goal.returns
 returns c =
-    planned (λ (s : Stand). timed s.node s.boot c.args.callee c.args.call.now) (backs_by c.args.self.now c.args.stand c.args.now) c.args.stand _ _ _ _ c.in_ok-turn.ensures.turn c.in_ok-turn.ensures.stand c.in_ok-time_out.ensures c.in_ok-ended.ensures
+    planned (λ (s : Stand). call_timed_out s.node s.boot c.args.callee c.args.call.now) (backs_by c.args.self.now c.args.stand c.args.now) c.args.stand _ _ _ _ c.in_ok-turn.ensures.turn c.in_ok-turn.ensures.stand c.in_ok-time_out.ensures c.in_ok-ended.ensures

@@ -1,6 +1,6 @@
 use Rattle.std.proofs.Common.{◌+◌, [], List, sym, subst, ◌∙◌}
 use Rattle.std.specs.List.{All}
-use Rattle.afs_breaks.specs.declared.types.OwedBreak.{OwedBreak}
+use Rattle.spec_breaks.specs.declared.types.OwedBreak.{OwedBreak}
 use Rattle.afs_server_parts.specs.Turning.{IsBreakToNode}
 use Rattle.afs_callbacks.specs.Answering.{reply_told, IsRepliedAfter}
 use Rattle.afs_callbacks.specs.Saving.{saved_lines}

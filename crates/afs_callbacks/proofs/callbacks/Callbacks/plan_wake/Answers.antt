@@ -1,4 +1,4 @@
-use Rattle.afs_rows.specs.Callbacks.{no_turn}
+use Rattle.spec_rows.specs.Callbacks.{no_turn}
 use Rattle.afs_callbacks.specs.States.{backs_by}
 use Rattle.afs_callbacks.proofs.Planned.{planned_as}
 use Rattle.afs_callbacks.proofs.callbacks.Callbacks.plan_wake.Goals as goal

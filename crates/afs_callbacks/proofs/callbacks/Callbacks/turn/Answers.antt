@@ -1,7 +1,7 @@
 use Rattle.std.proofs.Common.{◌≡◌, arith, rules, ap, sym, subst, ◌∙◌}
 use Rattle.std.specs.List.{All}
 use Rattle.afs_num.specs.Nodes.{IsNode}
-use Rattle.afs_breaks.specs.Promises.{lasting_breaks}
+use Rattle.spec_breaks.specs.Promises.{lasting_breaks}
 use Rattle.afs_callees.specs.Called.{AreGoodCalls}
 use Rattle.afs_server_parts.specs.Turning.{IsBreakToNode}
 use Rattle.afs_server_parts.specs.declared.turns.Stand.{Stand}

@@ -1,6 +1,6 @@
 use Rattle.std.proofs.Common.{Some}
 use Rattle.afs_num.specs.declared.types.Node.TheVariants.{Admin, Client, Loc, Server}
-use Rattle.afs_history.specs.declared.lines.Line.TheVariants as lines
+use Rattle.spec_history.specs.declared.lines.Line.TheVariants as lines
 use Rattle.afs_cell.proofs.Clocks.{clock_heard, clock_managed, clock_ordered, clock_served, nothing_clock}
 use Rattle.afs_cell.proofs.Since.{admin_heard_since, admins_ready_since, can_manage_since, can_since, keeps_heard, keeps_managed, keeps_ordered, keeps_served, keeps_skipped, message_heard_since, message_managed_since, message_served_since, nobody_since, ready_since}
 use Rattle.afs_cell.proofs.world.World.deliver.Goals as goal

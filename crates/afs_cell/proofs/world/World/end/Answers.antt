@@ -1,10 +1,11 @@
+use Rattle.afs_lending.specs.Lending.{AreLent}
 use Rattle.std.proofs.Common.{ap, arith, subst, sym, ◌∙◌, ◌≡◌, ◌∷◌, [], List, length}
 use Rattle.std.proofs.lemmas.List.{length-append}
 use Rattle.afs_disk.specs.declared.disks.Lent.{Lent}
 use Rattle.afs_host.specs.LocSeated.{DatabaseSeat}
 use Rattle.afs_serverhost.specs.Seated.{ServerSeat}
 use Rattle.afs_cell.specs.FirstSeats.{AreKeptSeats, IsLocKeptSeat}
-use Rattle.afs_cell.specs.Lends.{disks_of, AreLent}
+use Rattle.afs_cell.specs.Lends.{disks_of}
 use Rattle.afs_cell.specs.Since.{whole}
 use Rattle.afs_cell.specs.Steps.{AreStanding}
 use Rattle.afs_cell.proofs.GivenBack.{lent_all, standing}

@@ -1,4 +1,4 @@
-use Rattle.afs_schedule.specs.Schedules.{IsInput, Turn}
+use Rattle.afs_schedule.specs.Schedules.{IsInput, ScheduleState}
 use Rattle.afs_cell.proofs.NextSince.{all_since, fits_since, full_since, goes_since, kept_since, one_since, settled_since, ticks_since, unplayed_since, wants_since}
 use Rattle.afs_cell.proofs.world.World.play_next.Goals as goal
 
@@ -52,7 +52,7 @@ returns-in-Err-Limit-clause-settled g c =
 
 pub returns-in-Err-OutOfMemory-clause-goes : goal.returns-in-Err-OutOfMemory-clause-goes
 returns-in-Err-OutOfMemory-clause-goes g c =
-    let e = c.in-Err-OutOfMemory.ensures in wants_since g.D.Disk.seen g.D.Disk.may_leave g.D.Disk.faults g.D.Disk.limit c.args.self.now c.args.schedule.now c.next.new.self c.sent.result c.sent.ensures.sent c.step.new.self (λ (t : Turn). IsInput t c.in-Some.event) c.in-Err-OutOfMemory.field-0 c.in-Err-OutOfMemory.field-0-is e.world e.steps e.tells.1 e.counts
+    let e = c.in-Err-OutOfMemory.ensures in wants_since g.D.Disk.seen g.D.Disk.may_leave g.D.Disk.faults g.D.Disk.limit c.args.self.now c.args.schedule.now c.next.new.self c.sent.result c.sent.ensures.sent c.step.new.self (λ (t : ScheduleState). IsInput t c.in-Some.event) c.in-Err-OutOfMemory.field-0 c.in-Err-OutOfMemory.field-0-is e.world e.steps e.tells.1 e.counts
 
 pub returns-in-Err-OutOfMemory-clause-settled : goal.returns-in-Err-OutOfMemory-clause-settled
 returns-in-Err-OutOfMemory-clause-settled g c =

@@ -1,7 +1,7 @@
 use Rattle.std.proofs.Common.{refl, arith}
-use Rattle.afs_model.specs.CellRows.{client_calls}
-use Rattle.afs_model.specs.Messages.{received_by}
-use Rattle.afs_model.proofs.Spellings.{found_in}
+use Rattle.spec_model.specs.CellRows.{client_calls}
+use Rattle.spec_model.specs.Messages.{received_by}
+use Rattle.spec_model.proofs.Spellings.{found_in}
 use Rattle.afs_clients.proofs.Heard.{hears_message}
 use Rattle.afs_clients.proofs.clients.ClientSeat.hear.Goals as goal
 

@@ -1,6 +1,6 @@
 use Rattle.std.proofs.Common.{◌≡◌, Ok, rules, arith}
-use Rattle.afs_ideal.specs.Directories.{directory_of}
-use Rattle.afs_ideal.proofs.DirectoryBytes.{read_is_spelled}
+use Rattle.spec_ideal.specs.Directories.{directory_of}
+use Rattle.spec_ideal.proofs.DirectoryBytes.{read_is_spelled}
 use Rattle.afs_dir.proofs.dir.Dir.from_bytes.Goals as goal
 
 pub returns-in-Ok-clause-spelled : goal.returns-in-Ok-clause-spelled

@@ -1,7 +1,7 @@
 use Rattle.std.proofs.Common.{◌≡◌, ℕ, List, Ok, rules, sym, subst}
 use Rattle.afs_num.specs.declared.directories.Name.{Name}
-use Rattle.afs_ideal.specs.Directories.{directory_bytes, directory_of, IsDirectory, FitNames}
-use Rattle.afs_ideal.proofs.DirectoryBytes.{spelled_is_read}
+use Rattle.spec_ideal.specs.Directories.{directory_bytes, directory_of, IsDirectory, FitNames}
+use Rattle.spec_ideal.proofs.DirectoryBytes.{spelled_is_read}
 use Rattle.afs_dir.proofs.dir.Dir.to_bytes.Goals as goal
 
 pub returns-clause-read : goal.returns-clause-read

@@ -1,8 +1,8 @@
 use Rattle.std.proofs.Common.{◌≡◌, ℕ, List, length, Ok, rules, ap, sym, subst, arith}
 use Rattle.afs_num.specs.declared.directories.Name.{Name}
-use Rattle.afs_ideal.specs.Directories.{directory_bytes, directory_of, with_name, FitsName}
-use Rattle.afs_ideal.proofs.Directories.{added_is_directory}
-use Rattle.afs_ideal.proofs.DirectoryBytes.{read_is_spelled}
+use Rattle.spec_ideal.specs.Directories.{directory_bytes, directory_of, with_name, FitsName}
+use Rattle.spec_ideal.proofs.Directories.{added_is_directory}
+use Rattle.spec_ideal.proofs.DirectoryBytes.{read_is_spelled}
 use Rattle.afs_dir.proofs.Fits.{read_with, stands_short}
 use Rattle.afs_dir.proofs.Lengths.{names_fit}
 use Rattle.afs_dir.proofs.listing.Listing.bytes_with.Goals as goal

@@ -1,7 +1,7 @@
 use Rattle.std.proofs.Common.{◌≡◌, ℕ, List, length, Ok, rules, ap, sym, subst, arith}
-use Rattle.afs_ideal.specs.Directories.{directory_bytes, directory_of, without_name}
-use Rattle.afs_ideal.proofs.Directories.{removed_is_directory}
-use Rattle.afs_ideal.proofs.DirectoryBytes.{read_is_spelled}
+use Rattle.spec_ideal.specs.Directories.{directory_bytes, directory_of, without_name}
+use Rattle.spec_ideal.proofs.Directories.{removed_is_directory}
+use Rattle.spec_ideal.proofs.DirectoryBytes.{read_is_spelled}
 use Rattle.afs_dir.proofs.Fits.{read_without}
 use Rattle.afs_dir.proofs.Lengths.{names_fit}
 use Rattle.afs_dir.proofs.listing.Listing.bytes_without.Goals as goal

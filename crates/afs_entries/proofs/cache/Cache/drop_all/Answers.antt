@@ -1,5 +1,5 @@
 use Rattle.std.proofs.Common.{ap, ◌∙◌, List}
-use Rattle.afs_rows.specs.States.{CacheEntry}
+use Rattle.spec_rows.specs.States.{CacheEntry}
 use Rattle.afs_entries.proofs.Listing.{unlisted_is}
 use Rattle.afs_entries.proofs.cache.Cache.drop_all.Goals as goal
 

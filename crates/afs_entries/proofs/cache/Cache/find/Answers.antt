@@ -1,7 +1,7 @@
 use Rattle.std.proofs.Common.{◌≡◌, ap, subst, ◌∙◌}
 use Rattle.std.specs.Option.{option_map, option_copied}
 use Rattle.std.specs.Map.{lookup}
-use Rattle.afs_rows.specs.ClientRow.{find_cached}
+use Rattle.spec_rows.specs.ClientRow.{find_cached}
 use Rattle.afs_entries.specs.declared.cache.Slot.{Slot}
 use Rattle.afs_entries.specs.Cached.{Kept, entry_at, same_slot}
 use Rattle.afs_entries.proofs.Caching.{found}

@@ -1,5 +1,5 @@
 use Rattle.std.proofs.Common.{◌≡◌, ◌++◌, map, filter, length}
-use Rattle.afs_rows.specs.ClientRow.{gift_of}
+use Rattle.spec_rows.specs.ClientRow.{gift_of}
 use Rattle.afs_entries.specs.declared.drops.Drops.TheVariants as drops
 use Rattle.afs_entries.specs.Cached.{cached, drops_of}
 use Rattle.afs_entries.proofs.cache.Cache.promised.Given as goal

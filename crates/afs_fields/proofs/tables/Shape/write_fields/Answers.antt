@@ -1,5 +1,5 @@
-use Rattle.afs_shape.specs.Tables.{kinds_of}
-use Rattle.afs_shape.proofs.Spellable.{AreOf-spellable}
+use Rattle.spec_shape.specs.Tables.{kinds_of}
+use Rattle.spec_shape.proofs.Spellable.{AreOf-spellable}
 use Rattle.afs_fields.proofs.tables.Shape.write_fields.Goals as goal
 
 pub write_all-requires : goal.write_all-requires

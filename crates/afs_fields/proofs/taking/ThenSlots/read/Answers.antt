@@ -1,5 +1,5 @@
 use Rattle.std.proofs.Common.{rules}
-use Rattle.afs_shape.specs.Taking.{taken_behind}
+use Rattle.spec_shape.specs.Taking.{taken_behind}
 use Rattle.afs_fields.proofs.TakenLaws.{goes_on, fails_with}
 use Rattle.afs_fields.proofs.taking.ThenSlots.read.Goals as goal
 

@@ -1,6 +1,6 @@
 use Rattle.std.proofs.Common.{ℕ, Err, Result, refl, subst}
-use Rattle.afs_ideal.specs.SetUp.{laid}
-use Rattle.afs_ideal.specs.Volumes.{Volume}
+use Rattle.spec_ideal.specs.SetUp.{laid}
+use Rattle.spec_ideal.specs.Volumes.{Volume}
 use Rattle.afs_volume.specs.Giving.{volume_of}
 use Rattle.afs_words.specs.Reads.{Gives}
 use Rattle.afs_grammar.specs.Lines.{setup_accepts}

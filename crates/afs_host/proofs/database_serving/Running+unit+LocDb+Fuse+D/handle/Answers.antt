@@ -1,15 +1,15 @@
 use Rattle.std.specs.Prelude.{◌≡◌, ℕ, ◌*◌, ◌-◌, [], ◌∷◌, Some, Err, Ok, IsErrOf}
 use Rattle.std.proofs.Common.{refl, ap, sym, subst, ◌∙◌, arith}
 use Rattle.afs_num.specs.declared.records.Mark.{Mark}
-use Rattle.afs_history.specs.declared.lines.Line.TheVariants as lines
-use Rattle.afs_history.specs.declared.lines.Outs.{Outs}
+use Rattle.spec_history.specs.declared.lines.Line.TheVariants as lines
+use Rattle.spec_history.specs.declared.lines.Outs.{Outs}
 use Rattle.afs_disk.specs.Disk.{Setting}
-use Rattle.afs_model.specs.Messages.{received, received_by, FindsMessages}
-use Rattle.afs_model.proofs.Spellings.{found_in}
-use Rattle.afs_records.specs.LocRecords.{LocRecord}
-use Rattle.afs_rows.specs.Hosts.{lowered}
-use Rattle.afs_rows.specs.LocRow.{loc_decides, loc_device_calls}
-use Rattle.afs_rows.specs.LocSteps.{loc_begun_after, loc_row}
+use Rattle.spec_model.specs.Messages.{received, received_by, FindsMessages}
+use Rattle.spec_model.proofs.Spellings.{found_in}
+use Rattle.spec_records.specs.LocRecords.{LocRecord}
+use Rattle.spec_rows.specs.Hosts.{lowered}
+use Rattle.spec_rows.specs.LocRow.{loc_decides, loc_device_calls}
+use Rattle.spec_rows.specs.LocSteps.{loc_begun_after, loc_row}
 use Rattle.afs_locdb.specs.Handling.{loc_calls_served, loc_decided_then, loc_record_then, Handles, IsQuiet, IsWritten}
 use Rattle.afs_locdb.specs.Seen.{loc_seen}
 use Rattle.afs_server_parts.specs.declared.faults.NodeFault.{NodeFault}

@@ -1,4 +1,4 @@
-use Rattle.afs_model.specs.Messages.{received}
+use Rattle.spec_model.specs.Messages.{received}
 use Rattle.afs_host.proofs.LocBecoming.{loc_faults_so, loc_goes_on_so, loc_limit_so, loc_mark_so, loc_rests_so, loc_row_so, loc_served_so, loc_told_so}
 use Rattle.afs_host.proofs.database_serving.Running+unit+LocDb+Fuse+D.serve.Goals as goal
 

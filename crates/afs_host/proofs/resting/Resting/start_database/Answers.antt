@@ -1,11 +1,11 @@
 use Rattle.std.specs.Prelude.{◌≡◌, ℕ, List, [], ◌∷◌, IsSome}
 use Rattle.std.proofs.Common.{refl, ap, sym, subst, ◌∙◌}
 use Rattle.afs_num.specs.declared.types.Node.TheVariants.{Loc}
-use Rattle.afs_history.specs.declared.lines.Line.{Line}
-use Rattle.afs_history.specs.declared.lines.Line.TheVariants as lines
+use Rattle.spec_history.specs.declared.lines.Line.{Line}
+use Rattle.spec_history.specs.declared.lines.Line.TheVariants as lines
 use Rattle.afs_disk.specs.Disk.{Rose}
 use Rattle.afs_disk.specs.Fuses.{Fused}
-use Rattle.afs_rows.specs.LocSteps.{loc_start_row}
+use Rattle.spec_rows.specs.LocSteps.{loc_start_row}
 use Rattle.afs_host.specs.LocStanding.{loc_keeping}
 use Rattle.afs_host.specs.LocStarting.{loc_disk_started, loc_sight, IsLocStarted, LocBootsOver, LocGoesOnBooted, LocStart, LocStartsOver}
 use Rattle.afs_host.specs.Seats.{Resting}

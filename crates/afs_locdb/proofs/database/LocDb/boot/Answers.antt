@@ -2,11 +2,11 @@ use Rattle.std.proofs.Common.{◌≡◌, ◌+◌, ◌<◌, ℕ, List, map, rules
 use Rattle.std.specs.Prelude.{min, nat_lt}
 use Rattle.afs_journal.proofs.Moments.{begins}
 use Rattle.afs_journal.specs.Records.{whole_records}
-use Rattle.afs_records.specs.LocDurable.{loc_boot_record, LocDurable}
+use Rattle.spec_records.specs.LocDurable.{loc_boot_record, LocDurable}
 use Rattle.afs_store.specs.Folds.{has_room}
 use Rattle.afs_store.specs.Stores.{LeftAround, Stands}
 use Rattle.afs_locstore.specs.LocFold.{loc_fold}
-use Rattle.afs_rows.specs.States.{Seat}
+use Rattle.spec_rows.specs.States.{Seat}
 use Rattle.afs_locdb.specs.Saving.{LocStoreOf}
 use Rattle.afs_locdb.specs.Seen.{Database}
 use Rattle.afs_locdb.proofs.Started.{boots, next_is, revived, store_started, was_below}

@@ -3,8 +3,8 @@ use Rattle.afs_disk.specs.Disk.{LeavesOnly}
 use Rattle.afs_journal.specs.Records.{whole_records, IsBeforeOrAfter}
 use Rattle.afs_journal.proofs.Moments.{and_on, begins, weaker}
 use Rattle.afs_num.specs.declared.types.Node.TheVariants.{Loc}
-use Rattle.afs_records.specs.LocDurable.{loc_first_folded, loc_first_record, loc_set_up, nothing_listed}
-use Rattle.afs_records.specs.LocRecords.{loc_record_bytes, LocRecord}
+use Rattle.spec_records.specs.LocDurable.{loc_first_folded, loc_first_record, loc_set_up, nothing_listed}
+use Rattle.spec_records.specs.LocRecords.{loc_record_bytes, LocRecord}
 use Rattle.afs_locdb.specs.Creating.{IsSetUpSoFar}
 use Rattle.afs_locdb.specs.Saving.{LocStoreOf}
 use Rattle.afs_locdb.specs.Seen.{Database, Serves}

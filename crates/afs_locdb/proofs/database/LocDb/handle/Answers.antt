@@ -1,5 +1,5 @@
 use Rattle.std.proofs.Common.{refl}
-use Rattle.afs_model.specs.Messages.{received_by}
+use Rattle.spec_model.specs.Messages.{received_by}
 use Rattle.afs_locdb.specs.Handling.{loc_calls_served, loc_decided_then}
 use Rattle.afs_locdb.specs.Seen.{loc_seen}
 use Rattle.afs_locdb.proofs.Wholly.{called_after, done_after, left_down, serves_after, some_down, step_at, store_after, told_after, prepared_after}

@@ -1,7 +1,7 @@
 use Rattle.std.proofs.Common.{sym, subst}
-use Rattle.afs_law.specs.Database.{AreKeyed}
+use Rattle.law_legal.specs.Database.{AreKeyed}
 use Rattle.afs_locstore.specs.Kept.{AreOfNodes}
-use Rattle.afs_records.specs.LocDurable.{LocDurable}
+use Rattle.spec_records.specs.LocDurable.{LocDurable}
 use Rattle.afs_locdb.proofs.Keyed.{keyed}
 use Rattle.afs_locdb.proofs.database.LocDb.is_in_order.Goals as goal
 

@@ -1,7 +1,7 @@
 use Rattle.std.proofs.Common.{◌≡◌, Option, Some, refl, sym, ap, subst, ◌∙◌}
 use Rattle.std.specs.Prelude.{Result, Ok, Err}
-use Rattle.afs_history.specs.declared.lines.Outs.{Outs}
-use Rattle.afs_records.specs.LocRecords.{FitsLocRecord}
+use Rattle.spec_history.specs.declared.lines.Outs.{Outs}
+use Rattle.spec_records.specs.LocRecords.{FitsLocRecord}
 use Rattle.afs_locdb.specs.Saving.{LocStoreOf, OnDisk}
 use Rattle.afs_locdb.specs.Seen.{Database}
 use Rattle.afs_server_parts.specs.declared.faults.NodeFault.{NodeFault}

@@ -1,10 +1,10 @@
 use Rattle.std.proofs.Common.{◌≡◌, true, Option, Some, refl, sym, ap, subst, ◌∙◌}
 use Rattle.std.specs.Prelude.{pos, Result, Err, IsSome}
-use Rattle.afs_history.specs.declared.lines.Outs.{Outs}
-use Rattle.afs_records.specs.LocDurable.{can_do, loc_folded, LocDurable}
-use Rattle.afs_records.specs.LocRecords.{LocRecord}
-use Rattle.afs_rows.specs.LocRow.{roomed}
-use Rattle.afs_rows.specs.ServerRow.{refusal}
+use Rattle.spec_history.specs.declared.lines.Outs.{Outs}
+use Rattle.spec_records.specs.LocDurable.{can_do, loc_folded, LocDurable}
+use Rattle.spec_records.specs.LocRecords.{LocRecord}
+use Rattle.spec_rows.specs.LocRow.{roomed}
+use Rattle.spec_rows.specs.ServerRow.{refusal}
 use Rattle.afs_locdb.specs.Handling.{loc_record_decided}
 use Rattle.afs_locdb.specs.Saving.{IsChangeOf, LocStoreOf, OnDisk, Puts}
 use Rattle.afs_locdb.specs.Handling.{Answers}

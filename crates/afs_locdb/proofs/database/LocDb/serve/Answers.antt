@@ -1,5 +1,5 @@
 use Rattle.std.proofs.Common.{◌≡◌, sym, subst, ap, ◌∙◌, ℕ}
-use Rattle.afs_rows.specs.LocRow as rows
+use Rattle.spec_rows.specs.LocRow as rows
 use Rattle.afs_locdb.specs.Deciding.{lasting_seen, CanBeTold}
 use Rattle.afs_locdb.specs.Seen.{lasting_of, loc_seen}
 use Rattle.afs_locdb.proofs.Decides.{made_in, op_here}

@@ -1,6 +1,6 @@
 use Rattle.std.proofs.Common.{None, refl, sym, subst}
 use Rattle.std.specs.Prelude.{Result, Ok, Err}
-use Rattle.afs_history.specs.declared.lines.Outs.{Outs}
+use Rattle.spec_history.specs.declared.lines.Outs.{Outs}
 use Rattle.afs_locdb.specs.Deciding.{decision_of}
 use Rattle.afs_locdb.specs.Handling.{loc_record_decided}
 use Rattle.afs_locdb.specs.Seen.{loc_seen}

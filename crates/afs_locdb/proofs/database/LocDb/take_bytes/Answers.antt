@@ -1,7 +1,7 @@
 use Rattle.std.proofs.Common.{refl, subst}
 use Rattle.std.specs.Prelude.{Result, Err}
 use Rattle.afs_num.specs.declared.messages.Received.{Received}
-use Rattle.afs_rows.specs.LocRow.{loc_decides}
+use Rattle.spec_rows.specs.LocRow.{loc_decides}
 use Rattle.afs_locdb.specs.Handling.{loc_decided_then, loc_record_decided, loc_record_then}
 use Rattle.afs_locdb.specs.Saving.{DoesAll, OnDisk}
 use Rattle.afs_locdb.specs.Seen.{loc_seen}

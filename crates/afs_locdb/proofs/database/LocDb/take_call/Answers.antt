@@ -1,6 +1,6 @@
 use Rattle.std.proofs.Common.{refl, sym, subst}
 use Rattle.std.specs.Prelude.{Result, Err}
-use Rattle.afs_rows.specs.LocRow.{called, LocDecision}
+use Rattle.spec_rows.specs.LocRow.{called, LocDecision}
 use Rattle.afs_locdb.specs.Handling.{loc_record_decided}
 use Rattle.afs_locdb.specs.Saving.{DoesAll, OnDisk}
 use Rattle.afs_locdb.specs.Seen.{loc_seen}

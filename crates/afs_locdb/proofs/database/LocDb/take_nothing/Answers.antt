@@ -1,7 +1,7 @@
 use Rattle.std.proofs.Common.{None, refl, sym, subst}
 use Rattle.std.specs.Prelude.{Result, Ok, Err}
-use Rattle.afs_history.specs.declared.lines.Outs.{Outs}
-use Rattle.afs_rows.specs.LocRow.{drops}
+use Rattle.spec_history.specs.declared.lines.Outs.{Outs}
+use Rattle.spec_rows.specs.LocRow.{drops}
 use Rattle.afs_saving.proofs.Still.{out_of_memory}
 use Rattle.afs_locdb.proofs.Wholly.{answered_disk, made_none, none_made, wanting_disk}
 use Rattle.afs_locdb.proofs.database.LocDb.take_nothing.Goals as goal

@@ -1,5 +1,5 @@
 use Rattle.std.proofs.Common.{subst}
-use Rattle.afs_rows.specs.LocRow.{LocDecision}
+use Rattle.spec_rows.specs.LocRow.{LocDecision}
 use Rattle.afs_locdb.specs.Handling.{loc_record_decided}
 use Rattle.afs_locdb.specs.Saving.{DoesAll, OnDisk}
 use Rattle.afs_locdb.specs.Seen.{loc_seen}

@@ -1,7 +1,7 @@
 use Rattle.std.proofs.Common.{◌≡◌, ◌∙◌, ℕ, List, None, ap, sym, subst}
 use Rattle.std.specs.Str.{bytes_eq}
-use Rattle.afs_ideal.specs.Directories.{bytes_below}
-use Rattle.afs_ideal.specs.Tables.{get, set}
+use Rattle.spec_ideal.specs.Directories.{bytes_below}
+use Rattle.spec_ideal.specs.Tables.{get, set}
 use Rattle.afs_locstore.specs.Indexed.{with_pair}
 use Rattle.afs_locstore.specs.Listings.{Listings}
 use Rattle.afs_locstore.proofs.Listed.{indexed_as, with_one}

@@ -1,5 +1,5 @@
 use Rattle.std.proofs.Common.{subst}
-use Rattle.afs_ideal.specs.Tables.{AscendsFrom}
+use Rattle.spec_ideal.specs.Tables.{AscendsFrom}
 use Rattle.afs_locstore.specs.Listings.{Listings, StandByNumber}
 use Rattle.afs_locstore.proofs.entries.Entries.are_keyed.Goals as goal
 

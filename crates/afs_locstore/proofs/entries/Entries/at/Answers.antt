@@ -1,7 +1,7 @@
 use Rattle.std.proofs.Common.{◌≡◌, ◌∙◌, ℕ, Some, None, ap, sym, subst}
 use Rattle.std.specs.Option.{option_map}
-use Rattle.afs_records.specs.LocRecords.{Listed}
-use Rattle.afs_rows.specs.LocRow.{all_listed, nth}
+use Rattle.spec_records.specs.LocRecords.{Listed}
+use Rattle.spec_rows.specs.LocRow.{all_listed, nth}
 use Rattle.afs_locstore.specs.Listings.{Listings}
 use Rattle.afs_locstore.proofs.Listed.{nth_is, stands_at}
 use Rattle.afs_locstore.proofs.entries.Entries.at.Goals as goal

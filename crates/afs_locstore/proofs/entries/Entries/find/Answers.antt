@@ -1,7 +1,7 @@
 use Rattle.std.proofs.Common.{◌≡◌, ◌∙◌, subst}
 use Rattle.std.specs.Option.{option_copied}
 use Rattle.std.specs.Prelude.{nat_eq, nat_lt}
-use Rattle.afs_rows.specs.LocRow.{found_id, has_id}
+use Rattle.spec_rows.specs.LocRow.{found_id, has_id}
 use Rattle.afs_locstore.specs.Indexed.{first_under}
 use Rattle.afs_locstore.specs.Listings.{Listings}
 use Rattle.afs_locstore.specs.Orders.{numbers_ordered}

@@ -1,6 +1,6 @@
 use Rattle.std.proofs.Common.{◌∙◌, ℕ, ap, arith}
-use Rattle.afs_ideal.specs.Tables.{get, unset}
-use Rattle.afs_records.specs.LocDurable.{entry_set}
+use Rattle.spec_ideal.specs.Tables.{get, unset}
+use Rattle.spec_records.specs.LocDurable.{entry_set}
 use Rattle.afs_seats.proofs.Places.{put_again}
 use Rattle.afs_locstore.proofs.Listed.{is_gone}
 use Rattle.afs_locstore.proofs.entries.Entries.put.Goals as goal

@@ -1,6 +1,6 @@
 use Rattle.std.proofs.Common.{◌≡◌, length}
 use Rattle.std.specs.Vec.Iter.{into_iter_items}
-use Rattle.afs_records.specs.LocDurable.{entries_set}
+use Rattle.spec_records.specs.LocDurable.{entries_set}
 use Rattle.afs_locstore.specs.Listings.{are_placed, CanBeAllPut, HasRoomOf}
 use Rattle.afs_locstore.proofs.entries.Entries.put_all.Given as goal
 

@@ -1,8 +1,8 @@
 use Rattle.std.proofs.Common.{◌≡◌, ◌∙◌, ℕ, Option, ap, subst}
 use Rattle.std.specs.Option.{option_copied}
 use Rattle.std.specs.Str.{bytes_eq}
-use Rattle.afs_ideal.specs.Directories.{bytes_below}
-use Rattle.afs_rows.specs.LocRow.{any_other, is_named}
+use Rattle.spec_ideal.specs.Directories.{bytes_below}
+use Rattle.spec_rows.specs.LocRow.{any_other, is_named}
 use Rattle.afs_locstore.specs.Indexed.{another_under}
 use Rattle.afs_locstore.specs.Listings.{entry_of, Listings}
 use Rattle.afs_locstore.specs.Orders.{names_ordered}

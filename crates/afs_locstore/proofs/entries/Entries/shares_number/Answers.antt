@@ -1,7 +1,7 @@
 use Rattle.std.proofs.Common.{◌≡◌, ◌∙◌, ℕ, Option, ap, subst, nat_eq}
 use Rattle.std.specs.Prelude.{◌||◌}
 use Rattle.std.specs.Option.{option_copied}
-use Rattle.afs_rows.specs.LocRow.{any_other, shares_id}
+use Rattle.spec_rows.specs.LocRow.{any_other, shares_id}
 use Rattle.afs_locstore.specs.Indexed.{another_under}
 use Rattle.afs_locstore.specs.Listings.{entry_of, Listings}
 use Rattle.afs_locstore.proofs.Listed.{shares_one}

@@ -1,5 +1,5 @@
 use Rattle.std.proofs.Common.{◌∙◌, sym}
-use Rattle.afs_records.specs.LocDurable.{loc_body_taken, loc_with_reply}
+use Rattle.spec_records.specs.LocDurable.{loc_body_taken, loc_with_reply}
 use Rattle.afs_store.proofs.Folding.{mapped_some}
 use Rattle.afs_locstore.specs.States.{body_of, parts_of}
 use Rattle.afs_locstore.proofs.Replies.{head_caller}

@@ -1,6 +1,6 @@
 use Rattle.std.proofs.Common.{subst}
-use Rattle.afs_ideal.specs.Tables.{AscendsFrom}
-use Rattle.afs_records.specs.Durable.{Kept}
+use Rattle.spec_ideal.specs.Tables.{AscendsFrom}
+use Rattle.spec_records.specs.Durable.{Kept}
 use Rattle.afs_seats.proofs.Seen.{seen_up}
 use Rattle.afs_seats.specs.Seated.{Seated}
 use Rattle.afs_locstore.specs.Kept.{kept_seen, AreOfNodes}

@@ -1,6 +1,6 @@
 use Rattle.std.proofs.Common.{◌≡◌, Some, None, slice_get, subst}
 use Rattle.afs_num.specs.Nodes.{node_number}
-use Rattle.afs_records.specs.Durable.{Kept}
+use Rattle.spec_records.specs.Durable.{Kept}
 use Rattle.afs_seats.specs.Seated.{Seated}
 use Rattle.afs_locstore.specs.Kept.{kept_seen}
 use Rattle.afs_locstore.proofs.Replies.{no_reply, nth_reply}

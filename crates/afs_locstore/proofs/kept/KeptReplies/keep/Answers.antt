@@ -1,11 +1,11 @@
 use Rattle.std.proofs.Common.{◌∙◌, ℕ, ap, sym, subst}
-use Rattle.afs_num.specs.Nodes.{node_number}
-use Rattle.afs_ideal.specs.DirectoryLaws.{IsBytes}
-use Rattle.afs_ideal.specs.Tables.{set}
-use Rattle.afs_records.specs.Durable.{Kept}
+use Rattle.afs_num.specs.Nodes.{node_number, is_known}
+use Rattle.afs_xdr.specs.Words.{IsBytes}
+use Rattle.spec_ideal.specs.Tables.{set}
+use Rattle.spec_records.specs.Durable.{Kept}
 use Rattle.afs_seats.proofs.Places.{set_seen}
 use Rattle.afs_seats.specs.Seated.{seen_as, Seated}
-use Rattle.afs_locstore.specs.Kept.{is_known, kept_seen}
+use Rattle.afs_locstore.specs.Kept.{kept_seen}
 use Rattle.afs_locstore.specs.declared.kept.KeptReply.{KeptReply}
 use Rattle.afs_locstore.proofs.Replies.{still_called}
 use Rattle.afs_locstore.proofs.kept.KeptReplies.keep.Goals as goal

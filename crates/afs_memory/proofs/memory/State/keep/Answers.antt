@@ -1,8 +1,8 @@
 use Rattle.std.proofs.Common.{◌≡◌, ◌∙◌, true, ap, sym, subst, rules}
-use Rattle.afs_num.specs.Nodes.{node_number}
-use Rattle.afs_ideal.specs.DirectoryLaws.{IsBytes}
-use Rattle.afs_ideal.specs.Tables.{set}
-use Rattle.afs_memory.specs.Called.{is_known, IsCaller}
+use Rattle.afs_num.specs.Nodes.{node_number, is_known}
+use Rattle.afs_xdr.specs.Words.{IsBytes}
+use Rattle.spec_ideal.specs.Tables.{set}
+use Rattle.afs_memory.specs.Called.{IsCaller}
 use Rattle.afs_memory.specs.declared.memory.KeptReply.{KeptReply}
 use Rattle.afs_memory.proofs.Held.{still_called}
 use Rattle.afs_memory.proofs.memory.State.keep.Goals as goal

@@ -2,9 +2,9 @@ use Rattle.std.proofs.Common.{◌∙◌, List, ap, subst, sym, map}
 use Rattle.afs_num.specs.declared.histories.Version.{Version}
 use Rattle.afs_num.specs.declared.types.Key.{Key}
 use Rattle.afs_num.specs.declared.volumes.Change.{Change}
-use Rattle.afs_ideal.specs.Tables.{get}
-use Rattle.afs_records.specs.Durable.{change_lines, nothing_on, versions_told}
-use Rattle.afs_fold.specs.Effects.{effect_by}
+use Rattle.spec_ideal.specs.Tables.{get}
+use Rattle.spec_records.specs.Durable.{change_lines, nothing_on, versions_told}
+use Rattle.spec_fold.specs.Effects.{effect_by}
 use Rattle.afs_memory.specs.Redos.{body_of, Suits}
 use Rattle.afs_memory.specs.States.{parts_of}
 use Rattle.afs_memory.specs.Telling.{in_words, version_within}

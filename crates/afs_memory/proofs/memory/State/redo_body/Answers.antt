@@ -1,5 +1,5 @@
 use Rattle.std.proofs.Common.{◌≡◌, true, is_some, subst, ap, ◌∙◌}
-use Rattle.afs_fold.specs.Fold.{body_taken}
+use Rattle.spec_fold.specs.Fold.{body_taken}
 use Rattle.afs_memory.specs.Redoing.{FitsRedo}
 use Rattle.afs_memory.specs.Redos.{body_of, IsReady}
 use Rattle.afs_memory.specs.States.{parts_of}

@@ -1,4 +1,4 @@
-use Rattle.afs_records.specs.Durable.{nothing_on}
+use Rattle.spec_records.specs.Durable.{nothing_on}
 use Rattle.afs_memory.specs.States.{parts_of}
 use Rattle.afs_shelves.proofs.Done.{suits_besides}
 use Rattle.afs_memory.proofs.Redone.{deed_done}

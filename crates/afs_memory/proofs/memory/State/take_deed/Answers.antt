@@ -1,6 +1,6 @@
 use Rattle.std.proofs.Common.{◌≡◌, ◌∙◌, Some, ap, subst, sym}
-use Rattle.afs_fold.specs.Fold.{body_taken}
-use Rattle.afs_records.specs.Durable.{Durable}
+use Rattle.spec_fold.specs.Fold.{body_taken}
+use Rattle.spec_records.specs.Durable.{Durable}
 use Rattle.afs_shelves.specs.Deeds.{deed_body, SuitsDeed}
 use Rattle.afs_memory.specs.States.{parts_of, parts_seen}
 use Rattle.afs_memory.proofs.Held.{parts_same}

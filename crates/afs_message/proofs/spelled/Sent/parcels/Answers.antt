@@ -1,5 +1,5 @@
 use Rattle.std.proofs.Common.{ap, ◌∙◌}
-use Rattle.afs_model.specs.Messages.{messages_spelled}
+use Rattle.spec_model.specs.Messages.{messages_spelled}
 use Rattle.afs_message.proofs.Sending.{all_spelled}
 use Rattle.afs_message.proofs.spelled.Sent.parcels.Goals as goal
 

@@ -1,6 +1,6 @@
 use Rattle.std.proofs.Common.{List, ℕ, Some, ap, sym, subst, ◌∙◌}
 use Rattle.afs_num.specs.declared.messages.Received.{Received}
-use Rattle.afs_model.specs.Messages.{received, HasSpelling}
+use Rattle.spec_model.specs.Messages.{received, HasSpelling}
 use Rattle.afs_message.specs.Spelled.{message_in, message_read, IsMessage}
 use Rattle.afs_message.proofs.spelled.SpelledMessage.of_spelling.Goals as goal
 

@@ -1,6 +1,6 @@
 use Rattle.std.proofs.Common.{List, ap, find, ◌∙◌}
-use Rattle.afs_adminrows.specs.AdminRow.{has_label}
-use Rattle.afs_adminrows.specs.declared.turns.HeldDump.{HeldDump}
+use Rattle.spec_adminrows.specs.AdminRow.{has_label}
+use Rattle.spec_adminrows.specs.declared.turns.HeldDump.{HeldDump}
 use Rattle.afs_mover.proofs.Held.{found_fits}
 use Rattle.afs_mover.proofs.dumps.Dumps.held.Goals as goal
 

@@ -1,4 +1,4 @@
-use Rattle.afs_adminrows.specs.AdminRow.{admin_begin_row}
+use Rattle.spec_adminrows.specs.AdminRow.{admin_begin_row}
 use Rattle.afs_mover.proofs.Numbers.{answers_last, answers_lasting, begin_rises}
 use Rattle.afs_mover.proofs.node.Mover.act.Goals as goal
 

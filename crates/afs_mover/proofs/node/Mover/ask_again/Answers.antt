@@ -1,6 +1,6 @@
 use Rattle.std.proofs.Common.{ℕ, [], ◌∷◌, Ok, ap, refl, ◌∙◌}
 use Rattle.std.specs.declared.alloc.AllocError.{AllocError}
-use Rattle.afs_model.specs.Messages.{messages_spelled}
+use Rattle.spec_model.specs.Messages.{messages_spelled}
 use Rattle.afs_mover.proofs.Behind.{acted, idle}
 use Rattle.afs_mover.proofs.Sent.{asked_in}
 use Rattle.afs_mover.specs.Steps.{asks_in, sent_under}

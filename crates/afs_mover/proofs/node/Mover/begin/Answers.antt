@@ -1,7 +1,7 @@
 use Rattle.std.proofs.Common.{ap, ◌∙◌}
-use Rattle.afs_history.specs.declared.scripts.AdminAct.{AdminAct}
-use Rattle.afs_adminrows.specs.Acts.{begins_with}
-use Rattle.afs_adminrows.specs.AdminRow.{admin_begin_row, dump_held, label_in, turned}
+use Rattle.spec_history.specs.declared.scripts.AdminAct.{AdminAct}
+use Rattle.spec_adminrows.specs.Acts.{begins_with}
+use Rattle.spec_adminrows.specs.AdminRow.{admin_begin_row, dump_held, label_in, turned}
 use Rattle.afs_mover.proofs.Behind.{behind_answered}
 use Rattle.afs_mover.proofs.Sent.{begun_same}
 use Rattle.afs_mover.proofs.node.Mover.begin.Goals as goal

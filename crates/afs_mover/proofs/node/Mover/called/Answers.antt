@@ -1,9 +1,9 @@
 use Rattle.std.proofs.Common.{ℕ, [], ap, sym, ◌∙◌}
 use Rattle.afs_num.specs.declared.messages.Message.{Message}
 use Rattle.afs_call.specs.Admitting.{means}
-use Rattle.afs_model.specs.Calls.{admitted}
-use Rattle.afs_rows.specs.ServerRow.{not_served, refusal}
-use Rattle.afs_adminrows.specs.AdminRow.{admits, serves_not, told}
+use Rattle.spec_model.specs.Calls.{admitted}
+use Rattle.spec_rows.specs.ServerRow.{not_served, refusal}
+use Rattle.spec_adminrows.specs.AdminRow.{admits, serves_not, told}
 use Rattle.afs_calling.proofs.Stepping.{takes_same}
 use Rattle.afs_mover.proofs.node.Mover.called.Goals as goal
 

@@ -1,5 +1,5 @@
 use Rattle.std.proofs.Common.{ap}
-use Rattle.afs_adminrows.specs.Turns.{dead}
+use Rattle.spec_adminrows.specs.Turns.{dead}
 use Rattle.afs_mover.proofs.Behind.{behind_answered}
 use Rattle.afs_mover.specs.Steps.{by_act, gives_up, turns_refused}
 use Rattle.afs_mover.proofs.node.Mover.give_up.Goals as goal

@@ -1,5 +1,5 @@
 use Rattle.std.proofs.Common.{◌+◌, ℕ, ap}
-use Rattle.afs_adminrows.specs.AdminRow.{running_at}
+use Rattle.spec_adminrows.specs.AdminRow.{running_at}
 use Rattle.afs_mover.proofs.Behind.{asked_behind}
 use Rattle.afs_mover.proofs.node.Mover.go.Goals as goal
 

@@ -1,6 +1,6 @@
 use Rattle.std.proofs.Common.{ℕ, []}
-use Rattle.afs_model.specs.Messages.{received_by}
-use Rattle.afs_adminrows.specs.AdminRow.{admin_row}
+use Rattle.spec_model.specs.Messages.{received_by}
+use Rattle.spec_adminrows.specs.AdminRow.{admin_row}
 use Rattle.afs_mover.proofs.Heard.{heard}
 use Rattle.afs_mover.proofs.Numbers.{row_rises, takes_last, takes_lasting}
 use Rattle.afs_mover.proofs.node.Mover.receive.Goals as goal

@@ -1,4 +1,4 @@
-use Rattle.afs_rows.specs.ServerRow.{not_served, refusal}
+use Rattle.spec_rows.specs.ServerRow.{not_served, refusal}
 use Rattle.afs_mover.proofs.Served.{refused_taken}
 use Rattle.afs_mover.proofs.node.Mover.refuse_call.Goals as goal
 

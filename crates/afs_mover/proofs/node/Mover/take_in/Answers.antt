@@ -1,5 +1,5 @@
 use Rattle.std.proofs.Common.{ℕ, [], ap, sym}
-use Rattle.afs_adminrows.specs.AdminRow.{takes_in, told}
+use Rattle.spec_adminrows.specs.AdminRow.{takes_in, told}
 use Rattle.afs_calling.proofs.Stepping.{takes_same}
 use Rattle.afs_mover.proofs.node.Mover.take_in.Goals as goal
 

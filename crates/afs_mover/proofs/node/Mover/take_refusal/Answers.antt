@@ -1,5 +1,5 @@
 use Rattle.std.proofs.Common.{◌∙◌}
-use Rattle.afs_adminrows.specs.AdminRow.{turned}
+use Rattle.spec_adminrows.specs.AdminRow.{turned}
 use Rattle.afs_mover.proofs.Behind.{acted, idle}
 use Rattle.afs_mover.proofs.Sent.{refused_same}
 use Rattle.afs_mover.specs.Steps.{turns_refused}

@@ -1,6 +1,6 @@
 use Rattle.std.proofs.Common.{◌∷◌, [], ℕ, ap}
 use Rattle.afs_num.specs.declared.messages.Message.{Message}
-use Rattle.afs_adminrows.specs.AdminRow.{told}
+use Rattle.spec_adminrows.specs.AdminRow.{told}
 use Rattle.afs_calling.proofs.Stepping.{takes_same}
 use Rattle.afs_mover.proofs.node.Mover.tell_again.Goals as goal
 

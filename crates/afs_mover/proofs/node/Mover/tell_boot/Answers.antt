@@ -1,8 +1,8 @@
 use Rattle.std.proofs.Common.{◌∷◌, [], ℕ, ap, ◌∙◌}
 use Rattle.afs_num.specs.declared.messages.Message.{Message}
-use Rattle.afs_model.specs.Steps.{NodeState}
-use Rattle.afs_rows.specs.ServerRow.{boot_told}
-use Rattle.afs_adminrows.specs.AdminRow.{AdminState, told}
+use Rattle.spec_model.specs.Steps.{NodeState}
+use Rattle.spec_rows.specs.ServerRow.{boot_told}
+use Rattle.spec_adminrows.specs.AdminRow.{AdminState, told}
 use Rattle.afs_calling.proofs.Stepping.{takes_same}
 use Rattle.afs_mover.proofs.node.Mover.tell_boot.Goals as goal
 

@@ -1,5 +1,5 @@
 use Rattle.std.proofs.Common.{ap, sym, ◌∙◌}
-use Rattle.afs_model.specs.Calls.{is_sent_again}
+use Rattle.spec_model.specs.Calls.{is_sent_again}
 use Rattle.afs_mover.proofs.Timed.{again_same, dead_same, step_as}
 use Rattle.afs_mover.specs.Steps.{gives_up, sends_late, times_out}
 use Rattle.afs_mover.proofs.node.Mover.time_out.Goals as goal

@@ -4,13 +4,13 @@ use Rattle.afs_num.specs.declared.messages.Message.{Message}
 use Rattle.afs_num.specs.declared.messages.Received.TheVariants.{Whole}
 use Rattle.afs_num.specs.declared.types.Parcel.{Parcel}
 use Rattle.std.specs.Prelude.{List, ◌∷◌, []}
-use Rattle.afs_history.specs.declared.lines.Line.TheVariants as lines
-use Rattle.afs_history.specs.declared.lines.Outs.{Outs}
-use Rattle.afs_model.specs.Messages.{received}
+use Rattle.spec_history.specs.declared.lines.Line.TheVariants as lines
+use Rattle.spec_history.specs.declared.lines.Outs.{Outs}
+use Rattle.spec_model.specs.Messages.{received}
 use Rattle.afs_server_parts.specs.declared.faults.NodeFault.{NodeFault}
 use Rattle.afs_server_parts.specs.declared.faults.NodeFault.TheVariants as faults
 use Rattle.afs_saving.proofs.Still.{handed_up, out_of_memory}
-use Rattle.afs_volrows.specs.VolSteps.{node_row}
+use Rattle.spec_volrows.specs.VolSteps.{node_row}
 use Rattle.afs_node.specs.Handling.{HandlesNode, StepsNode}
 use Rattle.afs_node.specs.Seen.{node_found, node_seen}
 use Rattle.afs_node.proofs.Readied.{handles_err, handles_out, handles_wants, readied, ready_serves, steps_err, steps_out, steps_want}

@@ -1,12 +1,12 @@
 use Rattle.std.specs.Prelude.{Err, Result, IsErrOf, List, []}
 use Rattle.std.proofs.Common.{ap, subst, sym}
 use Rattle.afs_num.specs.declared.types.Parcel.{Parcel}
-use Rattle.afs_history.specs.declared.lines.Outs.{Outs}
+use Rattle.spec_history.specs.declared.lines.Outs.{Outs}
 use Rattle.afs_callees.specs.Called.{call_to}
 use Rattle.afs_server_parts.specs.declared.faults.NodeFault.{NodeFault}
 use Rattle.afs_server_parts.specs.declared.faults.NodeFault.TheVariants as faults
 use Rattle.afs_saving.proofs.Still.{handed_up, out_of_memory}
-use Rattle.afs_volrows.specs.VolSteps.{node_back_timeout_row}
+use Rattle.spec_volrows.specs.VolSteps.{node_back_timeout_row}
 use Rattle.afs_node.specs.Handling.{HandlesNode}
 use Rattle.afs_node.specs.Seen.{node_seen}
 use Rattle.afs_node.proofs.Readied.{drawn_since, err_wants, late_drawn, late_err, late_kept, late_out, own_wanted, own_wants, readied, room_stored, some_call, up_as}

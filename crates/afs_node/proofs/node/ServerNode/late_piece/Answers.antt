@@ -1,7 +1,7 @@
 use Rattle.std.specs.Prelude.{◌≤◌, ◌+◌, length, Ok, Err, Result, IsErrOf, List, []}
 use Rattle.std.proofs.Common.{ap, subst, sym, ◌∙◌}
 use Rattle.afs_num.specs.declared.types.Parcel.{Parcel}
-use Rattle.afs_history.specs.declared.lines.Outs.{Outs}
+use Rattle.spec_history.specs.declared.lines.Outs.{Outs}
 use Rattle.afs_callees.specs.Called.{call_to}
 use Rattle.afs_server_parts.specs.declared.faults.NodeFault.{NodeFault}
 use Rattle.afs_server_parts.specs.declared.faults.NodeFault.TheVariants as faults
@@ -10,7 +10,7 @@ use Rattle.afs_callbacks.specs.States.{CallbackState}
 use Rattle.afs_sendings.specs.Pieces.{call_seen}
 use Rattle.afs_volserv.specs.Handling.{vol_timed_then, HandlesVolumes}
 use Rattle.afs_volserv.specs.Seen.{VolMemory}
-use Rattle.afs_volrows.specs.VolSteps.{piece_timeout_row}
+use Rattle.spec_volrows.specs.VolSteps.{piece_timeout_row}
 use Rattle.afs_node.specs.Handling.{HandlesNode}
 use Rattle.afs_node.specs.Seen.{node_seen}
 use Rattle.afs_node.proofs.Readied.{err_wants, late_drawn, own_wanted, own_wants, piece_err, piece_kept, piece_out, readied, room_stored, some_call, stored_since, up_as}

@@ -1,7 +1,7 @@
 use Rattle.std.specs.Prelude.{◌∷◌, [], OnOk}
 use Rattle.std.proofs.Common.{refl, sym, subst}
 use Rattle.afs_callbacks.specs.States.{CallbackState}
-use Rattle.afs_history.specs.declared.lines.Line.TheVariants as lines
+use Rattle.spec_history.specs.declared.lines.Line.TheVariants as lines
 use Rattle.afs_server.specs.Handling.{server_seen}
 use Rattle.afs_server.specs.Seen.{callbacks_of}
 use Rattle.afs_volserv.specs.Handling.{vol_decided_then, vol_record, vol_turned_then, DrawsFew, HandlesVolumes, StaysInOrder}

@@ -1,11 +1,11 @@
 use Rattle.std.specs.Prelude.{Err, Result, IsErrOf, List, []}
 use Rattle.std.proofs.Common.{ap, subst, sym}
 use Rattle.afs_num.specs.declared.types.Parcel.{Parcel}
-use Rattle.afs_history.specs.declared.lines.Outs.{Outs}
+use Rattle.spec_history.specs.declared.lines.Outs.{Outs}
 use Rattle.afs_server_parts.specs.declared.faults.NodeFault.{NodeFault}
 use Rattle.afs_server_parts.specs.declared.faults.NodeFault.TheVariants as faults
 use Rattle.afs_saving.proofs.Still.{handed_up, out_of_memory}
-use Rattle.afs_volrows.specs.VolSteps.{node_wake_row}
+use Rattle.spec_volrows.specs.VolSteps.{node_wake_row}
 use Rattle.afs_node.specs.Handling.{HandlesNode}
 use Rattle.afs_node.specs.Seen.{node_seen}
 use Rattle.afs_node.proofs.Readied.{drawn_since, err_wants, late_drawn, late_kept, own_wanted, own_wants, readied, room_stored, up_as, woken_err, woken_out}

@@ -1,6 +1,6 @@
 use Rattle.std.proofs.Common.{ap, sym, ◌∙◌}
 use Rattle.std.specs.List.{list_all}
-use Rattle.afs_records.specs.Sound.{gives_one}
+use Rattle.spec_records.specs.Sound.{gives_one}
 use Rattle.afs_volume.specs.Seen.{seen}
 use Rattle.afs_patch.specs.Patching.{after, gives_touched}
 use Rattle.afs_patch.proofs.Patches.{gives_left}

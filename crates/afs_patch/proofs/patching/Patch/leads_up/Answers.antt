@@ -1,7 +1,7 @@
 use Rattle.std.proofs.Common.{◌≡◌, ◌-◌, ◌+◌, ℕ, suc, false, nat_eq, Some, arith, rules}
-use Rattle.afs_ideal.specs.Operations.{leads_up}
-use Rattle.afs_ideal.specs.Tables.{get}
-use Rattle.afs_ideal.specs.Volumes.{Vnode}
+use Rattle.spec_ideal.specs.Operations.{leads_up}
+use Rattle.spec_ideal.specs.Tables.{get}
+use Rattle.spec_ideal.specs.Volumes.{Vnode}
 use Rattle.afs_volume.specs.Seen.{seen}
 use Rattle.afs_volume.proofs.Upward.{higher}
 use Rattle.afs_patch.specs.Patching.{after}

@@ -1,6 +1,6 @@
 use Rattle.std.proofs.Common.{◌≡◌, ◌-◌}
-use Rattle.afs_ideal.specs.Operations.{leads_up}
-use Rattle.afs_ideal.specs.Tables.{get}
+use Rattle.spec_ideal.specs.Operations.{leads_up}
+use Rattle.spec_ideal.specs.Tables.{get}
 use Rattle.afs_patch.specs.Patching.{after}
 use Rattle.afs_patch.proofs.patching.Patch.leads_up.Given as goal
 

@@ -1,5 +1,5 @@
 use Rattle.std.proofs.Common.{sym, ◌∙◌}
-use Rattle.afs_ideal.proofs.Basics.{both_true}
+use Rattle.spec_ideal.proofs.Basics.{both_true}
 use Rattle.afs_volume.specs.Seen.{seen}
 use Rattle.afs_patch.proofs.patching.Patch.may_come.Goals as goal
 

@@ -1,7 +1,7 @@
 use Rattle.std.proofs.Common.{◌≡◌, ◌<◌, ◌+◌, ◌++◌, ◌∷◌, [], refl, sym, ap, subst, ◌∙◌, arith, length, ℕ, List, take}
 use Rattle.indexmap.specs.IndexMap.{get}
 use Rattle.afs_promise.specs.declared.types.Grant.{Grant}
-use Rattle.afs_breaks.specs.Promises.{lasting}
+use Rattle.spec_breaks.specs.Promises.{lasting}
 use Rattle.afs_promise.specs.Granting.{holding_in, same_holding, held, IsIn}
 use Rattle.afs_promise.proofs.Logs.{is_counted}
 use Rattle.afs_promise.proofs.Ends.{goes, get_in, take_one_more, rest_lasts, ended_log}

@@ -1,7 +1,7 @@
 use Rattle.std.proofs.Common.{◌≡◌, ◌+◌, ◌≤◌, ◌<◌, ◌^◌, length, take}
 use Rattle.std.specs.Vec.{vec_capacity, vec_len}
 use Rattle.indexmap.specs.IndexMap.{get, spare}
-use Rattle.afs_breaks.specs.Promises.{lasting}
+use Rattle.spec_breaks.specs.Promises.{lasting}
 use Rattle.afs_promise.specs.Granting.{same_holding, held, reach, IsLog}
 use Rattle.afs_promise.proofs.grants.Grants.expire.Given as goal
 

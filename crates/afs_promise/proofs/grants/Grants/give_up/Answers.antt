@@ -1,7 +1,7 @@
 use Rattle.std.proofs.Common.{arith, refl, ap, ◌∙◌}
 use Rattle.indexmap.specs.IndexMap.{get}
 use Rattle.afs_promise.specs.Granting.{Granted, holding, same_holding}
-use Rattle.afs_breaks.specs.Promises.{without_promise}
+use Rattle.spec_breaks.specs.Promises.{without_promise}
 use Rattle.afs_promise.proofs.Held.{removed}
 use Rattle.afs_promise.proofs.Logs.{is_counted, removed_log}
 use Rattle.afs_promise.proofs.grants.Grants.give_up.Goals as goal

@@ -1,8 +1,8 @@
 use Rattle.std.proofs.Common.{◌≡◌, ◌<◌, ◌++◌, ℕ, List, rules, sym, ap, subst, ◌∙◌}
 use Rattle.std.specs.List.{AllByRecursion}
 use Rattle.indexmap.specs.IndexMap.{get}
-use Rattle.afs_breaks.specs.declared.types.Promise.{Promise}
-use Rattle.afs_breaks.specs.Promises.{hits, lasting}
+use Rattle.spec_breaks.specs.declared.types.Promise.{Promise}
+use Rattle.spec_breaks.specs.Promises.{hits, lasting}
 use Rattle.afs_promise.specs.declared.types.Grant.{Grant}
 use Rattle.afs_promise.specs.Gathered.{found_by, IsInOrder}
 use Rattle.afs_promise.specs.Granting.{Granted, held, same_holding, since}

@@ -1,7 +1,7 @@
 use Rattle.std.proofs.Common.{◌≡◌, ◌++◌, List, length, sym, ap, subst, ◌∙◌, arith}
 use Rattle.indexmap.specs.IndexMap.{get}
 use Rattle.afs_promise.specs.declared.types.Grant.{Grant}
-use Rattle.afs_breaks.specs.Promises.{by_fid, hits_on, lasting}
+use Rattle.spec_breaks.specs.Promises.{by_fid, hits_on, lasting}
 use Rattle.afs_promise.specs.Granting.{Granted, same_holding, held_on, lasting_grants, promises_in, Rises}
 use Rattle.afs_promise.proofs.Logs.{rises_filter}
 use Rattle.afs_promise.proofs.Volumes.{on_few, on_lasting}

@@ -4,7 +4,7 @@ use Rattle.afs_num.specs.declared.types.Fid.{Fid}
 use Rattle.afs_num.specs.declared.types.Node.{Node}
 use Rattle.afs_promise.specs.declared.types.Grant.{Grant}
 use Rattle.afs_promise.specs.Granting.{Granted, same_holding, held, goes_on, IsLog}
-use Rattle.afs_breaks.specs.Promises.{with_promise}
+use Rattle.spec_breaks.specs.Promises.{with_promise}
 use Rattle.afs_promise.proofs.Logs.{count_below, granted_log, granted_held}
 use Rattle.afs_promise.proofs.grants.Grants.put.Goals as goal
 

@@ -2,8 +2,8 @@ use Rattle.std.proofs.Common.{◌≡◌, ◌∷◌, [], ◌+◌, List, Option, S
 use Rattle.std.specs.Option.{IfNone}
 use Rattle.indexmap.specs.IndexMap.{get}
 use Rattle.afs_num.specs.declared.types.Node.{Node}
-use Rattle.afs_breaks.specs.declared.types.Promise.{Promise}
-use Rattle.afs_breaks.specs.Promises.{without_promise, hits, left, is_hit}
+use Rattle.spec_breaks.specs.declared.types.Promise.{Promise}
+use Rattle.spec_breaks.specs.Promises.{without_promise, hits, left, is_hit}
 use Rattle.afs_promise.specs.Granting.{Granted, same_holding, held, oldest}
 use Rattle.afs_promise.proofs.Hits.{no_hits, all_left, first_hit, others_stay, one_fewer}
 use Rattle.afs_promise.proofs.grants.Grants.take_hit.Goals as goal

@@ -3,7 +3,7 @@ use Rattle.std.proofs.lemmas.List.{drop_all}
 use Rattle.std.specs.List.Sorted.{IsPermutation}
 use Rattle.indexmap.specs.IndexMap.{get}
 use Rattle.afs_promise.specs.declared.types.Grant.{Grant}
-use Rattle.afs_breaks.specs.Promises.{by_fid, hits_on, left_off}
+use Rattle.spec_breaks.specs.Promises.{by_fid, hits_on, left_off}
 use Rattle.afs_promise.specs.Granting.{Granted, same_holding, held_on, promises_in, Rises}
 use Rattle.afs_promise.proofs.Logs.{rises_filter}
 use Rattle.afs_promise.proofs.Volumes.{on_few, on_promises, without_all, volume_goes, next_gone}

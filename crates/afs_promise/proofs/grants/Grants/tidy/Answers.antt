@@ -1,7 +1,7 @@
 use Rattle.std.proofs.Common.{rules, ◌≡◌, ℕ, List, arith, ap, ◌∙◌, filter}
 use Rattle.std.proofs.lemmas.Fn.{filter_same}
 use Rattle.indexmap.specs.IndexMap.{get}
-use Rattle.afs_breaks.specs.declared.types.Promise.{Promise}
+use Rattle.spec_breaks.specs.declared.types.Promise.{Promise}
 use Rattle.afs_promise.specs.Granting.{Granted, same_holding, is_held}
 use Rattle.afs_promise.proofs.Logs.{tidied_log, tidied_held}
 use Rattle.afs_promise.proofs.grants.Grants.tidy.Goals as goal

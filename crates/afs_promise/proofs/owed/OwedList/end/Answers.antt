@@ -1,7 +1,7 @@
 use Rattle.std.proofs.Common.{ℕ, List, Option, ap, sym, subst, arith, ◌∙◌}
 use Rattle.std.specs.BinaryHeap.{heap_items}
-use Rattle.afs_breaks.specs.declared.types.OwedBreak.{OwedBreak}
-use Rattle.afs_breaks.specs.Promises.{without_break}
+use Rattle.spec_breaks.specs.declared.types.OwedBreak.{OwedBreak}
+use Rattle.spec_breaks.specs.Promises.{without_break}
 use Rattle.afs_promise.specs.Owing.{Owing, IsOwing, breaks_in}
 use Rattle.afs_promise.proofs.Breaks.{counts_some, struck_owing, struck_breaks}
 use Rattle.afs_promise.proofs.owed.OwedList.end.Goals as goal

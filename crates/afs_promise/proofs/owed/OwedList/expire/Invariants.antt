@@ -1,7 +1,7 @@
 use Rattle.std.proofs.Common.{◌≡◌, ◌+◌, ◌≤◌}
 use Rattle.std.specs.BinaryHeap.{heap_items, heap_len, heap_capacity, IsHeap}
 use Rattle.indexmap.specs.IndexMap.{spare}
-use Rattle.afs_breaks.specs.Promises.{lasting_breaks}
+use Rattle.spec_breaks.specs.Promises.{lasting_breaks}
 use Rattle.afs_promise.specs.Owing.{breaks_in, due_order, IsOwing}
 use Rattle.afs_promise.proofs.owed.OwedList.expire.Given as goal
 

@@ -1,5 +1,5 @@
 use Rattle.std.proofs.Common.{ap, ◌∙◌}
-use Rattle.afs_breaks.specs.Promises.{has_break}
+use Rattle.spec_breaks.specs.Promises.{has_break}
 use Rattle.afs_promise.specs.Owing.{Owing}
 use Rattle.afs_promise.proofs.Breaks.{has_is}
 use Rattle.afs_promise.proofs.owed.OwedList.has.Goals as goal

@@ -3,7 +3,7 @@ use Rattle.std.specs.BinaryHeap.{heap_items}
 use Rattle.indexmap.proofs.CallerLemmas.{insert_entry-new}
 use Rattle.afs_num.specs.declared.types.Fid.{Fid}
 use Rattle.afs_num.specs.declared.types.Node.{Node}
-use Rattle.afs_breaks.specs.declared.types.OwedBreak.{OwedBreak}
+use Rattle.spec_breaks.specs.declared.types.OwedBreak.{OwedBreak}
 use Rattle.afs_promise.specs.Owing.{Owing, IsOwing, breaks_in}
 use Rattle.afs_promise.proofs.Breaks.{few, beyond, owed_on, breaks_on, at_own}
 use Rattle.afs_promise.proofs.owed.OwedList.owe.Goals as goal

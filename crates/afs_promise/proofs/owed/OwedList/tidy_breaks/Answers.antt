@@ -1,6 +1,6 @@
 use Rattle.std.proofs.Common.{rules, ◌≡◌, ℕ, List, Option, filter, is_some, arith, ap, ◌∙◌}
 use Rattle.indexmap.proofs.CallerLemmas.{filter-RetainsPairs}
-use Rattle.afs_breaks.specs.declared.types.OwedBreak.{OwedBreak}
+use Rattle.spec_breaks.specs.declared.types.OwedBreak.{OwedBreak}
 use Rattle.afs_promise.specs.Owing.{Owing, breaks_in}
 use Rattle.afs_promise.proofs.Breaks.{kept_owing, kept_breaks}
 use Rattle.afs_promise.proofs.owed.OwedList.tidy_breaks.Goals as goal

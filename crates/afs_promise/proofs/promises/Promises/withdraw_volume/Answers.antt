@@ -1,6 +1,6 @@
 use Rattle.std.proofs.Common.{List, ◌+◌, length, ap, arith}
 use Rattle.afs_promise.specs.declared.types.Grant.{Grant}
-use Rattle.afs_breaks.specs.Promises.{Lists}
+use Rattle.spec_breaks.specs.Promises.{Lists}
 use Rattle.afs_promise.proofs.Lists.{volume_long}
 use Rattle.afs_promise.proofs.promises.Promises.withdraw_volume.Goals as goal
 

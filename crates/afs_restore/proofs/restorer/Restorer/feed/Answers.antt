@@ -1,5 +1,5 @@
 use Rattle.std.proofs.Common.{◌≡◌, ℕ, ◌+◌, ◌-◌, ◌++◌, List, Option, Some, drop, length, sym, ap, subst, ◌∙◌, rules}
-use Rattle.afs_dumps.specs.Restores.{fed}
+use Rattle.spec_dumps.specs.Restores.{fed}
 use Rattle.afs_restore.specs.ReadOn.{bytes_read, pending_of, IsFed, IsFedSoFar, ReadsOn}
 use Rattle.afs_restore.specs.declared.reading.Read.{Read}
 use Rattle.afs_restore.specs.declared.reading.Read.TheVariants as reads

@@ -1,6 +1,6 @@
 use Rattle.std.proofs.Common.{ap₂, refl, sym, ◌∙◌, ◌≡◌, ◌≤◌, ◌⊎◌, arith, inl, ℕ, List, Bool, true, false, Option, Some}
 use Rattle.std.specs.Prelude.{IfSome}
-use Rattle.afs_history.specs.declared.scripts.Event.{Event}
+use Rattle.spec_history.specs.declared.scripts.Event.{Event}
 use Rattle.afs_schedule.specs.Schedules.{lowest, next_event}
 use Rattle.afs_schedule.proofs.Drained.{drained, settles}
 use Rattle.afs_schedule.proofs.Taken.{taken}

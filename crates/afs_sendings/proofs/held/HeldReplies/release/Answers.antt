@@ -1,8 +1,8 @@
 use Rattle.std.proofs.Common.{◌≡◌, List, false, rules, sym, ap, ◌∙◌}
 use Rattle.std.specs.List.{list_any}
-use Rattle.afs_model.specs.Messages.{messages_spelled, parcels_read}
-use Rattle.afs_rows.specs.Callbacks.{is_ready, replies_of}
-use Rattle.afs_rows.specs.States.{Held}
+use Rattle.spec_model.specs.Messages.{messages_spelled, parcels_read}
+use Rattle.spec_rows.specs.Callbacks.{is_ready, replies_of}
+use Rattle.spec_rows.specs.States.{Held}
 use Rattle.afs_server_parts.proofs.Released.{all_wait, none_sent}
 use Rattle.afs_sendings.proofs.held.HeldReplies.release.Goals as goal
 

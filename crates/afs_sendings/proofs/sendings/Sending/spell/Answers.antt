@@ -1,5 +1,5 @@
 use Rattle.std.proofs.Common.{sym, subst}
-use Rattle.afs_model.specs.Messages.{HasSpelling}
+use Rattle.spec_model.specs.Messages.{HasSpelling}
 use Rattle.afs_sendings.proofs.Spelled.{piece_spelled}
 use Rattle.afs_sendings.proofs.sendings.Sending.spell.Goals as goal
 

@@ -1,8 +1,8 @@
 use Rattle.std.proofs.Common.{◌≡◌, ◌≤◌, [], false, refl, ap, subst, ◌∙◌}
-use Rattle.afs_breaks.specs.Promises.{expired}
-use Rattle.afs_model.specs.Calls.{call_seated}
-use Rattle.afs_rows.specs.Callbacks.{gives_up_all}
-use Rattle.afs_rows.specs.ServerRow.{given_up_read, keeps, read_reply_to, seat_for}
+use Rattle.spec_breaks.specs.Promises.{expired}
+use Rattle.spec_model.specs.Calls.{call_seated}
+use Rattle.spec_rows.specs.Callbacks.{gives_up_all}
+use Rattle.spec_rows.specs.ServerRow.{given_up_read, keeps, read_reply_to, seat_for}
 use Rattle.afs_server_parts.specs.declared.turns.Stand.{Stand}
 use Rattle.afs_server_parts.specs.Turning.{answer_turn}
 use Rattle.afs_callbacks.specs.Answering.{with_lists, IsRepliedNow}

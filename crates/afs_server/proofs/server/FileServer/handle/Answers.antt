@@ -1,10 +1,10 @@
 use Rattle.std.proofs.Common.{◌≡◌, ◌+◌, ℕ, ap, subst, ◌∙◌}
 use Rattle.std.specs.Prelude.{OnOk}
-use Rattle.afs_model.specs.Messages.{received_by}
-use Rattle.afs_rows.specs.Callbacks as row
-use Rattle.afs_rows.specs.Callbacks.{turned_in}
-use Rattle.afs_rows.specs.ServerRow.{device_calls}
-use Rattle.afs_volrows.specs.FileRow.{file_decides}
+use Rattle.spec_model.specs.Messages.{received_by}
+use Rattle.spec_rows.specs.Callbacks as row
+use Rattle.spec_rows.specs.Callbacks.{turned_in}
+use Rattle.spec_rows.specs.ServerRow.{device_calls}
+use Rattle.spec_volrows.specs.FileRow.{file_decides}
 use Rattle.afs_server.specs.Handling.{calls_served, holds_seen, server_seen}
 use Rattle.afs_server.proofs.Wholly.{calls_decided, called_after, done_after, draws_after, left_down, serves_after, some_down, step_at, store_after, told_after, prepared_after}
 use Rattle.afs_server.proofs.server.FileServer.handle.Goals as goal

@@ -1,5 +1,5 @@
 use Rattle.std.proofs.Common.{◌≡◌, refl, ap, ◌∙◌}
-use Rattle.afs_rows.specs.Callbacks as row
+use Rattle.spec_rows.specs.Callbacks as row
 use Rattle.afs_callees.specs.Called.{call_to}
 use Rattle.afs_server.specs.Hearing.{answered_turn, settled_turn}
 use Rattle.afs_callbacks.specs.Hearing.{heard_by}

@@ -1,6 +1,6 @@
 use Rattle.std.proofs.Common.{◌≡◌, Option, refl, ap, sym, subst, ◌∙◌}
-use Rattle.afs_rows.specs.Callbacks as row
-use Rattle.afs_rows.specs.States.{BackCall}
+use Rattle.spec_rows.specs.Callbacks as row
+use Rattle.spec_rows.specs.States.{BackCall}
 use Rattle.afs_callees.specs.Called.{call_to, IsGoodOrNone}
 use Rattle.afs_callbacks.specs.Hearing.{heard_by}
 use Rattle.afs_server.specs.Hearing.{noticed_turn, renewed_turn}

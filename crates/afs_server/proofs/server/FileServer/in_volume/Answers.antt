@@ -1,18 +1,18 @@
 use Rattle.std.proofs.Common.{◌≡◌, ℕ, Some, sym, ap, subst, to_z-of_z, rules, SFits, ◌∙◌}
 use Rattle.std.specs.Int.{w32}
-use Rattle.afs_ideal.specs.Tables.{get}
+use Rattle.spec_ideal.specs.Tables.{get}
 use Rattle.std.specs.Prelude.{pos, ℤ}
 use Rattle.std.specs.Option.{option_map}
 use Rattle.afs_shelves.specs.Shelving.{is_new_in, stored_as}
-use Rattle.afs_volrows.specs.FileRow.{closed_code}
+use Rattle.spec_volrows.specs.FileRow.{closed_code}
 use Rattle.std.proofs.lemmas.Result.{IfOk-weaker}
-use Rattle.afs_ideal.specs.Operations.{the_user}
+use Rattle.spec_ideal.specs.Operations.{the_user}
 use Rattle.afs_server.specs.Handling.{holds_seen, server_seen}
 use Rattle.afs_decisions.proofs.Decisions.{closed_decides, found_decides, missing_decides}
 use Rattle.afs_decisions.specs.Deciding.{IsDecision, IsDecisionIn}
 use Rattle.afs_decisions.specs.declared.decided.Decided.{Decided}
 use Rattle.afs_decisions.specs.declared.decided.Decided.TheVariants as decided
-use Rattle.afs_volrows.specs.FileRow.{file_in}
+use Rattle.spec_volrows.specs.FileRow.{file_in}
 use Rattle.afs_server.proofs.server.FileServer.in_volume.Goals as goal
 
 pub returns-in-None : goal.returns-in-None

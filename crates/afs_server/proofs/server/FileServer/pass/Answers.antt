@@ -1,6 +1,6 @@
 use Rattle.std.proofs.Common.{◌≤◌, [], refl, subst}
-use Rattle.afs_rows.specs.Callbacks as row
-use Rattle.afs_rows.specs.Callbacks.{no_turn}
+use Rattle.spec_rows.specs.Callbacks as row
+use Rattle.spec_rows.specs.Callbacks.{no_turn}
 use Rattle.afs_server_parts.specs.Ending.{IsPlanOf}
 use Rattle.afs_server_parts.specs.declared.turns.Stand.{Stand}
 use Rattle.afs_callbacks.specs.States.{backs_by, CallbackState}

@@ -1,13 +1,13 @@
 use Rattle.std.proofs.Common.{◌≡◌, ◌≤◌, ◌+◌, List, true, length, arith, lt-ltb, ℕ, Option, None, Some, ap, sym, subst, ◌∙◌}
 use Rattle.std.specs.Prelude.{nat_lt, Result, Ok, Err}
-use Rattle.afs_history.specs.declared.lines.Outs.{Outs}
-use Rattle.afs_breaks.specs.Promises.{expired, grants_all, lasting, withdrawn, Lists}
-use Rattle.afs_breaks.specs.declared.types.Promise.{Promise}
-use Rattle.afs_model.specs.Calls.{call_seated}
-use Rattle.afs_records.specs.Durable.{Durable}
-use Rattle.afs_fold.specs.Fold.{folded}
-use Rattle.afs_records.specs.Records.{FitsRecord}
-use Rattle.afs_rows.specs.ServerRow.{seat_for}
+use Rattle.spec_history.specs.declared.lines.Outs.{Outs}
+use Rattle.spec_breaks.specs.Promises.{expired, grants_all, lasting, withdrawn, Lists}
+use Rattle.spec_breaks.specs.declared.types.Promise.{Promise}
+use Rattle.spec_model.specs.Calls.{call_seated}
+use Rattle.spec_records.specs.Durable.{Durable}
+use Rattle.spec_fold.specs.Fold.{folded}
+use Rattle.spec_records.specs.Records.{FitsRecord}
+use Rattle.spec_rows.specs.ServerRow.{seat_for}
 use Rattle.afs_callbacks.specs.Saving.{withdraws_each}
 use Rattle.afs_callbacks.specs.States.{backs_at, CallbackState}
 use Rattle.afs_server.specs.Saving.{IsPut, IsTaken}

@@ -1,10 +1,10 @@
 use Rattle.std.proofs.Common.{◌≡◌, ◌≤◌, Bool, refl, ap, sym, subst}
 use Rattle.std.specs.List.{All}
-use Rattle.afs_breaks.specs.Promises.{expired, Lists}
-use Rattle.afs_model.specs.Calls.{call_seat}
-use Rattle.afs_rows.specs.Callbacks as row
-use Rattle.afs_rows.specs.Callbacks.{held_under, is_seat_of, key_answered, repeats_by}
-use Rattle.afs_rows.specs.States.{Backs}
+use Rattle.spec_breaks.specs.Promises.{expired, Lists}
+use Rattle.spec_model.specs.Calls.{call_seat}
+use Rattle.spec_rows.specs.Callbacks as row
+use Rattle.spec_rows.specs.Callbacks.{held_under, is_seat_of, key_answered, repeats_by}
+use Rattle.spec_rows.specs.States.{Backs}
 use Rattle.afs_server_parts.specs.Ending.{IsPlanOf}
 use Rattle.afs_server_parts.specs.declared.turns.Stand.{Stand}
 use Rattle.afs_callbacks.specs.States.{backs_by, CallbackState, IsPromiseToNode}

@@ -1,12 +1,12 @@
 use Rattle.std.proofs.Common.{◌≡◌, ◌≤◌, ◌+◌, [], arith, ap, sym, subst, ◌∙◌}
 use Rattle.std.specs.List.{All}
 use Rattle.afs_num.specs.Nodes.{IsNode}
-use Rattle.afs_history.specs.declared.lines.Outs.{Outs}
-use Rattle.afs_breaks.specs.Promises.{Lists}
-use Rattle.afs_records.specs.Durable.{Durable}
-use Rattle.afs_rows.specs.Callbacks as row
-use Rattle.afs_rows.specs.Callbacks.{pumped, risen_turn}
-use Rattle.afs_rows.specs.States.{Backs}
+use Rattle.spec_history.specs.declared.lines.Outs.{Outs}
+use Rattle.spec_breaks.specs.Promises.{Lists}
+use Rattle.spec_records.specs.Durable.{Durable}
+use Rattle.spec_rows.specs.Callbacks as row
+use Rattle.spec_rows.specs.Callbacks.{pumped, risen_turn}
+use Rattle.spec_rows.specs.States.{Backs}
 use Rattle.afs_callees.specs.Called.{AreGoodCalls}
 use Rattle.afs_server_parts.specs.Ending.{Ends, IsPlanOf}
 use Rattle.afs_server_parts.specs.Turning.{IsBreakToNode}
@@ -39,7 +39,7 @@ returns-clause-step g c =
     let kept : c.keep-outs.new.store ≡ record store { drawn = e.last } = c.keep-outs.ensures.store in
     let owes = c.in_ok-promises.ensures.lists in
     let risen : IsPlanOf (stand_of store) (risen_with store.node l) e = subst (λ (s : Stand). IsPlanOf s (risen_with s.node l) e) c.stand.ensures c.in_ok-ended.ensures in
-    let plan : IsPlanOf (stand_of store) turn e = subst (λ (t : row.Turn). IsPlanOf (stand_of store) t e) (ap (risen_with store.node) owes) risen in
+    let plan : IsPlanOf (stand_of store) turn e = subst (λ (t : row.CallbackStep). IsPlanOf (stand_of store) t e) (ap (risen_with store.node) owes) risen in
     let lists : m.lists ≡ turn.backs.lists = ap (λ (x : Memory). x.lists) c.keep-outs.ensures.server ∙ (ap (λ (k : CallbackState). k.lists) c.owing-callbacks.ensures ∙ owes) in
     let left : Leaves (begun_state store.durable) e m c.keep-outs.new.store = record {
       lasting = ap (λ (u : Store _). lasting_of u.durable) kept;

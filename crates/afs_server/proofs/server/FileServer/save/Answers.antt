@@ -1,16 +1,16 @@
 use Rattle.std.proofs.Common.{ℕ, ◌≡◌, ◌≤◌, ◌<◌, ◌+◌, length, arith, refl, ap, sym, subst, ◌∙◌}
 use Rattle.std.specs.List.{All, AllByRecursion}
 use Rattle.std.specs.Prelude.{Result, Err, map}
-use Rattle.afs_history.specs.declared.lines.Outs.{Outs}
+use Rattle.spec_history.specs.declared.lines.Outs.{Outs}
 use Rattle.afs_num.specs.declared.records.RecordBody.{RecordBody}
 use Rattle.afs_num.specs.declared.records.StoreRecord.{StoreRecord}
 use Rattle.afs_num.specs.declared.types.Node.{Node}
 use Rattle.afs_server_parts.specs.declared.turns.Stand.{Stand}
 use Rattle.afs_num.specs.declared.volumes.Change.{Change}
-use Rattle.afs_records.specs.Durable.{Durable}
-use Rattle.afs_rows.specs.Callbacks as row
-use Rattle.afs_rows.specs.ServerRow.{roomed}
-use Rattle.afs_breaks.specs.Promises.{lasting}
+use Rattle.spec_records.specs.Durable.{Durable}
+use Rattle.spec_rows.specs.Callbacks as row
+use Rattle.spec_rows.specs.ServerRow.{roomed}
+use Rattle.spec_breaks.specs.Promises.{lasting}
 use Rattle.afs_callbacks.specs.States.{CallbackState, IsPromiseToNode}
 use Rattle.afs_server.specs.Handling.{record_decided, server_seen, turn_then}
 use Rattle.afs_callbacks.specs.Answering.{reply_told}

@@ -5,8 +5,8 @@ use Rattle.afs_server.specs.Handling.{holds_seen, server_seen}
 use Rattle.afs_decisions.proofs.Admitting.{volume_serves}
 use Rattle.afs_decisions.specs.declared.decided.Decided.{Decided}
 use Rattle.afs_server.proofs.server.FileServer.serve.Goals as goal
-use Rattle.afs_ideal.specs.Operations.{the_user, volume_called}
-use Rattle.afs_volrows.specs.FileRow.{file_volume}
+use Rattle.spec_ideal.specs.Operations.{the_user, volume_called}
+use Rattle.spec_volrows.specs.FileRow.{file_volume}
 
 pub returns-then-is_on_volume : goal.returns-then-is_on_volume
 returns-then-is_on_volume g c =

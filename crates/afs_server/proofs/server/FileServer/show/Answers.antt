@@ -1,10 +1,10 @@
 use Rattle.std.proofs.Common.{◌≡◌, ◌≤◌, ◌+◌, List, [], false, map, arith, ap, sym, subst, refl, lt-ltb, ◌∙◌}
 use Rattle.afs_num.specs.declared.messages.Message.{Message}
-use Rattle.afs_history.specs.declared.lines.Line.{Line}
-use Rattle.afs_breaks.specs.Promises.{expired, grants_all}
-use Rattle.afs_model.specs.Calls.{call_seated}
-use Rattle.afs_rows.specs.Callbacks.{fids_found, gives_up_all, grants_found}
-use Rattle.afs_rows.specs.ServerRow.{granted, keeps, read_reply_to, seat_for}
+use Rattle.spec_history.specs.declared.lines.Line.{Line}
+use Rattle.spec_breaks.specs.Promises.{expired, grants_all}
+use Rattle.spec_model.specs.Calls.{call_seated}
+use Rattle.spec_rows.specs.Callbacks.{fids_found, gives_up_all, grants_found}
+use Rattle.spec_rows.specs.ServerRow.{granted, keeps, read_reply_to, seat_for}
 use Rattle.afs_server_parts.specs.Ending.{IsPlan}
 use Rattle.afs_callees.specs.Telling.{grant_line}
 use Rattle.afs_callees.specs.declared.telling.Grant.{Grant}

@@ -1,6 +1,6 @@
 use Rattle.std.proofs.Common.{◌≡◌, length}
-use Rattle.afs_ideal.specs.Operations.{the_user}
-use Rattle.afs_volrows.specs.FileRow.{file_sights}
+use Rattle.spec_ideal.specs.Operations.{the_user}
+use Rattle.spec_volrows.specs.FileRow.{file_sights}
 use Rattle.afs_server.specs.Handling.{holds_seen, server_seen}
 use Rattle.afs_decisions.proofs.Sights.{told_can_be_told, told_decides, told_fits}
 use Rattle.afs_sharing.specs.Lasting.{lasting_of}

@@ -1,7 +1,7 @@
 use Rattle.std.proofs.Common.{◌≡◌, refl, subst}
-use Rattle.afs_model.specs.Messages.{received_by}
+use Rattle.spec_model.specs.Messages.{received_by}
 use Rattle.afs_num.specs.declared.messages.Received.{Received}
-use Rattle.afs_volrows.specs.FileRow.{file_decides}
+use Rattle.spec_volrows.specs.FileRow.{file_decides}
 use Rattle.afs_server.specs.Handling.{calls_served, decided_then, holds_seen, server_seen, turned_then}
 use Rattle.afs_server.specs.Putting.{Took}
 use Rattle.afs_saving.proofs.Still.{out_of_memory}

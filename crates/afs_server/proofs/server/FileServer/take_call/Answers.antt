@@ -1,5 +1,5 @@
 use Rattle.std.proofs.Common.{refl}
-use Rattle.afs_volrows.specs.FileRow.{file_called}
+use Rattle.spec_volrows.specs.FileRow.{file_called}
 use Rattle.afs_server.specs.Handling.{holds_seen, server_seen, turn_then}
 use Rattle.afs_saving.proofs.Still.{out_of_memory}
 use Rattle.afs_server.proofs.Taken.{wants_took}

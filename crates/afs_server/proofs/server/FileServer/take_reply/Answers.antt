@@ -1,7 +1,7 @@
 use Rattle.std.proofs.Common.{refl}
-use Rattle.afs_rows.specs.Callbacks as row
+use Rattle.spec_rows.specs.Callbacks as row
 use Rattle.afs_server.specs.Hearing.{answered_turn}
-use Rattle.afs_rows.specs.ServerRow.{drops}
+use Rattle.spec_rows.specs.ServerRow.{drops}
 use Rattle.afs_server.specs.Seen.{backs_seen}
 use Rattle.afs_saving.proofs.Still.{out_of_memory}
 use Rattle.afs_server.proofs.Taken.{made_took, wants_took}

@@ -1,6 +1,6 @@
 use Rattle.std.proofs.Common.{◌≤◌, [], refl, subst}
-use Rattle.afs_rows.specs.Callbacks as row
-use Rattle.afs_rows.specs.ServerRow.{boot_told}
+use Rattle.spec_rows.specs.Callbacks as row
+use Rattle.spec_rows.specs.ServerRow.{boot_told}
 use Rattle.afs_server_parts.specs.Ending.{IsPlanOf}
 use Rattle.afs_server_parts.specs.declared.turns.Stand.{Stand}
 use Rattle.afs_server_parts.specs.Turning.{sent_turn}

@@ -1,8 +1,8 @@
 use Rattle.std.proofs.Common.{◌≡◌, ◌≤◌, refl, ap, sym, subst, ◌∙◌}
 use Rattle.std.specs.List.{All}
-use Rattle.afs_breaks.specs.Promises.{expired, Lists}
-use Rattle.afs_rows.specs.Callbacks as row
-use Rattle.afs_rows.specs.Callbacks.{timed}
+use Rattle.spec_breaks.specs.Promises.{expired, Lists}
+use Rattle.spec_rows.specs.Callbacks as row
+use Rattle.spec_rows.specs.Callbacks.{call_timed_out}
 use Rattle.afs_server_parts.specs.Ending.{IsPlanOf}
 use Rattle.afs_server_parts.specs.declared.turns.Stand.{Stand}
 use Rattle.afs_callbacks.specs.States.{backs_by, CallbackState, IsPromiseToNode}
@@ -28,12 +28,12 @@ returns g c =
     let e = c.in_ok-ended.ended in
     let call = c.args.call.now in
     let lasting = expired c.args.now old.lists in
-    let turn = timed store.node store.durable.boot c.args.callee call (row.expired c.args.now (backs_seen old store.drawn)) in
+    let turn = call_timed_out store.node store.durable.boot c.args.callee call (row.expired c.args.now (backs_seen old store.drawn)) in
     let lists : lists_timed call lasting ≡ turn.backs.lists = sym (timed_lists store.node store.durable.boot c.args.callee call (row.expired c.args.now (backs_seen old store.drawn))) in
     let left : c.time_out.new.self.lists ≡ lists_timed call lasting = ap (λ (k : CallbackState). k.lists) c.time_out.ensures ∙ ap (λ (m : Memory). lists_timed call (expired c.args.now m.lists)) c.self.view_is in
     let memory = remembered _ old c.keep-outs.new.self c.time_out.new.self.lists turn.backs.lists e c.self.view_is (left ∙ lists) c.keep-outs.ensures.server in
     let plan : IsPlanOf (stand_of store) turn e =
-    as_planned (λ (s : Stand) (k : CallbackState). IsPlanOf s (timed s.node s.boot c.args.callee call (backs_by k s c.args.now)) e) store old c.stand.result c.callbacks.result.now c.stand.ensures c.callbacks.ensures c.in_ok-ended.ensures in
+    as_planned (λ (s : Stand) (k : CallbackState). IsPlanOf s (call_timed_out s.node s.boot c.args.callee call (backs_by k s c.args.now)) e) store old c.stand.result c.callbacks.result.now c.stand.ensures c.callbacks.ensures c.in_ok-ended.ensures in
     steps (server_seen old store) turn.lines turn old c.keep-outs.new.self store c.keep-outs.new.store e c.keep-outs.result
     refl memory c.keep-outs.ensures.store c.keep-outs.ensures.outs plan c.requires.serves
     (subst (λ (l : Lists). All IsPromiseToNode l.promises) lists (timed_promised call lasting (lasting_promised c.args.now old.lists.promises c.requires.serves.promises)))

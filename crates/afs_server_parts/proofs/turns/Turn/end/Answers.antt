@@ -1,8 +1,8 @@
 use Rattle.std.proofs.Common.{arith, ap, subst, sym, ◌∙◌}
 use Rattle.std.specs.List.{All}
-use Rattle.afs_model.specs.Messages.{messages_spelled}
-use Rattle.afs_rows.specs.Callbacks as row
-use Rattle.afs_rows.specs.Callbacks.{pumped, Started}
+use Rattle.spec_model.specs.Messages.{messages_spelled}
+use Rattle.spec_rows.specs.Callbacks as row
+use Rattle.spec_rows.specs.Callbacks.{pumped, Started}
 use Rattle.afs_server_parts.specs.Turning.{IsBreakToNode}
 use Rattle.afs_server_parts.proofs.turns.Turn.end.Goals as goal
 
@@ -16,7 +16,7 @@ returns c t is =
         backs = ap (λ (s : Started). s.backs) all;
         sent = c.into_parcels.ensures ∙ ap (λ (s : Started). messages_spelled s.sent) all;
       };
-      lines = c.in_ok-pump.ensures.lines ∙ ap (λ (x : row.Turn). x.lines) is.same;
+      lines = c.in_ok-pump.ensures.lines ∙ ap (λ (x : row.CallbackStep). x.lines) is.same;
       drawn = omega (arith, ready, more);
       owed = subst (All IsBreakToNode) (sym is.owed) c.requires.owed;
       calls = c.in_ok-pump.ensures.good;

@@ -1,8 +1,8 @@
 use Rattle.std.proofs.Common.{◌≡◌, None, List, ◌∷◌, map, rules, refl, sym, ap, ◌∙◌}
 use Rattle.std.specs.Prelude.{filter}
-use Rattle.afs_breaks.specs.Promises.{has_break}
-use Rattle.afs_breaks.specs.declared.types.OwedBreak.{OwedBreak}
-use Rattle.afs_rows.specs.Callbacks.{ends_all, quit_line, timeout_line}
+use Rattle.spec_breaks.specs.Promises.{has_break}
+use Rattle.spec_breaks.specs.declared.types.OwedBreak.{OwedBreak}
+use Rattle.spec_rows.specs.Callbacks.{ends_all, quit_line, timeout_line}
 use Rattle.afs_callees.proofs.Calls.{good_put}
 use Rattle.afs_server_parts.proofs.Turning.{ends_owed, turn_is}
 use Rattle.afs_server_parts.proofs.turns.Turn.quit.Goals as goal

@@ -1,7 +1,7 @@
 use Rattle.std.proofs.Common.{◌≡◌, ◌++◌, not, rules, refl}
 use Rattle.std.specs.Prelude.{filter}
-use Rattle.afs_rows.specs.Callbacks.{is_ready, replies_of}
-use Rattle.afs_rows.specs.States.{Held}
+use Rattle.spec_rows.specs.Callbacks.{is_ready, replies_of}
+use Rattle.spec_rows.specs.States.{Held}
 use Rattle.afs_callees.specs.Called.{call_to, known_to}
 use Rattle.afs_server_parts.proofs.Turning.{released}
 use Rattle.afs_server_parts.proofs.turns.Turn.release.Goals as goal

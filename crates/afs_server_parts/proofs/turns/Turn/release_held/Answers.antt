@@ -1,8 +1,8 @@
 use Rattle.std.proofs.Common.{◌≡◌, ◌++◌, List, false, rules, sym, ap, ◌∙◌}
 use Rattle.std.specs.List.{list_any}
 use Rattle.std.proofs.lemmas.List.{append-nil}
-use Rattle.afs_rows.specs.Callbacks.{is_ready, replies_of}
-use Rattle.afs_rows.specs.States.{Held}
+use Rattle.spec_rows.specs.Callbacks.{is_ready, replies_of}
+use Rattle.spec_rows.specs.States.{Held}
 use Rattle.afs_server_parts.proofs.Released.{all_wait, none_sent}
 use Rattle.afs_server_parts.proofs.turns.Turn.release_held.Goals as goal
 

@@ -1,5 +1,5 @@
 use Rattle.std.proofs.Common.{sym, ◌∙◌}
-use Rattle.afs_rows.specs.Callbacks.{held_under, key_answered}
+use Rattle.spec_rows.specs.Callbacks.{held_under, key_answered}
 use Rattle.afs_server_parts.specs.Turning.{backs_with}
 use Rattle.afs_server_parts.proofs.Turning.{asks_again}
 use Rattle.afs_server_parts.proofs.turns.Turn.repeat.Goals as goal

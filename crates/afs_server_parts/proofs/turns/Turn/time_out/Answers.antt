@@ -1,6 +1,6 @@
 use Rattle.std.proofs.Common.{ap, sym, ◌∙◌}
-use Rattle.afs_model.specs.Calls.{is_sent_again}
-use Rattle.afs_rows.specs.States.{BackCall}
+use Rattle.spec_model.specs.Calls.{is_sent_again}
+use Rattle.spec_rows.specs.States.{BackCall}
 use Rattle.afs_server_parts.specs.Turning.{backs_with}
 use Rattle.afs_server_parts.proofs.Turning.{timed_first, timed_last}
 use Rattle.afs_server_parts.proofs.turns.Turn.time_out.Goals as goal

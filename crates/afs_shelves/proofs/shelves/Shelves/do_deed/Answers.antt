@@ -1,8 +1,8 @@
 use Rattle.std.proofs.Common.{◌∙◌, ap, subst}
 use Rattle.afs_num.specs.declared.types.Node.{Node}
-use Rattle.afs_ideal.specs.Tables.{Table}
-use Rattle.afs_fold.specs.Deeds.{done_by, flagged}
-use Rattle.afs_records.specs.Durable.{nothing_on}
+use Rattle.spec_ideal.specs.Tables.{Table}
+use Rattle.spec_fold.specs.Deeds.{done_by, flagged}
+use Rattle.spec_records.specs.Durable.{nothing_on}
 use Rattle.afs_seats.specs.Seated.{Seated}
 use Rattle.afs_shelves.specs.Deeds.{deed_body, SuitsDeed}
 use Rattle.afs_shelves.specs.Shelving.{kept_on, with_shelves}

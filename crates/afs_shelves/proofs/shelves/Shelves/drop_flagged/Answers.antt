@@ -1,6 +1,6 @@
 use Rattle.std.proofs.Common.{◌∙◌, ap, filter, not, subst, sym}
-use Rattle.afs_ideal.specs.Tables.{Table}
-use Rattle.afs_records.specs.Durable.{is_flagged}
+use Rattle.spec_ideal.specs.Tables.{Table}
+use Rattle.spec_records.specs.Durable.{is_flagged}
 use Rattle.afs_seats.specs.Seated.{Seated}
 use Rattle.afs_shelves.specs.Numbered.{shelf_number, AreShelved}
 use Rattle.afs_shelves.specs.Shelving.{shelved}

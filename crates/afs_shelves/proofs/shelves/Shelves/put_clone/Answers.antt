@@ -1,7 +1,7 @@
 use Rattle.std.proofs.Common.{◌∙◌, Bool, ap, sym}
-use Rattle.afs_ideal.specs.Tables.{Table, set, unset}
+use Rattle.spec_ideal.specs.Tables.{Table, set, unset}
 use Rattle.afs_num.specs.declared.types.Node.{Node}
-use Rattle.afs_records.specs.Durable.{nothing_on}
+use Rattle.spec_records.specs.Durable.{nothing_on}
 use Rattle.afs_seats.specs.Seated.{Seated}
 use Rattle.afs_shelves.specs.declared.shelf.Shelf.{Shelf}
 use Rattle.afs_shelves.specs.declared.shelves.Shelves.{Shelves}

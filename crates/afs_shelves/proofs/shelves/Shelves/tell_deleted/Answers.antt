@@ -1,6 +1,6 @@
 use Rattle.std.proofs.Common.{◌∙◌, ◌++◌, ℕ, ap}
-use Rattle.afs_ideal.specs.Tables.{get}
-use Rattle.afs_fold.specs.Effects.{vanish_lines}
+use Rattle.spec_ideal.specs.Tables.{get}
+use Rattle.spec_fold.specs.Effects.{vanish_lines}
 use Rattle.afs_shelves.specs.Shelving.{kept_on, shelved}
 use Rattle.afs_shelves.proofs.Lists.{on_ok}
 use Rattle.afs_shelves.proofs.Told.{lines_there}

@@ -1,6 +1,6 @@
 use Rattle.std.proofs.Common.{◌∙◌, ◌++◌, [], ℕ, ap, sym, refl, if◌then◌else◌}
-use Rattle.afs_fold.specs.Effects.{vanish_lines}
-use Rattle.afs_records.specs.Durable.{is_flagged}
+use Rattle.spec_fold.specs.Effects.{vanish_lines}
+use Rattle.spec_records.specs.Durable.{is_flagged}
 use Rattle.afs_shelves.specs.Numbered.{shelf_number}
 use Rattle.afs_shelves.specs.Shelving.{shelved}
 use Rattle.afs_shelves.proofs.Lists.{on_ok}

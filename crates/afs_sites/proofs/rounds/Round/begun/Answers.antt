@@ -1,9 +1,9 @@
 use Rattle.std.proofs.Common.{sym, subst, ◌∙◌, ap, ℕ, List, map, filter}
 use Rattle.std.specs.List.{AllByRecursion}
 use Rattle.afs_num.specs.declared.location_calls.LocSite.{LocSite}
-use Rattle.afs_adminrows.specs.Entries.{is_read_only_site}
-use Rattle.afs_adminrows.specs.Releasing.{server_of}
-use Rattle.afs_shape.specs.Tables.{IsServer}
+use Rattle.spec_adminrows.specs.Entries.{is_read_only_site}
+use Rattle.spec_adminrows.specs.Releasing.{server_of}
+use Rattle.spec_shape.specs.Tables.{IsServer}
 use Rattle.afs_sites.proofs.Servers.{servers_are}
 use Rattle.afs_sites.proofs.rounds.Round.begun.Goals as goal
 

@@ -1,6 +1,6 @@
 use Rattle.std.proofs.Common.{sym, subst}
 use Rattle.std.specs.List.{AllByRecursion}
-use Rattle.afs_shape.specs.Tables.{IsServer}
+use Rattle.spec_shape.specs.Tables.{IsServer}
 use Rattle.afs_sites.proofs.Servers.{servers_behind}
 use Rattle.afs_sites.proofs.rounds.Round.leave.Goals as goal
 

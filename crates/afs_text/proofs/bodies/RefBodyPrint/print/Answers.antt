@@ -1,4 +1,4 @@
-use Rattle.afs_model.specs.LineText.{body_text}
+use Rattle.spec_model.specs.LineText.{body_text}
 use Rattle.afs_text.proofs.Laid.{lays_put, lays_put_stop}
 use Rattle.afs_text.proofs.bodies.RefBodyPrint.print.Goals as goal
 

@@ -1,4 +1,4 @@
-use Rattle.afs_model.specs.LineText.{hex_text}
+use Rattle.spec_model.specs.LineText.{hex_text}
 use Rattle.afs_text.proofs.Laid.{lays_put, lays_put_stop}
 use Rattle.afs_text.proofs.bytes.HexPrint.print.Goals as goal
 

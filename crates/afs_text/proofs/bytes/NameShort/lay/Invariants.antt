@@ -1,6 +1,6 @@
 use Rattle.std.proofs.Common.{◌≡◌, ◌≤◌, ◌*◌, length, take}
 use Rattle.std.specs.List.{flat_map}
-use Rattle.afs_model.specs.LineText.{name_byte}
+use Rattle.spec_model.specs.LineText.{name_byte}
 use Rattle.afs_text.specs.Laying.{LaysAt}
 use Rattle.afs_text.proofs.bytes.NameShort.lay.Given as goal
 

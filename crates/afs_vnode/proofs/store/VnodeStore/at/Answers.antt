@@ -1,5 +1,5 @@
 use Rattle.std.proofs.Common.{slice_get}
-use Rattle.afs_ideal.specs.VnodeImage.{FitsImage}
+use Rattle.spec_ideal.specs.VnodeImage.{FitsImage}
 use Rattle.afs_vnode.proofs.Places.{if_pointed, fit_nth}
 use Rattle.afs_vnode.proofs.store.VnodeStore.at.Goals as goal
 

@@ -1,6 +1,6 @@
 use Rattle.std.proofs.Common.{◌≡◌}
-use Rattle.afs_ideal.specs.Tables.{get}
-use Rattle.afs_ideal.specs.VnodeImage.{FitsImage}
+use Rattle.spec_ideal.specs.Tables.{get}
+use Rattle.spec_ideal.specs.VnodeImage.{FitsImage}
 use Rattle.afs_vnode.specs.Stores.{table_of}
 use Rattle.afs_vnode.proofs.Places.{if_pointed, fit_get, number_of}
 use Rattle.afs_vnode.proofs.store.VnodeStore.get.Goals as goal

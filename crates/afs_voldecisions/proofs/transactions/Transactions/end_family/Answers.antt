@@ -1,9 +1,9 @@
 use Rattle.std.proofs.Common.{rules, ℕ, sym, subst, ap, ◌∙◌}
 use Rattle.std.proofs.lemmas.Fn.{filter_same}
-use Rattle.afs_ideal.specs.Tables.{Table, AscendsFrom}
+use Rattle.spec_ideal.specs.Tables.{Table, AscendsFrom}
 use Rattle.afs_seats.proofs.Places.{filter_ascends}
-use Rattle.afs_volrows.specs.VolRow.{is_of_other, without_family}
-use Rattle.afs_volrows.specs.VolStates.{Transaction}
+use Rattle.spec_volrows.specs.VolRow.{is_of_other, without_family}
+use Rattle.spec_volrows.specs.VolStates.{Transaction}
 use Rattle.afs_voldecisions.specs.Numbering.{Numbered}
 use Rattle.afs_voldecisions.proofs.transactions.Transactions.end_family.Goals as goal
 

@@ -1,12 +1,12 @@
 use Rattle.std.proofs.Common.{◌≡◌, ◌≤◌, ◌+◌, ◌∷◌, [], ℕ, length, ap, sym, subst, ◌∙◌}
 use Rattle.afs_num.specs.declared.messages.Message.{Message}
-use Rattle.afs_ideal.specs.Tables.{Table}
-use Rattle.afs_model.specs.Calls.{call_seated}
-use Rattle.afs_rows.specs.ServerRow.{seat_for}
+use Rattle.spec_ideal.specs.Tables.{Table}
+use Rattle.spec_model.specs.Calls.{call_seated}
+use Rattle.spec_rows.specs.ServerRow.{seat_for}
 use Rattle.afs_voldecisions.specs.Replies.{answer_message}
 use Rattle.afs_voldecisions.specs.Verdicts.{after_of}
-use Rattle.afs_volrows.specs.VolRow.{holds_of, last_after, transactions_after}
-use Rattle.afs_volrows.specs.VolStates.{Transaction}
+use Rattle.spec_volrows.specs.VolRow.{holds_of, last_after, transactions_after}
+use Rattle.spec_volrows.specs.VolStates.{Transaction}
 use Rattle.afs_volanswers.specs.Flagged.{AreFlagged}
 use Rattle.afs_volserv.specs.Sending.{IsSent}
 use Rattle.afs_volserv.proofs.Stepping.{alone_of, answer_step, few_after}

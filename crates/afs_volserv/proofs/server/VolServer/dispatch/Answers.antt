@@ -1,15 +1,14 @@
 use Rattle.std.proofs.Common.{List, sym, ap, subst, ◌∙◌}
 use Rattle.afs_num.specs.declared.types.Key.{Key}
 use Rattle.afs_num.specs.declared.types.Node.TheVariants.{Server}
-use Rattle.afs_history.specs.declared.lines.Line.{Line}
-use Rattle.afs_model.specs.Calls.{started}
-use Rattle.afs_rows.specs.ServerRow.{key_of}
+use Rattle.spec_history.specs.declared.lines.Line.{Line}
+use Rattle.spec_model.specs.Calls.{started, key_of}
 use Rattle.afs_callees.specs.Called.{call_to, known_to}
 use Rattle.afs_sendings.proofs.Ways as ways
 use Rattle.afs_sendings.proofs.Ways.{turned_by}
 use Rattle.afs_sendings.specs.Pieces.{adds}
 use Rattle.afs_voldecisions.specs.Verdicts.{dispatch_of}
-use Rattle.afs_volrows.specs.VolSteps.{sending_of, VolTurn}
+use Rattle.spec_volrows.specs.VolSteps.{sending_of, VolTurn}
 use Rattle.afs_volserv.specs.Handling.{backs_then, IsStep}
 use Rattle.afs_volserv.specs.Seen.{vol_seen}
 use Rattle.afs_volserv.specs.Sending.{way_before}

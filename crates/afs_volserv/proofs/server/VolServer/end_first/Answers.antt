@@ -1,14 +1,13 @@
 use Rattle.std.proofs.Common.{◌≡◌, refl, sym, ap, subst, to_z-of_z, ◌∙◌}
 use Rattle.std.specs.Prelude.{ℤ}
 use Rattle.afs_num.specs.declared.messages.Message.{Message}
-use Rattle.afs_model.specs.Calls.{finished}
-use Rattle.afs_rows.specs.ServerRow.{key_of}
+use Rattle.spec_model.specs.Calls.{finished, key_of}
 use Rattle.afs_callees.specs.Called.{call_to, known_to}
 use Rattle.afs_sendings.proofs.Ways as ways
 use Rattle.afs_sendings.proofs.Ways.{turned_by}
 use Rattle.afs_sendings.specs.Pieces.{ends, sends}
 use Rattle.afs_sendings.specs.Sendings.{rest_of}
-use Rattle.afs_volrows.specs.VolSteps.{forward_reply, VolTurn}
+use Rattle.spec_volrows.specs.VolSteps.{forward_reply, VolTurn}
 use Rattle.afs_volserv.specs.Handling.{backs_then, IsStep}
 use Rattle.afs_volserv.specs.Seen.{vol_seen}
 use Rattle.afs_volserv.specs.Sending.{way_before}

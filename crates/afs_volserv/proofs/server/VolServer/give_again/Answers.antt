@@ -1,6 +1,6 @@
 use Rattle.std.proofs.Common.{sym, subst}
 use Rattle.std.specs.declared.alloc.AllocError.{AllocError}
-use Rattle.afs_volrows.specs.VolSteps.{VolTurn}
+use Rattle.spec_volrows.specs.VolSteps.{VolTurn}
 use Rattle.afs_volserv.specs.Handling.{StepsVolumes}
 use Rattle.afs_volserv.proofs.Stepping.{again_none, again_some}
 use Rattle.afs_volserv.proofs.server.VolServer.give_again.Goals as goal

@@ -1,9 +1,9 @@
 use Rattle.std.proofs.Common.{◌∷◌, List, [], ap, subst, ◌∙◌}
-use Rattle.afs_history.specs.declared.lines.Line.{Line}
-use Rattle.afs_rows.specs.Callbacks.{timeout_line}
+use Rattle.spec_history.specs.declared.lines.Line.{Line}
+use Rattle.spec_rows.specs.Callbacks.{timeout_line}
 use Rattle.afs_sendings.specs.Pieces.{Piece}
 use Rattle.afs_sendings.specs.Sendings.{rest_of}
-use Rattle.afs_volrows.specs.VolSteps.{given_up, VolTurn}
+use Rattle.spec_volrows.specs.VolSteps.{given_up, VolTurn}
 use Rattle.afs_volserv.specs.Handling.{IsStep}
 use Rattle.afs_volserv.specs.Sending.{ended_then}
 use Rattle.afs_volserv.proofs.Moving.{timed_last}

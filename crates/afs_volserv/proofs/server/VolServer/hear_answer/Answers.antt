@@ -2,7 +2,7 @@ use Rattle.std.proofs.Common.{ap, sym, subst, to_z-of_z, ◌∙◌}
 use Rattle.std.specs.Prelude.{ℤ}
 use Rattle.std.specs.declared.alloc.AllocError.{AllocError}
 use Rattle.afs_callees.specs.Called.{call_to}
-use Rattle.afs_volrows.specs.VolSteps.{VolTurn}
+use Rattle.spec_volrows.specs.VolSteps.{VolTurn}
 use Rattle.afs_volserv.specs.Handling.{StepsVolumes}
 use Rattle.afs_volserv.specs.Sending.{answered_then}
 use Rattle.afs_volserv.proofs.Moving.{answer_heard, answer_unheard, heard_is}

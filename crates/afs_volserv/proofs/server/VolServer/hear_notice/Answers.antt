@@ -1,7 +1,7 @@
 use Rattle.std.proofs.Common.{sym, subst, ◌∙◌}
 use Rattle.std.specs.declared.alloc.AllocError.{AllocError}
 use Rattle.afs_callees.specs.Called.{call_to}
-use Rattle.afs_volrows.specs.VolSteps.{VolTurn}
+use Rattle.spec_volrows.specs.VolSteps.{VolTurn}
 use Rattle.afs_volserv.specs.Handling.{StepsVolumes}
 use Rattle.afs_volserv.proofs.Moving.{heard_is, notice_heard, notice_unheard}
 use Rattle.afs_volserv.proofs.server.VolServer.hear_notice.Goals as goal

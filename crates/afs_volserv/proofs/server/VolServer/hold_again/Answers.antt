@@ -1,8 +1,8 @@
 use Rattle.std.proofs.Common.{◌<◌, ◌+◌, ◌∷◌, [], true, List, length, arith, ap, sym, subst}
 use Rattle.std.specs.Prelude.{min}
 use Rattle.std.proofs.lemmas.List.{length-append}
-use Rattle.afs_rows.specs.States.{Held}
-use Rattle.afs_volrows.specs.VolSteps.{held_vol}
+use Rattle.spec_rows.specs.States.{Held}
+use Rattle.spec_volrows.specs.VolSteps.{held_vol}
 use Rattle.afs_volserv.specs.Seen.{VolMemory}
 use Rattle.afs_volserv.proofs.Held.{below_both, over_both}
 use Rattle.afs_volserv.proofs.server.VolServer.hold_again.Goals as goal

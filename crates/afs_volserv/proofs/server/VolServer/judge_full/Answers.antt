@@ -1,5 +1,5 @@
 use Rattle.std.proofs.Common.{◌≡◌, subst}
-use Rattle.afs_volrows.specs.VolRow.{verdict}
+use Rattle.spec_volrows.specs.VolRow.{verdict}
 use Rattle.afs_voldecisions.specs.Verdicts.{verdict_of}
 use Rattle.afs_volserv.specs.Seen.{durable_seen, VolMemory}
 use Rattle.afs_volanswers.proofs.Judged.{coded, full_becomes, known}

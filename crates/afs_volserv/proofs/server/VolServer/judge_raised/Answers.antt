@@ -1,6 +1,6 @@
 use Rattle.std.proofs.Common.{◌≡◌, ℕ, sym, subst}
-use Rattle.afs_volrows.specs.VolRow.{verdict, without_family}
-use Rattle.afs_volrows.proofs.VolApart.{rest_apart}
+use Rattle.spec_volrows.specs.VolRow.{verdict, without_family}
+use Rattle.spec_volrows.proofs.VolApart.{rest_apart}
 use Rattle.afs_voldecisions.specs.Numbering.{Numbered}
 use Rattle.afs_voldecisions.specs.Verdicts.{verdict_of, CanTell}
 use Rattle.afs_volanswers.specs.Deciding.{raised_decided, CanBeDone}

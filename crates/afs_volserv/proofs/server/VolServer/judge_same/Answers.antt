@@ -1,6 +1,6 @@
 use Rattle.std.proofs.Common.{◌≡◌, ℕ, sym, subst}
 use Rattle.std.specs.Prelude.{IfOk}
-use Rattle.afs_volrows.specs.VolRow.{verdict}
+use Rattle.spec_volrows.specs.VolRow.{verdict}
 use Rattle.afs_voldecisions.specs.Verdicts.{verdict_of, CanTell}
 use Rattle.afs_volanswers.specs.Deciding.{same_decided, CanBeDone}
 use Rattle.afs_volserv.specs.Seen.{durable_seen, vol_seen, VolMemory}

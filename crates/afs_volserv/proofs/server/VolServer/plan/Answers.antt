@@ -1,10 +1,10 @@
 use Rattle.std.proofs.Common.{◌≡◌, ◌++◌, ◌∙◌, ℕ, List, [], false, ap, sym, subst}
 use Rattle.afs_num.specs.declared.messages.Message.{Message}
-use Rattle.afs_breaks.specs.Promises.{lasting_breaks}
-use Rattle.afs_breaks.specs.declared.types.OwedBreak.{OwedBreak}
-use Rattle.afs_model.specs.Messages.{spelled}
-use Rattle.afs_records.specs.Changes.{keeping}
-use Rattle.afs_rows.specs.ServerRow.{key_of}
+use Rattle.spec_breaks.specs.Promises.{lasting_breaks}
+use Rattle.spec_breaks.specs.declared.types.OwedBreak.{OwedBreak}
+use Rattle.spec_model.specs.Messages.{spelled}
+use Rattle.spec_records.specs.Changes.{keeping}
+use Rattle.spec_model.specs.Calls.{key_of}
 use Rattle.afs_callbacks.specs.Answering.{with_lists}
 use Rattle.afs_callbacks.specs.States.{backs_at}
 use Rattle.afs_server_parts.specs.declared.turns.Stand.{Stand}

@@ -1,11 +1,11 @@
 use Rattle.std.proofs.Common.{◌≡◌, ◌<◌, ◌+◌, ◌++◌, ◌∙◌, length, Some, None, ap, sym, subst}
 use Rattle.std.specs.Prelude.{Result, Ok}
-use Rattle.afs_history.specs.declared.lines.Outs.{Outs}
-use Rattle.afs_breaks.specs.Promises.{expired}
-use Rattle.afs_model.specs.Calls.{call_seated}
-use Rattle.afs_records.specs.Durable.{Durable}
-use Rattle.afs_volrows.specs.VolRow.{holds_of}
-use Rattle.afs_volrows.specs.VolSteps.{withdraws_from}
+use Rattle.spec_history.specs.declared.lines.Outs.{Outs}
+use Rattle.spec_breaks.specs.Promises.{expired}
+use Rattle.spec_model.specs.Calls.{call_seated}
+use Rattle.spec_records.specs.Durable.{Durable}
+use Rattle.spec_volrows.specs.VolRow.{holds_of}
+use Rattle.spec_volrows.specs.VolSteps.{withdraws_from}
 use Rattle.afs_callbacks.specs.States.{CallbackState}
 use Rattle.afs_server_parts.specs.declared.faults.NodeFault.{NodeFault}
 use Rattle.afs_saving.proofs.Still.{handed_up, with_fault, with_value}

@@ -1,9 +1,9 @@
 use Rattle.std.proofs.Common.{◌≡◌, Some, rules, List, ap, subst, arith, ◌∙◌}
-use Rattle.afs_history.specs.declared.lines.Line.{Line}
+use Rattle.spec_history.specs.declared.lines.Line.{Line}
 use Rattle.afs_sendings.proofs.Ways.{turned_by}
 use Rattle.afs_sendings.specs.Pieces.{renews}
 use Rattle.afs_sendings.specs.Sendings.{first_of}
-use Rattle.afs_volrows.specs.VolSteps.{VolTurn}
+use Rattle.spec_volrows.specs.VolSteps.{VolTurn}
 use Rattle.afs_volserv.specs.Handling.{backs_then, IsStep}
 use Rattle.afs_volserv.specs.Seen.{vol_seen}
 use Rattle.afs_volserv.specs.Sending.{way_before}

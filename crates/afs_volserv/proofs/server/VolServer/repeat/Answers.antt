@@ -1,8 +1,8 @@
 use Rattle.std.proofs.Common.{sym, subst, ◌∙◌}
 use Rattle.std.specs.declared.alloc.AllocError.{AllocError}
-use Rattle.afs_model.specs.Calls.{call_seat}
-use Rattle.afs_rows.specs.Callbacks.{held_under, is_seat_of, key_answered}
-use Rattle.afs_volrows.specs.VolSteps.{VolTurn}
+use Rattle.spec_model.specs.Calls.{call_seat}
+use Rattle.spec_rows.specs.Callbacks.{held_under, is_seat_of, key_answered}
+use Rattle.spec_volrows.specs.VolSteps.{VolTurn}
 use Rattle.afs_volserv.specs.Handling.{StepsVolumes}
 use Rattle.afs_volserv.proofs.Stepping.{repeats_none, repeats_some}
 use Rattle.afs_sharing.specs.Lasting.{lasting_of}

@@ -1,10 +1,10 @@
 use Rattle.std.proofs.Common.{◌+◌, ℕ, Some, List, [], ◌∷◌, ap, subst, arith, ◌∙◌}
-use Rattle.afs_history.specs.declared.lines.Line.{Line}
-use Rattle.afs_rows.specs.Callbacks.{timeout_line}
+use Rattle.spec_history.specs.declared.lines.Line.{Line}
+use Rattle.spec_rows.specs.Callbacks.{timeout_line}
 use Rattle.afs_callees.specs.Called.{call_to}
 use Rattle.afs_sendings.proofs.Ways.{turned_by}
 use Rattle.afs_sendings.specs.Pieces.{retries, Piece}
-use Rattle.afs_volrows.specs.VolSteps.{VolTurn}
+use Rattle.spec_volrows.specs.VolSteps.{VolTurn}
 use Rattle.afs_volserv.specs.Handling.{backs_then, IsStep}
 use Rattle.afs_volserv.specs.Seen.{vol_seen}
 use Rattle.afs_volserv.specs.Sending.{way_before}

@@ -1,6 +1,6 @@
 use Rattle.std.proofs.Common.{refl}
 use Rattle.afs_saving.proofs.Still.{out_of_memory}
-use Rattle.afs_volrows.specs.VolSteps.{written}
+use Rattle.spec_volrows.specs.VolSteps.{written}
 use Rattle.afs_volserv.proofs.Taken.{wants_took}
 use Rattle.afs_volserv.proofs.Written.{can_put, planned_taken, same_prepared, serves_still, took, wanting}
 use Rattle.afs_volanswers.specs.Deciding.{deed_of, full_for}

@@ -1,6 +1,6 @@
 use Rattle.std.proofs.Common.{◌≡◌, Some, sym, ap, subst, ◌∙◌}
 use Rattle.std.specs.Option.{option_copied}
-use Rattle.afs_volrows.specs.VolSteps.{written, VolDecision}
+use Rattle.spec_volrows.specs.VolSteps.{written, VolDecision}
 use Rattle.afs_volanswers.specs.Deciding.{call_in, decision_of, deed_of, full_then}
 use Rattle.afs_volserv.specs.Handling.{vol_turn_then, TookVolumes}
 use Rattle.afs_volserv.specs.Seen.{durable_seen, vol_seen}

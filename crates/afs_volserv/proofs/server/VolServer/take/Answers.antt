@@ -1,4 +1,4 @@
-use Rattle.afs_volrows.specs.VolSteps.{VolDecision, VolTurn}
+use Rattle.spec_volrows.specs.VolSteps.{VolDecision, VolTurn}
 use Rattle.afs_volserv.specs.Handling.{backs_then, TookVolumes}
 use Rattle.afs_volserv.specs.Seen.{durable_seen, vol_seen}
 use Rattle.afs_volserv.proofs.Taken.{in_unreadable, in_unserved}

@@ -3,7 +3,7 @@ use Rattle.std.specs.Prelude.{ℤ}
 use Rattle.std.specs.declared.alloc.AllocError.{AllocError}
 use Rattle.afs_sendings.specs.Pieces.{ends_with}
 use Rattle.afs_sendings.specs.Sendings.{first_of, rest_of}
-use Rattle.afs_volrows.specs.VolSteps.{VolTurn}
+use Rattle.spec_volrows.specs.VolSteps.{VolTurn}
 use Rattle.afs_volserv.specs.Handling.{StepsVolumes}
 use Rattle.afs_volserv.specs.Sending.{ended_then}
 use Rattle.afs_volserv.proofs.Moving.{answered_last, answered_more}

@@ -1,6 +1,6 @@
 use Rattle.std.proofs.Common.{refl, subst}
 use Rattle.afs_saving.proofs.Still.{out_of_memory}
-use Rattle.afs_volrows.specs.VolSteps.{vol_called, VolDecision}
+use Rattle.spec_volrows.specs.VolSteps.{vol_called, VolDecision}
 use Rattle.afs_volserv.specs.Handling.{vol_turn_then, TookVolumes}
 use Rattle.afs_volserv.specs.Seen.{durable_seen, vol_seen}
 use Rattle.afs_volserv.proofs.Taken.{wants_took}

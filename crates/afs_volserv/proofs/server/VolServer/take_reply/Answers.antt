@@ -1,6 +1,6 @@
 use Rattle.std.proofs.Common.{ℤ, refl, subst, to_z-of_z}
 use Rattle.afs_saving.proofs.Still.{out_of_memory}
-use Rattle.afs_volrows.specs.VolSteps.{drops}
+use Rattle.spec_volrows.specs.VolSteps.{drops}
 use Rattle.afs_volserv.specs.Handling.{vol_answered_then, IsStep}
 use Rattle.afs_volserv.proofs.Taken.{steps_took, wants_took}
 use Rattle.afs_volserv.proofs.server.VolServer.take_reply.Goals as goal

@@ -1,6 +1,6 @@
 use Rattle.std.proofs.Common.{ℤ, rules, subst, to_z-of_z, SFits, w32, ◌∙◌}
 use Rattle.afs_num.specs.declared.messages.Carried.TheVariants as carried
-use Rattle.afs_volrows.specs.VolSteps.{drops, VolDecision, VolTurn}
+use Rattle.spec_volrows.specs.VolSteps.{drops, VolDecision, VolTurn}
 use Rattle.afs_volserv.specs.Handling.{backs_then, vol_answered_then, TookVolumes}
 use Rattle.afs_volserv.specs.Seen.{durable_seen, vol_seen}
 use Rattle.afs_volserv.proofs.Taken.{in_call, in_carried, replied_told}

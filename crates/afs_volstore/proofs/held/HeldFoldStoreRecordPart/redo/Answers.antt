@@ -1,6 +1,6 @@
 use Rattle.std.proofs.Common.{◌∙◌, sym}
-use Rattle.afs_fold.specs.Fold.{body_taken}
-use Rattle.afs_records.specs.Durable.{noted}
+use Rattle.spec_fold.specs.Fold.{body_taken}
+use Rattle.spec_records.specs.Durable.{noted}
 use Rattle.afs_memory.proofs.Held.{fits_caller}
 use Rattle.afs_memory.specs.Redos.{body_of, record_of}
 use Rattle.afs_memory.specs.States.{parts_of}

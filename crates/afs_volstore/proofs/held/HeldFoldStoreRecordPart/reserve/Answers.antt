@@ -1,6 +1,6 @@
 use Rattle.std.proofs.Common.{subst, sym}
-use Rattle.afs_fold.specs.Orders.{AreFew}
-use Rattle.afs_records.specs.Durable.{Durable}
+use Rattle.spec_fold.specs.Orders.{AreFew}
+use Rattle.spec_records.specs.Durable.{Durable}
 use Rattle.afs_volstore.proofs.held.HeldFoldStoreRecordPart.reserve.Goals as goal
 
 pub returns-clause-keeps : goal.returns-clause-keeps

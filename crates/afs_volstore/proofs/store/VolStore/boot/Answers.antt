@@ -2,7 +2,7 @@ use Rattle.std.proofs.Common.{◌≡◌, ◌+◌, ℕ, List, Some, subst}
 use Rattle.afs_disk.specs.Disk.{LeavesOnly}
 use Rattle.afs_journal.specs.Records.{whole_records}
 use Rattle.afs_journal.proofs.Moments.{begins}
-use Rattle.afs_records.specs.Changes.{boot_record}
+use Rattle.spec_records.specs.Changes.{boot_record}
 use Rattle.afs_store.proofs.Kept.{left_now}
 use Rattle.afs_volstore.specs.Stores.{LeftAround, Store}
 use Rattle.afs_volstore.specs.VolumeFold.{volume_fold}

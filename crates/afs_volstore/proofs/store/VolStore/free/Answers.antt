@@ -1,5 +1,5 @@
 use Rattle.std.proofs.Common.{◌≡◌, ◌<◌, ◌∙◌, true, is_some, ap, subst}
-use Rattle.afs_ideal.specs.Tables.{get, unset}
+use Rattle.spec_ideal.specs.Tables.{get, unset}
 use Rattle.afs_seats.specs.Seated.{seen_as}
 use Rattle.afs_volstore.specs.Stores.{hold_word, Store}
 use Rattle.afs_volstore.proofs.Holds.{held_no_more, is_held}

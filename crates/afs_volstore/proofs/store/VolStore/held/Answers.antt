@@ -1,7 +1,7 @@
 use Rattle.std.proofs.Common.{◌≡◌, Bool, Option, Some, None, ap, sym, subst, rules, ◌∙◌}
 use Rattle.std.specs.Option.{option_copied, option_map}
-use Rattle.afs_ideal.specs.Tables.{get}
-use Rattle.afs_records.specs.Durable.{or_zero}
+use Rattle.spec_ideal.specs.Tables.{get}
+use Rattle.spec_records.specs.Durable.{or_zero}
 use Rattle.afs_volstore.specs.Stores.{hold_word, Store}
 use Rattle.afs_volstore.proofs.Holds.{held_is}
 use Rattle.afs_volstore.proofs.store.VolStore.held.Goals as goal

@@ -1,5 +1,5 @@
 use Rattle.std.proofs.Common.{◌≡◌, subst}
-use Rattle.afs_ideal.specs.Tables.{set}
+use Rattle.spec_ideal.specs.Tables.{set}
 use Rattle.afs_seats.specs.Seated.{seen_as}
 use Rattle.afs_shelves.proofs.Lists.{on_ok}
 use Rattle.afs_volstore.specs.Stores.{hold_word, Store}

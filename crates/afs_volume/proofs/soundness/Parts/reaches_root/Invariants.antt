@@ -1,6 +1,6 @@
 use Rattle.std.proofs.Common.{◌≡◌, ◌-◌, length}
-use Rattle.afs_ideal.specs.Operations.{is_below, leads_up}
-use Rattle.afs_ideal.specs.Tables.{get}
+use Rattle.spec_ideal.specs.Operations.{is_below, leads_up}
+use Rattle.spec_ideal.specs.Tables.{get}
 use Rattle.afs_volume.specs.Seen.{volume_seen}
 use Rattle.afs_volume.proofs.soundness.Parts.reaches_root.Given as goal
 

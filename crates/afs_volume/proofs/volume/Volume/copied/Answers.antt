@@ -1,9 +1,9 @@
 use Rattle.std.proofs.Common.{nat_eq, sym, subst, ◌≡◌, true}
 use Rattle.indexmap.specs.IndexMap as maps
 use Rattle.afs_num.specs.declared.vnodes.Vnode as image
-use Rattle.afs_ideal.specs.Tables.{Table}
-use Rattle.afs_ideal.specs.Volumes.{blocks_in}
-use Rattle.afs_records.specs.Sound.{is_sound}
+use Rattle.spec_ideal.specs.Tables.{Table}
+use Rattle.spec_ideal.specs.Volumes.{blocks_in}
+use Rattle.spec_records.specs.Sound.{is_sound}
 use Rattle.afs_volume.specs.Listed.{Lists}
 use Rattle.afs_volume.specs.Seen.{all_seen, volume_seen, AreReadable}
 use Rattle.afs_volume.proofs.Soundly.{same_vnodes}

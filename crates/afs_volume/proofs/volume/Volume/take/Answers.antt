@@ -1,7 +1,7 @@
 use Rattle.std.proofs.Common.{◌≡◌, refl, sym, subst, ap, ◌∙◌, true, Some, arith}
 use Rattle.afs_num.specs.declared.vnodes.Vnode as image
-use Rattle.afs_ideal.specs.Tables.{Table}
-use Rattle.afs_records.specs.Sound.{is_sound}
+use Rattle.spec_ideal.specs.Tables.{Table}
+use Rattle.spec_records.specs.Sound.{is_sound}
 use Rattle.afs_volume.specs.Seen.{volume_seen}
 use Rattle.afs_volume.specs.Taking.{put_but, stored_with, without_all}
 use Rattle.afs_volume.proofs.Folded.{volume_takes}

@@ -1,5 +1,0 @@
-use Rattle.afs_copyrows.proofs.PlainCopies.{copies_plain}
-use Rattle.afs_copyrows.proofs.laws.copies_are_plain.Goals as goal
-
-pub returns : goal.returns
-returns c = copies_plain

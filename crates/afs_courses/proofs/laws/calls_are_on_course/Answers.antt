@@ -1,5 +1,0 @@
-use Rattle.afs_courses.proofs.Walk.{are_on_course}
-use Rattle.afs_courses.proofs.laws.calls_are_on_course.Goals as goal
-
-pub returns : goal.returns
-returns c = are_on_course

@@ -1,5 +1,0 @@
-use Rattle.afs_dumps.proofs.Restoring.{clones_sound}
-use Rattle.afs_dumps.proofs.laws.clones_are_sound.Goals as goal
-
-pub returns : goal.returns
-returns c = clones_sound

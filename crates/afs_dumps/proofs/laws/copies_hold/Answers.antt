@@ -1,5 +1,0 @@
-use Rattle.afs_dumps.proofs.Restoring.{copies_hold}
-use Rattle.afs_dumps.proofs.laws.copies_hold.Goals as goal
-
-pub returns : goal.returns
-returns c = copies_hold

@@ -1,5 +1,0 @@
-use Rattle.afs_dumps.proofs.Restoring.{restored_is}
-use Rattle.afs_dumps.proofs.laws.dumps_are_restored.Goals as goal
-
-pub returns : goal.returns
-returns c = restored_is

@@ -1,5 +1,0 @@
-use Rattle.afs_dumps.proofs.Dumpable.{dump_fits}
-use Rattle.afs_dumps.proofs.laws.dumps_fit.Goals as goal
-
-pub returns : goal.returns
-returns c = dump_fits

@@ -1,5 +1,0 @@
-use Rattle.afs_dumps.proofs.Restoring.{full_needs_nothing}
-use Rattle.afs_dumps.proofs.laws.full_dumps_need_nothing.Goals as goal
-
-pub returns : goal.returns
-returns c = full_needs_nothing

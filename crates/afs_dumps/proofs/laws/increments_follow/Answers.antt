@@ -1,5 +1,0 @@
-use Rattle.afs_dumps.proofs.Restoring.{increments_follow}
-use Rattle.afs_dumps.proofs.laws.increments_follow.Goals as goal
-
-pub returns : goal.returns
-returns c = increments_follow

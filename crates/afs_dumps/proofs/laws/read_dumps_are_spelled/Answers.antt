@@ -1,5 +1,0 @@
-use Rattle.afs_dumps.proofs.Streams.{dump_spelled}
-use Rattle.afs_dumps.proofs.laws.read_dumps_are_spelled.Goals as goal
-
-pub returns : goal.returns
-returns c = dump_spelled

@@ -1,5 +1,0 @@
-use Rattle.afs_dumps.proofs.Streams.{refused_stays}
-use Rattle.afs_dumps.proofs.laws.refused_stays_refused.Goals as goal
-
-pub returns : goal.returns
-returns c = refused_stays

@@ -1,5 +1,0 @@
-pub mod Still
-pub mod Opening
-pub mod Telling
-pub mod Alone
-mod Worked

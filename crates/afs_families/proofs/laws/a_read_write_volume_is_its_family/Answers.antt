@@ -1,5 +1,0 @@
-use Rattle.afs_families.proofs.Walk.{read_write_is_family}
-use Rattle.afs_families.proofs.laws.a_read_write_volume_is_its_family.Goals as goal
-
-pub returns : goal.returns
-returns c = read_write_is_family

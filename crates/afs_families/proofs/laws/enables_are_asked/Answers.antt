@@ -1,5 +1,0 @@
-use Rattle.afs_families.proofs.Enabling.{are_asked}
-use Rattle.afs_families.proofs.laws.enables_are_asked.Goals as goal
-
-pub returns : goal.returns
-returns c = are_asked

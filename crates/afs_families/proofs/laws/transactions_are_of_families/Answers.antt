@@ -1,5 +1,0 @@
-use Rattle.afs_families.proofs.Walk.{are_of_families}
-use Rattle.afs_families.proofs.laws.transactions_are_of_families.Goals as goal
-
-pub returns : goal.returns
-returns c = are_of_families

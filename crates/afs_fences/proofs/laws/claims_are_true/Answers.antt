@@ -1,5 +1,0 @@
-use Rattle.afs_fences.proofs.Fencing.{are_true}
-use Rattle.afs_fences.proofs.laws.claims_are_true.Goals as goal
-
-pub returns : goal.returns
-returns c = are_true

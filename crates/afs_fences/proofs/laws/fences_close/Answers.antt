@@ -1,5 +1,0 @@
-use Rattle.afs_fences.proofs.Shutting.{close}
-use Rattle.afs_fences.proofs.laws.fences_close.Goals as goal
-
-pub returns : goal.returns
-returns c = close

@@ -1,5 +1,0 @@
-use Rattle.afs_fold.proofs.Grows.{one_more}
-use Rattle.afs_fold.proofs.laws.one_more_stands.Goals as goal
-
-pub returns : goal.returns
-returns c = one_more

@@ -1,5 +1,0 @@
-use Rattle.afs_fold.proofs.Storing.{records_leave}
-use Rattle.afs_fold.proofs.laws.records_leave_storable.Goals as goal
-
-pub returns : goal.returns
-returns c = records_leave c.clones_are_sound.ensures

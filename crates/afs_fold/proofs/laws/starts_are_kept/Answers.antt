@@ -1,7 +1,0 @@
-use Rattle.std.proofs.Common.{refl}
-use Rattle.afs_fold.specs.Fold.{folded}
-use Rattle.afs_fold.proofs.laws.starts_are_kept.Goals as goal
-
-pub returns : goal.returns
-unfolding folded
-returns c = λ d. refl

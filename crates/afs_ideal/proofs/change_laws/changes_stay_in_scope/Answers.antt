@@ -1,5 +1,0 @@
-use Rattle.afs_ideal.proofs.Scopes.{stays_in_scope}
-use Rattle.afs_ideal.proofs.change_laws.changes_stay_in_scope.Goals as goal
-
-pub returns : goal.returns
-returns c = stays_in_scope

@@ -1,6 +1,0 @@
-use Rattle.afs_ideal.specs.Volumes.{edited_all}
-use Rattle.afs_ideal.proofs.Edits.{edits_told, counted_sound}
-use Rattle.afs_ideal.proofs.change_laws.told_is_held.Goals as goal
-
-pub returns : goal.returns
-returns c = λ id es v told h. counted_sound id (edited_all id es v) _ (edits_told id es v told h).agrees

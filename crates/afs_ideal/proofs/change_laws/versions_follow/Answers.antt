@@ -1,5 +1,0 @@
-use Rattle.afs_ideal.proofs.Edits.{edits_told}
-use Rattle.afs_ideal.proofs.change_laws.versions_follow.Goals as goal
-
-pub returns : goal.returns
-returns c = λ id es v told h. (edits_told id es v told h).next

@@ -1,5 +1,0 @@
-use Rattle.afs_ideal.proofs.Laid.{new_is_sound}
-use Rattle.afs_ideal.proofs.soundness_laws.new_volumes_are_sound.Goals as goal
-
-pub returns : goal.returns
-returns c = new_is_sound

@@ -1,5 +1,0 @@
-use Rattle.afs_ideal.proofs.Laid.{names_sound, lists_sound}
-use Rattle.afs_ideal.proofs.soundness_laws.set_up_leaves_sound.Goals as goal
-
-pub returns : goal.returns
-returns c = record { names = names_sound; lists = lists_sound }

@@ -1,5 +1,0 @@
-use Rattle.afs_idle.proofs.Shut.{idle_ends}
-use Rattle.afs_idle.proofs.laws.idle_runs_end_well.Goals as goal
-
-pub returns : goal.returns
-returns c = idle_ends

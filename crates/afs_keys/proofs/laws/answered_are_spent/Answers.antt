@@ -1,5 +1,0 @@
-use Rattle.afs_keys.proofs.Answering.{answered_spent}
-use Rattle.afs_keys.proofs.laws.answered_are_spent.Goals as goal
-
-pub returns : goal.returns
-returns c = answered_spent

@@ -1,5 +1,0 @@
-use Rattle.afs_keys.proofs.Sending.{ran_sent}
-use Rattle.afs_keys.proofs.laws.ran_were_sent.Goals as goal
-
-pub returns : goal.returns
-returns c = ran_sent

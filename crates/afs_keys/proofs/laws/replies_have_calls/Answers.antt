@@ -1,5 +1,0 @@
-use Rattle.afs_keys.proofs.Sending.{replies_called}
-use Rattle.afs_keys.proofs.laws.replies_have_calls.Goals as goal
-
-pub returns : goal.returns
-returns c = replies_called

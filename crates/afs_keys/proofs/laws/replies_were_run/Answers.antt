@@ -1,5 +1,0 @@
-use Rattle.afs_keys.proofs.Answering.{were_run}
-use Rattle.afs_keys.proofs.laws.replies_were_run.Goals as goal
-
-pub returns : goal.returns
-returns c = were_run

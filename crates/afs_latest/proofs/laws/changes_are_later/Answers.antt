@@ -1,5 +1,0 @@
-use Rattle.afs_latest.proofs.Order.{changes_later}
-use Rattle.afs_latest.proofs.laws.changes_are_later.Goals as goal
-
-pub returns : goal.returns
-returns c = changes_later

@@ -1,5 +1,0 @@
-use Rattle.afs_model.proofs.Calls.{calls_once}
-use Rattle.afs_model.proofs.call_laws.calls_run_once.Goals as goal
-
-pub returns : goal.returns
-returns c = calls_once

@@ -1,5 +1,0 @@
-use Rattle.afs_model.proofs.Spellings.{calls_are_found}
-use Rattle.afs_model.proofs.spelling_laws.calls_are_found.Goals as goal
-
-pub returns : goal.returns
-returns c = calls_are_found

@@ -1,5 +1,0 @@
-use Rattle.afs_model.proofs.Spellings.{read_spelled}
-use Rattle.afs_model.proofs.spelling_laws.read_are_spelled.Goals as goal
-
-pub returns : goal.returns
-returns c = read_spelled

@@ -1,5 +1,0 @@
-use Rattle.afs_model.proofs.Spellings.{refusals_are_found}
-use Rattle.afs_model.proofs.spelling_laws.refusals_are_found.Goals as goal
-
-pub returns : goal.returns
-returns c = refusals_are_found

@@ -1,5 +1,0 @@
-use Rattle.afs_model.proofs.Spellings.{replies_are_found}
-use Rattle.afs_model.proofs.spelling_laws.replies_are_found.Goals as goal
-
-pub returns : goal.returns
-returns c = replies_are_found

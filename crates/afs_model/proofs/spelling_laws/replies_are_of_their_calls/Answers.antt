@@ -1,5 +1,0 @@
-use Rattle.afs_model.proofs.CellMade.{replies_are_of_their_calls}
-use Rattle.afs_model.proofs.spelling_laws.replies_are_of_their_calls.Goals as goal
-
-pub returns : goal.returns
-returns c = replies_are_of_their_calls

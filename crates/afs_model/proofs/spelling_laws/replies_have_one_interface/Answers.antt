@@ -1,5 +1,0 @@
-use Rattle.afs_model.proofs.CellMade.{replies_have_one_interface}
-use Rattle.afs_model.proofs.spelling_laws.replies_have_one_interface.Goals as goal
-
-pub returns : goal.returns
-returns c = replies_have_one_interface

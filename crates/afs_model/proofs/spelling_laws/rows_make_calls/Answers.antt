@@ -1,5 +1,0 @@
-use Rattle.afs_model.proofs.Spellings.{rows_make_calls}
-use Rattle.afs_model.proofs.spelling_laws.rows_make_calls.Goals as goal
-
-pub returns : goal.returns
-returns c = rows_make_calls

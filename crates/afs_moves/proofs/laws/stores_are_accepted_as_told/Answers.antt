@@ -1,5 +1,0 @@
-use Rattle.afs_moves.proofs.Walk.{accepted_as_told}
-use Rattle.afs_moves.proofs.laws.stores_are_accepted_as_told.Goals as goal
-
-pub returns : goal.returns
-returns c = accepted_as_told

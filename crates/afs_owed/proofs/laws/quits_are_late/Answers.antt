@@ -1,5 +1,0 @@
-use Rattle.afs_owed.proofs.Walk.{quits_late}
-use Rattle.afs_owed.proofs.laws.quits_are_late.Goals as goal
-
-pub returns : goal.returns
-returns c = quits_late

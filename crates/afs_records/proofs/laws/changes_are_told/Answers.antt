@@ -1,5 +1,0 @@
-use Rattle.afs_records.proofs.Effects.{changes_told}
-use Rattle.afs_records.proofs.laws.changes_are_told.Goals as goal
-
-pub returns : goal.returns
-returns c = changes_told

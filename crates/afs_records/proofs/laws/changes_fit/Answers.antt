@@ -1,5 +1,0 @@
-use Rattle.afs_records.proofs.Fitting.{change_fits}
-use Rattle.afs_records.proofs.laws.changes_fit.Goals as goal
-
-pub returns : goal.returns
-returns c = change_fits

@@ -1,5 +1,0 @@
-use Rattle.afs_records.proofs.Lengths.{change_long}
-use Rattle.afs_records.proofs.laws.length_has_no_time.Goals as goal
-
-pub returns : goal.returns
-returns c = change_long

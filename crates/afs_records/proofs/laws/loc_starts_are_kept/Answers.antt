@@ -1,5 +1,0 @@
-use Rattle.afs_records.proofs.LocGrows.{loc_start_kept}
-use Rattle.afs_records.proofs.laws.loc_starts_are_kept.Goals as goal
-
-pub returns : goal.returns
-returns c = loc_start_kept

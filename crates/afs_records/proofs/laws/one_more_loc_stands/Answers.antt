@@ -1,5 +1,0 @@
-use Rattle.afs_records.proofs.LocGrows.{loc_one_more}
-use Rattle.afs_records.proofs.laws.one_more_loc_stands.Goals as goal
-
-pub returns : goal.returns
-returns c = loc_one_more

@@ -1,5 +1,0 @@
-use Rattle.afs_records.proofs.LocSpelled.{loc_record_spelled}
-use Rattle.afs_records.proofs.laws.read_loc_records_are_spelled.Goals as goal
-
-pub returns : goal.returns
-returns c = loc_record_spelled

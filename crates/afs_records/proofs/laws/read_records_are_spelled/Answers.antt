@@ -1,5 +1,0 @@
-use Rattle.afs_records.proofs.Spelled.{record_spelled}
-use Rattle.afs_records.proofs.laws.read_records_are_spelled.Goals as goal
-
-pub returns : goal.returns
-returns c = record_spelled

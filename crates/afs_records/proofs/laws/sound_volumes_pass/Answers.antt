@@ -1,5 +1,0 @@
-use Rattle.afs_records.proofs.Tested.{passes}
-use Rattle.afs_records.proofs.laws.sound_volumes_pass.Goals as goal
-
-pub returns : goal.returns
-returns c = passes

@@ -1,5 +1,0 @@
-use Rattle.afs_recovered.proofs.Recovered.{recovered_alone}
-use Rattle.afs_recovered.proofs.laws.recoveries_are_told.Goals as goal
-
-pub returns : goal.returns
-returns c = recovered_alone

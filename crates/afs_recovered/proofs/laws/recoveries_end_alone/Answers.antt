@@ -1,5 +1,0 @@
-use Rattle.afs_recovered.proofs.Ending.{end_alone}
-use Rattle.afs_recovered.proofs.laws.recoveries_end_alone.Goals as goal
-
-pub returns : goal.returns
-returns c = end_alone

@@ -1,5 +1,0 @@
-use Rattle.afs_runs.proofs.Plain.{node_runs_end}
-use Rattle.afs_runs.proofs.laws.node_runs_end_well.Goals as goal
-
-pub returns : goal.returns
-returns c = node_runs_end

@@ -1,5 +1,0 @@
-use Rattle.afs_scripts.proofs.Listing.{loc_set_ups_are_accepted}
-use Rattle.afs_scripts.proofs.laws.loc_set_ups_are_accepted.Goals as goal
-
-pub returns : goal.returns
-returns c = loc_set_ups_are_accepted

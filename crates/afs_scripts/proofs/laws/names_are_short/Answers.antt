@@ -1,5 +1,0 @@
-use Rattle.afs_scripts.proofs.Scripts.{names_are_short}
-use Rattle.afs_scripts.proofs.laws.names_are_short.Goals as goal
-
-pub returns : goal.returns
-returns c = names_are_short

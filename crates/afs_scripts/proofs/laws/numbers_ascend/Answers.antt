@@ -1,5 +1,0 @@
-use Rattle.afs_scripts.proofs.Scripts.{numbers_ascend}
-use Rattle.afs_scripts.proofs.laws.numbers_ascend.Goals as goal
-
-pub returns : goal.returns
-returns c = numbers_ascend

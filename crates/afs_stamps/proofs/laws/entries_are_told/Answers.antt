@@ -1,5 +1,0 @@
-use Rattle.afs_stamps.proofs.ToldWalk.{entries_are_told}
-use Rattle.afs_stamps.proofs.laws.entries_are_told.Goals as goal
-
-pub returns : goal.returns
-returns c = entries_are_told

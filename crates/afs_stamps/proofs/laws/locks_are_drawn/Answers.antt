@@ -1,5 +1,0 @@
-use Rattle.afs_stamps.proofs.Walk.{are_drawn}
-use Rattle.afs_stamps.proofs.laws.locks_are_drawn.Goals as goal
-
-pub returns : goal.returns
-returns c = are_drawn

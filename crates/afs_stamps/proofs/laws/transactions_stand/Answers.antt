@@ -1,5 +1,0 @@
-use Rattle.afs_stamps.proofs.Walk.{have_transactions}
-use Rattle.afs_stamps.proofs.laws.transactions_stand.Goals as goal
-
-pub returns : goal.returns
-returns c = have_transactions

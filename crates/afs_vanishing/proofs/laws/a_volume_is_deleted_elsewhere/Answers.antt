@@ -1,5 +1,0 @@
-use Rattle.afs_vanishing.proofs.Deleting.{deleted_elsewhere}
-use Rattle.afs_vanishing.proofs.laws.a_volume_is_deleted_elsewhere.Goals as goal
-
-pub returns : goal.returns
-returns c = deleted_elsewhere

@@ -1,6 +1,0 @@
-use Rattle.afs_vanishing.proofs.Deleting.{deleted_elsewhere}
-use Rattle.afs_vanishing.proofs.Vanished.{vanish_elsewhere}
-use Rattle.afs_vanishing.proofs.laws.a_volume_vanishes_elsewhere.Goals as goal
-
-pub returns : goal.returns
-returns c = vanish_elsewhere deleted_elsewhere

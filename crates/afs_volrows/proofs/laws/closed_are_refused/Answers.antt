@@ -1,5 +1,0 @@
-use Rattle.afs_volrows.proofs.FileClosed.{closed_refused}
-use Rattle.afs_volrows.proofs.laws.closed_are_refused.Goals as goal
-
-pub returns : goal.returns
-returns c = closed_refused

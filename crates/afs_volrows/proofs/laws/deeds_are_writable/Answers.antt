@@ -1,5 +1,0 @@
-use Rattle.afs_volrows.proofs.VolKeeping.{deeds_are_writable}
-use Rattle.afs_volrows.proofs.laws.deeds_are_writable.Goals as goal
-
-pub returns : goal.returns
-returns c = deeds_are_writable

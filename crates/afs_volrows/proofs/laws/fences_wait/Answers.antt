@@ -1,5 +1,0 @@
-use Rattle.afs_volrows.proofs.VolWaiting.{fences_wait}
-use Rattle.afs_volrows.proofs.laws.fences_wait.Goals as goal
-
-pub returns : goal.returns
-returns c = fences_wait

@@ -1,5 +1,0 @@
-use Rattle.afs_volrows.proofs.FileServed.{file_steps}
-use Rattle.afs_volrows.proofs.laws.file_steps_are_served_or_close.Goals as goal
-
-pub returns : goal.returns
-returns c = file_steps

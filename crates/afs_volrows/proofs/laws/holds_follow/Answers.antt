@@ -1,5 +1,0 @@
-use Rattle.afs_volrows.proofs.VolHolds.{holds_follow}
-use Rattle.afs_volrows.proofs.laws.holds_follow.Goals as goal
-
-pub returns : goal.returns
-returns c = holds_follow

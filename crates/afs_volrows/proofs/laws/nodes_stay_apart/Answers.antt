@@ -1,5 +1,0 @@
-use Rattle.afs_volrows.proofs.VolNodes.{nodes_stay_apart}
-use Rattle.afs_volrows.proofs.laws.nodes_stay_apart.Goals as goal
-
-pub returns : goal.returns
-returns c = nodes_stay_apart

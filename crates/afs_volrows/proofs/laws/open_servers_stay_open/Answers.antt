@@ -1,5 +1,0 @@
-use Rattle.afs_volrows.proofs.FileOpen.{open_stay}
-use Rattle.afs_volrows.proofs.laws.open_servers_stay_open.Goals as goal
-
-pub returns : goal.returns
-returns c = open_stay

@@ -1,5 +1,0 @@
-use Rattle.afs_volrows.proofs.VolTurns.{others_leave_files}
-use Rattle.afs_volrows.proofs.laws.others_leave_files.Goals as goal
-
-pub returns : goal.returns
-returns c = others_leave_files

@@ -1,5 +1,0 @@
-use Rattle.afs_volrows.proofs.VolStamps.{stamps_stand}
-use Rattle.afs_volrows.proofs.laws.stamps_stand.Goals as goal
-
-pub returns : goal.returns
-returns c = stamps_stand

@@ -1,5 +1,0 @@
-use Rattle.afs_volrows.proofs.FileServed.{starts_alike}
-use Rattle.afs_volrows.proofs.laws.starts_alike.Goals as goal
-
-pub returns : goal.returns
-returns c = starts_alike
