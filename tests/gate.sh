@@ -125,7 +125,7 @@ esac
 [ "\$(cat '$work/fails')" != "\${0##*/}" ]
 END
 chmod +x "$work/stand_in" "$work/kit/sleep"
-programs='edits rules links ladder wrong_programs launcher plays gate rows edge killed'
+programs='edits rules links names ladder wrong_programs launcher plays gate rows edge killed'
 for it in $programs; do cp "$work/stand_in" "$home/tests/$it.sh"; done
 cp "$work/stand_in" "$work/kit/rt"
 cp "$work/stand_in" "$home/crates/afs_top/out/afs_top"
@@ -151,6 +151,7 @@ same 'what the gate runs' "$work/called" "\
 edits.sh 
 rules.sh 
 links.sh 
+names.sh 
 ladder.sh 
 gate.sh 
 rt ci
@@ -188,7 +189,7 @@ twelve of the 2 other wrong programs took 0 minutes"
 
 for it in $programs; do
     if gate "$it.sh"; then fail "$it.sh fails, and the gate passes"; else pass; fi
-    if [ "$(wc -l < "$work/called")" -eq 12 ]; then pass; else fail "$it.sh fails, and not all is run"; fi
+    if [ "$(wc -l < "$work/called")" -eq 13 ]; then pass; else fail "$it.sh fails, and not all is run"; fi
 done
 echo '2 passed, 1 failed' > "$work/says"
 if gate rt; then fail 'rt ci fails, and the gate passes'; else pass; fi
