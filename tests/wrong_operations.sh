@@ -5,7 +5,7 @@
 # crate spec_dumps in the same way, by tests/wrong_dumps; WRONG=fold and WRONG=volrows try the records and the rows of a volume server
 # (crates spec_fold and spec_volrows), by tests/wrong_fold and tests/wrong_volrows; WRONG=adminrows tries the acts of administrators (crate
 # spec_adminrows) by tests/wrong_adminrows, and WRONG=copyrows clients of read-only volumes (crate spec_copyrows) by tests/wrong_copyrows.
-# WRONG=walks, places, stamps, keys, latest, owed, stamp_owners, courses, locks, stored_stamps, transactions, families, numbers, fences, stamp_origins, one_server, enabling, recovered, vanishing and answers try
+# WRONG=walks, places, stamps, keys, latest, once, changed, owed, settled, replies, stamp_owners, courses, locks, stored_stamps, transactions, families, numbers, new_volumes, fences, stamp_origins, one_server, enabling, recovered, vanishing, in_service and answers try
 # laws on runs with administrators: each those of the crate of that name (walks those of law_walks), by tests/wrong_walks and so on.
 # Run it when the definitions or the rows have changed. It takes some 15 s an edit, so it is no part of the gate. With NAMEs it
 # tries these alone. All is done in a copy: the repository stays as it is.
@@ -31,7 +31,11 @@ case ${WRONG:-operations} in
     stamps) changed_crate=law_stamps edits=tests/wrong_stamps law=entries_are_told ;;
     keys) changed_crate=law_keys edits=tests/wrong_keys law=calls_run_in_order ;;
     owed) changed_crate=law_owed edits=tests/wrong_owed law=quits_are_late ;;
+    replies) changed_crate=law_replies edits=tests/wrong_replies law=runs_answer_their_calls ;;
+    changed) changed_crate=law_changed edits=tests/wrong_changed law=changes_are_operations ;;
+    settled) changed_crate=law_settled edits=tests/wrong_settled law=settles_follow_drops ;;
     latest) changed_crate=law_latest edits=tests/wrong_latest law=changes_are_later ;;
+    once) changed_crate=law_once edits=tests/wrong_once law=changes_are_once ;;
     walks) changed_crate=law_walks edits=tests/wrong_walks law=senders_are_told ;;
     stamp_owners) changed_crate=law_stamp_owners edits=tests/wrong_stamp_owners law=stamps_have_owners ;;
     stored_stamps) changed_crate=law_stored_stamps edits=tests/wrong_stored_stamps law=surveys_are_stored ;;
@@ -41,13 +45,15 @@ case ${WRONG:-operations} in
     locks) changed_crate=law_locks edits=tests/wrong_locks law=grips_are_drawn ;;
     families) changed_crate=law_families edits=tests/wrong_families law=transactions_are_of_families ;;
     numbers) changed_crate=law_numbers edits=tests/wrong_numbers law=numbers_are_apart ;;
+    new_volumes) changed_crate=law_new_volumes edits=tests/wrong_new_volumes law=each_entry_is_made_once ;;
     fences) changed_crate=law_fences edits=tests/wrong_fences law=claims_are_true ;;
     stamp_origins) changed_crate=law_stamp_origins edits=tests/wrong_stamp_origins law=stamps_are_brought ;;
     one_server) changed_crate=law_one_server edits=tests/wrong_one_server law=a_volume_accepts_at_one_server ;;
     enabling) changed_crate=law_enabling edits=tests/wrong_enabling law=volumes_are_enabled_alone ;;
     recovered) changed_crate=law_recovered edits=tests/wrong_recovered law=recoveries_end_alone ;;
     vanishing) changed_crate=law_vanishing edits=tests/wrong_vanishing law=a_volume_is_deleted_elsewhere ;;
-    *) echo 'WRONG is operations, dumps, fold, volrows, adminrows, copyrows, walks, places, stamps, keys, latest, owed, stamp_owners, courses, locks, stored_stamps, transactions, families, numbers, fences, stamp_origins, one_server, enabling, recovered, vanishing or answers'; exit 1 ;;
+    in_service) changed_crate=law_in_service edits=tests/wrong_in_service law=recoveries_end_in_service ;;
+    *) echo 'WRONG is operations, dumps, fold, volrows, adminrows, copyrows, walks, places, stamps, keys, latest, once, changed, owed, settled, replies, stamp_owners, courses, locks, stored_stamps, transactions, families, numbers, new_volumes, fences, stamp_origins, one_server, enabling, recovered, vanishing, in_service or answers'; exit 1 ;;
 esac
 
 work=$(mktemp -d)

@@ -1,7 +1,7 @@
 -- A server tells one change in an entry at most, and that is of a call which runs there and changes something.
 use Rattle.std.proofs.Common.{◌≡◌, ℕ, ◌+◌, ◌⊎◌, inl, inr, Bool, true, false, cond, List, [], ◌∷◌, ◌++◌, Option, Some, None, refl, sym, ap, subst, ◌∙◌, map}
 use Rattle.std.proofs.lemmas.List.{append_assoc}
-use Rattle.std.specs.Prelude.{filter, length}
+use Rattle.std.specs.Prelude.{⊤, filter, length}
 use Rattle.afs_num.specs.declared.histories.Version.{Version}
 use Rattle.afs_num.specs.declared.messages.Message.{Message}
 use Rattle.afs_num.specs.declared.messages.Received.TheVariants.{Whole}
@@ -16,7 +16,7 @@ use Rattle.spec_records.specs.Durable.{Durable}
 use Rattle.spec_rows.specs.Callbacks.{expired, owe_line, risen_turn, turned_in, CallbackStep}
 use Rattle.spec_rows.specs.Hosts.{at_rest, begun_from, comes_up, ends, fails_early, fails_midway, fall_line, in_boot, in_step, is_full, restarted, served, served_by, without_boot_record, struck, Blow, Fall, Luck, Outcome}
 use Rattle.spec_rows.specs.ServerRow as file
-use Rattle.spec_rows.specs.ServerRow.{begun_after, does, granted, granted_in, versions_made, promise_ticks, versioned, Decision}
+use Rattle.spec_rows.specs.ServerRow.{begun_after, does, granted, granted_in, is_client, versions_made, promise_ticks, versioned, Decision}
 use Rattle.spec_rows.specs.ServerSteps.{back_timeout_row, wake_row}
 use Rattle.spec_rows.specs.States.{durable_of, BackCall, ServerState}
 use Rattle.spec_rows.specs.Steps.{begun_before, Begun}
@@ -29,13 +29,14 @@ use Rattle.spec_volrows.specs.VolRow.{holds_of}
 use Rattle.spec_volrows.specs.VolStates.{NodeState, PieceCall}
 use Rattle.spec_volrows.specs.VolSteps as vols
 use Rattle.spec_volrows.specs.VolSteps.{deed_head, from_of, is_of_client, node_back_timeout_row, node_file_decides, node_row, node_start_row, node_wake_row, owes_of, piece_timeout_row, vol_begun_after, vol_decides, vol_timed, vol_turned_by, Deed, VolDecision}
+use Rattle.law_keys.proofs.FileSeats.{file_decides_so, OfHead}
 use Rattle.law_keys.specs.Ran.{ran_found, ran_of_file, ran_of_vol, ran_restarted, ran_served, server_ran, that_changed, unless_early, unless_hit, RanCall}
 use Rattle.law_places.proofs.Turning.{all_on}
 use Rattle.law_latest.proofs.ServerLines.{carried_told, deed_told, granted_told, is_no_change, late_plain, owes_told, plain, server_tells, timed_told, turned_told_by, vanished_told, AreOfServer, NoChange}
 
 -- ---- lines with one change
 
--- these lines have one change, of a call that ran and changed something at this server; no other ran
+-- these lines have one change, of a call that ran and changed something at this server, and was a client's; no other ran
 pub record TellsOne (me : Node) (new : List RanCall) (ls : List Line) : Type 0 where
   pub front : List Line
   pub key : Key
@@ -49,6 +50,7 @@ pub record TellsOne (me : Node) (new : List RanCall) (ls : List Line) : Type 0 w
   pub callee : r.callee ≡ me
   pub under : key_of r.head ≡ key
   pub changed : r.changed ≡ true
+  pub client : is_client r.head.from ≡ true
 
 abbrev pub Tells : Node → List RanCall → List Line → Type 0
 Tells me new ls = NoChange ls ⊎ TellsOne me new ls
@@ -69,21 +71,38 @@ behind me new pre ls h (inr k) = inr (record {
   callee = k.callee;
   under = k.under;
   changed = k.changed;
+  client = k.client;
 })
 
 -- ---- a file server
+
+-- what it saves is a client's
+abbrev SavesOfClient : Decision → Type 0
+SavesOfClient (file.saves head c) = is_client head.from ≡ true
+SavesOfClient d = ⊤
+
+of_client : (head : Head) (d : Decision) → OfHead head d → is_client head.from ≡ true → SavesOfClient d
+of_client head file.drops of is = tt
+of_client head (file.tells_boot h) of is = tt
+of_client head (file.repeats reply) of is = tt
+of_client head (file.refuses h code) of is = tt
+of_client head (file.shows h r) of is = tt
+of_client head (file.saves h c) of is = subst (λ (x : Head). is_client x.from ≡ true) (sym of) is
+
+decides_of_client : (me : Node) (s : NodeState) (clock : ℕ) (m : Message) → is_client m.head.from ≡ true → SavesOfClient (node_file_decides me s clock (Whole m))
+decides_of_client me s clock m is = of_client m.head (node_file_decides me s clock (Whole m)) (file_decides_so me s clock m).of is
 
 versioned_plain : (vs : List Version) (ls : List Line) → NoChange ls → NoChange (versioned vs ls)
 versioned_plain [] ls h = h
 versioned_plain (v ∷ vs) ls h = versioned_plain vs ls h
 
-does_tells : (me : Node) (x : ServerState) (clock place : ℕ) (d : Decision) (ls : List Line) → AreOfServer ls → Tells me (ran_of_file me x.lasting.boot d) (does me x clock place d ls).lines
-does_tells me x clock place file.drops ls h = inl (plain ls h)
-does_tells me x clock place (file.tells_boot head) ls h = inl (plain ls h)
-does_tells me x clock place (file.repeats reply) ls h = inl (plain ls h)
-does_tells me x clock place (file.refuses head code) ls h = inl (plain ls h)
-does_tells me x clock place (file.shows head r) ls h = inl (plain (granted me head.from (clock + promise_ticks) r.granted ls) (granted_told me head.from (clock + promise_ticks) r.granted ls h))
-does_tells me x clock place (file.saves head c) ls h = inr (record {
+does_tells : (me : Node) (x : ServerState) (clock place : ℕ) (d : Decision) (ls : List Line) → SavesOfClient d → AreOfServer ls → Tells me (ran_of_file me x.lasting.boot d) (does me x clock place d ls).lines
+does_tells me x clock place file.drops ls of h = inl (plain ls h)
+does_tells me x clock place (file.tells_boot head) ls of h = inl (plain ls h)
+does_tells me x clock place (file.repeats reply) ls of h = inl (plain ls h)
+does_tells me x clock place (file.refuses head code) ls of h = inl (plain ls h)
+does_tells me x clock place (file.shows head r) ls of h = inl (plain (granted me head.from (clock + promise_ticks) r.granted ls) (granted_told me head.from (clock + promise_ticks) r.granted ls h))
+does_tells me x clock place (file.saves head c) ls of h = inr (record {
   front = lines.Given place ∷ [];
   key = key_of head;
   count = length (versions_made c);
@@ -96,14 +115,15 @@ does_tells me x clock place (file.saves head c) ls h = inr (record {
   callee = refl;
   under = refl;
   changed = refl;
+  client = of;
 })
 
-file_tells : (me : Node) (s : NodeState) (clock place : ℕ) (m : Message) → Tells me (ran_of_file me s.file.lasting.boot (node_file_decides me s clock (Whole m))) (file_row me (holds_of s.vol.transactions) s.file clock place (Whole m)).lines
+file_tells : (me : Node) (s : NodeState) (clock place : ℕ) (m : Message) → is_client m.head.from ≡ true → Tells me (ran_of_file me s.file.lasting.boot (node_file_decides me s clock (Whole m))) (file_row me (holds_of s.vol.transactions) s.file clock place (Whole m)).lines
 unfolding file_row
-file_tells me s clock place m =
+file_tells me s clock place m is =
     let d : Decision = node_file_decides me s clock (Whole m) in
     let t : CallbackStep = turned_in me s.file clock (expired clock s.file.backs) d (Whole m) in
-    does_tells me s.file clock place d t.lines (carried_told me s.file clock (expired clock s.file.backs) d m.head m.carried)
+    does_tells me s.file clock place d t.lines (decides_of_client me s clock m is) (carried_told me s.file clock (expired clock s.file.backs) d m.head m.carried)
 
 -- ---- a volume server
 
@@ -130,7 +150,7 @@ vol_plain me s clock place m d other is = quiet_plain me s clock place m other (
 row_by : (b : Bool) (me : Node) (s : NodeState) (clock place : ℕ) (m : Message) → is_of_client (from_of (Whole m)) ≡ b
     → Tells me (cond b (ran_of_file me s.file.lasting.boot (node_file_decides me s clock (Whole m))) (ran_of_vol me s.file.lasting.boot (vol_decides me (durable_of s.file.lasting) s.vol (Whole m)))) (node_row me s clock place (Whole m)).lines
 unfolding node_row
-row_by true me s clock place m is = rw is (file_tells me s clock place m)
+row_by true me s clock place m is = rw is (file_tells me s clock place m is)
 row_by false me s clock place m is = inl (vol_plain me s clock place m (vol_decides me (durable_of s.file.lasting) s.vol (Whole m)) is refl)
 
 row_tells : (me : Node) (s : NodeState) (clock place : ℕ) (m : Message) → Tells me (server_ran me s clock m) (node_row me s clock place (Whole m)).lines
@@ -170,13 +190,13 @@ Begins me new f = (ls : List Line) → NoChange ls → Tells me new (f.before ls
 none_begins : (me : Node) (s : NodeState) (new : List RanCall) → Begins me new (begun_before s)
 none_begins me s new ls h = inl h
 
-file_begins : (me : Node) (s : NodeState) (clock : ℕ) (d : Decision) → Begins me (filter that_changed (ran_of_file me s.file.lasting.boot d)) (node_begun s (begun_after me s.file clock d))
-file_begins me s clock file.drops ls h = inl h
-file_begins me s clock (file.tells_boot head) ls h = inl h
-file_begins me s clock (file.repeats reply) ls h = inl h
-file_begins me s clock (file.refuses head code) ls h = inl h
-file_begins me s clock (file.shows head r) ls h = inl h
-file_begins me s clock (file.saves head c) ls h = inr (record {
+file_begins : (me : Node) (s : NodeState) (clock : ℕ) (d : Decision) → SavesOfClient d → Begins me (filter that_changed (ran_of_file me s.file.lasting.boot d)) (node_begun s (begun_after me s.file clock d))
+file_begins me s clock file.drops of ls h = inl h
+file_begins me s clock (file.tells_boot head) of ls h = inl h
+file_begins me s clock (file.repeats reply) of ls h = inl h
+file_begins me s clock (file.refuses head code) of ls h = inl h
+file_begins me s clock (file.shows head r) of ls h = inl h
+file_begins me s clock (file.saves head c) of ls h = inr (record {
   front = [];
   key = key_of head;
   count = length (versions_made c);
@@ -189,6 +209,7 @@ file_begins me s clock (file.saves head c) ls h = inr (record {
   callee = refl;
   under = refl;
   changed = refl;
+  client = of;
 })
 
 vol_begins : (me : Node) (s : NodeState) (d : VolDecision) (new : List RanCall) → OfSaved (IsWritable (durable_of s.file.lasting)) d → Begins me new (node_begun s (vol_begun_after me s.file d))
@@ -200,16 +221,16 @@ vol_begins me s (vols.dispatches head x) new w ls h = inl h
 vol_begins me s (vols.saves head x) new w ls h =
     inl (all_on is_no_change (effect_by me (deed_head head x) x.body (durable_of s.file.lasting)) ls (plain (effect_by me (deed_head head x) x.body (durable_of s.file.lasting)) (deed_told me (deed_head head x) x.body (durable_of s.file.lasting) w.taken)) h)
 
-after_by : (b : Bool) (me : Node) (s : NodeState) (clock : ℕ) (m : Message)
+after_by : (b : Bool) (me : Node) (s : NodeState) (clock : ℕ) (m : Message) → is_of_client (from_of (Whole m)) ≡ b
     → Begins me (filter that_changed (cond b (ran_of_file me s.file.lasting.boot (node_file_decides me s clock (Whole m))) (ran_of_vol me s.file.lasting.boot (vol_decides me (durable_of s.file.lasting) s.vol (Whole m)))))
     (node_begun s (cond b (begun_after me s.file clock (node_file_decides me s clock (Whole m))) (vol_begun_after me s.file (vol_decides me (durable_of s.file.lasting) s.vol (Whole m)))))
-after_by true me s clock m = file_begins me s clock (node_file_decides me s clock (Whole m))
-after_by false me s clock m = vol_begins me s (vol_decides me (durable_of s.file.lasting) s.vol (Whole m)) _ (deeds_are_writable me (durable_of s.file.lasting) s.vol (Whole m))
+after_by true me s clock m is = file_begins me s clock (node_file_decides me s clock (Whole m)) (decides_of_client me s clock m is)
+after_by false me s clock m is = vol_begins me s (vol_decides me (durable_of s.file.lasting) s.vol (Whole m)) _ (deeds_are_writable me (durable_of s.file.lasting) s.vol (Whole m))
 
 begins : (me : Node) (s : NodeState) (after : Bool) (fall : Fall) → Begins me (ran_found (server_ran me) s after fall) (begun_from (node_kind me) s after fall)
 begins me s after at_rest = none_begins me s _
 begins me s false (in_step m clock b) = none_begins me s _
-begins me s true (in_step m clock b) = after_by (is_of_client (from_of (Whole m))) me s clock m
+begins me s true (in_step m clock b) = after_by (is_of_client (from_of (Whole m))) me s clock m refl
 begins me s false in_boot = none_begins me s _
 begins me s true in_boot = λ ls h. inl (all_on is_no_change (vanished_lines me s.file.lasting.volumes) ls (plain (vanished_lines me s.file.lasting.volumes) (vanished_told me s.file.lasting.volumes)) h)
 

@@ -66,12 +66,12 @@ database_plain : (s : HostStep LocState) → LocTells s → NoChange s.lines
 database_plain s h = weaker database_tells is_no_change database_no_change s.lines h.told
 
 -- none, or it is a server's
-record TellsByServer (new : List RanCall) (e : Entry) : Type 0 where
-  server : ℕ
-  actor : e.actor ≡ actors.Node (Server server)
-  one : TellsOne (Server server) new e.lines
+pub record TellsByServer (new : List RanCall) (e : Entry) : Type 0 where
+  pub server : ℕ
+  pub actor : e.actor ≡ actors.Node (Server server)
+  pub one : TellsOne (Server server) new e.lines
 
-abbrev EntryTells : NodeMoved → List RanCall → Type 0
+abbrev pub EntryTells : NodeMoved → List RanCall → Type 0
 EntryTells m new = NoChange m.entry.lines ⊎ TellsByServer new m.entry
 
 of_server : (i : ℕ) (new : List RanCall) (e : Entry) → e.actor ≡ actors.Node (Server i) → Tells (Server i) new e.lines → NoChange e.lines ⊎ TellsByServer new e
@@ -112,7 +112,7 @@ tells_each c = record {
   };
 }
 
-tells : (c : NodeCell) (x : CellInput) → EntryTells (node_moved c x) (ran_by c x)
+pub tells : (c : NodeCell) (x : CellInput) → EntryTells (node_moved c x) (ran_by c x)
 tells c x = each_ran EntryTells c (tells_each c) x
 
 -- ---- looking back over lines

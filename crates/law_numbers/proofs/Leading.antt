@@ -15,7 +15,7 @@ use Rattle.spec_dumps.specs.Streams.{is_last_at}
 use Rattle.spec_volrows.specs.VolRow.{most_piece}
 use Rattle.spec_adminrows.specs.Acts.{answered, asks_at, begins_with, can_go_on, creates_from, free_answered, goes_on_locked, lock_answered, locked, refused, seek_answered}
 use Rattle.spec_adminrows.specs.Asks.{all_servers, home}
-use Rattle.spec_adminrows.specs.Copying.{add_answered, backup_asks, dump_asks}
+use Rattle.spec_adminrows.specs.Copying.{add_answered, backup_answered, backup_asks, dump_asks}
 use Rattle.spec_adminrows.specs.Creating.{create_answered, create_asks, create_refused, dump_in, fills_or_closes}
 use Rattle.spec_adminrows.specs.Entries.{has_read_only_at, is_usable}
 use Rattle.spec_adminrows.specs.Moving.{move_asks, plan_answered}
@@ -62,7 +62,7 @@ use Rattle.spec_adminrows.specs.declared.places.Visiting.TheVariants as visiting
 use Rattle.spec_adminrows.specs.declared.turns.Errand.{Errand}
 use Rattle.spec_adminrows.specs.declared.turns.Turn.{Turn}
 use Rattle.spec_adminrows.specs.declared.turns.Turn.TheVariants as turns
-use Rattle.law_walks.proofs.Places.{backup_is, dump_is, ends_is, fails_is, mend_is, move_is, remove_is, seek_fails_is, survey_refused_is, sweep_is, takes_is, TurnIs}
+use Rattle.law_walks.proofs.Places.{dump_is, ends_is, fails_is, mend_is, move_is, remove_is, seek_fails_is, survey_refused_is, sweep_is, takes_is, TurnIs}
 use Rattle.law_numbers.specs.Numbers.{CreationIsSound, HoldIsSound, IsDrawn, IsOther, IsSound, PlaceIsSound, ReleaseIsSound, TourIsSound, WritesSound}
 use Rattle.law_numbers.proofs.Drawing.{still_drawn, still_sound}
 
@@ -92,22 +92,24 @@ module _ (n m : ℕ) (le : n ≤ m) where
   pub still_place : (p : Place) → PlaceIsSound n p → PlaceIsSound m p
   still_place (places.Creates f step) k = still_created step k
   still_place (places.Adds h server) k = still_sound n m h.entry le k
-  still_place (places.Backs h step) k = still_sound n m h.entry le k
+  still_place (places.Backs h step) k = (still_sound n m h.entry le k.0, k.1)
   still_place (places.Dumps s step) k = still_sound n m s.hold.entry le k
   still_place (places.Releases h step) k = still_released h step k
   still_place (places.Tours r step) k = (still_sound n m r.hold.entry le k.0, k.1)
   still_place (places.Visits r s step) k = (still_sound n m r.hold.entry le k.0, k.1)
   still_place (places.Surveys h why s left seen) k = still_sound n m h.entry le k
   still_place (places.Plans h target) k = still_sound n m h.entry le k
-  still_place (places.Moves x step) k = still_sound n m x.hold.entry le k
+  still_place (places.Moves x step) k = (still_sound n m x.hold.entry le k.0, k.1)
   still_place (places.Removes h seen step) k = still_sound n m h.entry le k
   still_place (places.Sweeps h spot left step) k = still_sound n m h.entry le k
   still_place (places.Asks cause h seen) k = still_sound n m h.entry le k
   still_place p k = tt
 
--- a number that a release may take for its read-only volume
+-- a number that a release may take for its read-only volume, a backup for the new one, and a move for its clone
 abbrev pub IsNewAt : ℕ → Place → Type 0
+IsNewAt k (places.Backs h step) = IsOther k h
 IsNewAt k (places.Releases h step) = IsOther k h
+IsNewAt k (places.Plans h target) = IsOther k h
 IsNewAt k p = ⊤
 
 -- the next one is such a number
@@ -115,6 +117,8 @@ new_by : (n k : ℕ) (h : Hold) → k ≡ n → HoldIsSound n h → IsOther k h
 new_by n k h is sound e = let low : h.entry.read_write < n = sound.0.1 in omega (arith, is, low, e)
 
 pub new_at : (n k : ℕ) (p : Place) → k ≡ n → PlaceIsSound n p → IsNewAt k p
+new_at n k (places.Backs h step) is sound = new_by n k h is sound.0
+new_at n k (places.Plans h target) is sound = new_by n k h is sound
 new_at n k (places.Releases h releasing.Stamps) is sound = new_by n k h is sound
 new_at n k (places.Releases h releasing.Numbers) is sound = new_by n k h is sound
 new_at n k (places.Releases h (releasing.NumbersClone read_only)) is sound = new_by n k h is sound.0
@@ -184,14 +188,14 @@ module _ (n : ℕ) where
   asked e (places.Frees h code first) k = tt
   asked e (places.Creates f step) k = create_asked _ f step k
   asked e (places.Adds h server) k = (k, refl)
-  asked e (places.Backs h step) k = backup_asked _ h step k
+  asked e (places.Backs h step) k = backup_asked _ h step k.0
   asked e (places.Dumps s step) k = dump_asked s step
   asked e (places.Releases h step) k = release_asked h step
   asked e (places.Tours r step) k = tour_asked _ r step k
   asked e (places.Visits r s step) k = visit_asked _ r s step
   asked e (places.Surveys h why s left seen) k = tt
   asked e (places.Plans h target) k = tt
-  asked e (places.Moves m step) k = move_asked _ m step k
+  asked e (places.Moves m step) k = move_asked _ m step k.0
   asked e (places.Removes h seen step) k = remove_asked h step
   asked e (places.Sweeps h spot left step) k = sweep_asked h spot step
   asked e (places.Asks c h seen) k = tt
@@ -234,7 +238,7 @@ module _ (n : ℕ) where
   goes_is e h (acts.Create name server quota) k = tt
   goes_is e h (acts.Restore name server label) k = tt
   goes_is e h (acts.AddSite name server) k = either (has_read_only_at server h.entry) _ _ tt k
-  goes_is e h (acts.Backup name) k = k
+  goes_is e h (acts.Backup name) k = (k, tt)
   goes_is e h (acts.Release name) k = k
   goes_is e h (acts.Move name server) k = either (nat_eq server (home h)) _ _ tt (surveys_is h (purposes.Moves server) (all_servers e) [] k)
   goes_is e h (acts.Dump name label from) k = k
@@ -261,9 +265,20 @@ module _ (n : ℕ) where
   add_is h (tell.Location entries.ReplaceEntry) = tt
   add_is h reply = tt
 
-  plan_is : (h : Hold) (target : ℕ) (reply : Reply) → HoldIsSound n h → TurnIs F (plan_answered h target reply)
-  plan_is h target (tell.Location (entries.GetNewVolumeId x)) k = k
-  plan_is h target reply k = tt
+  -- a new backup, and a move's clone, have numbers of their own
+  backup_is : (h : Hold) (step : Backing) (reply : Reply) → HoldIsSound n h → RepliesAt (places.Backs h step) reply → TurnIs F (backup_answered h step reply)
+  backup_is h backing.Stamps (tell.Volume (volumes.ListVols ls)) k told = (k, tt)
+  backup_is h backing.Begins (tell.Volume (volumes.TransCreate t)) k told = either (nat_eq h.entry.backup 0) _ _ (k, tt) (k, tt)
+  backup_is h (backing.Numbers t) (tell.Location (entries.GetNewVolumeId id)) k told = (k, told.1)
+  backup_is h (backing.Clones t id) (tell.Volume (volumes.Clone counter release)) k told = (k, tt)
+  backup_is h (backing.Renews t id) (tell.Volume (volumes.ReClone counter release)) k told = (k, tt)
+  backup_is h (backing.Ends t id) (tell.Volume volumes.EndTrans) k told = (k, tt)
+  backup_is h (backing.Writes id) (tell.Location entries.ReplaceEntry) k told = tt
+  backup_is h step reply k told = tt
+
+  plan_is : (h : Hold) (target : ℕ) (reply : Reply) → HoldIsSound n h → RepliesAt (places.Plans h target) reply → TurnIs F (plan_answered h target reply)
+  plan_is h target (tell.Location (entries.GetNewVolumeId x)) k told = (k, told.1)
+  plan_is h target reply k told = tt
 
   entry_is : (e : Errand) (cause : Cause) (h : Hold) (seen : List Seen) (reply : Reply) → TurnIs F (entry_answered e cause h seen reply)
   entry_is e cause h seen (tell.Location (entries.GetEntryById x)) =
@@ -350,13 +365,13 @@ module _ (n : ℕ) where
   answered_is e (places.Frees h code first) reply k told = free_is code reply
   answered_is e (places.Creates f step) reply k told = create_is f step reply k told
   answered_is e (places.Adds h server) reply k told = add_is h reply
-  answered_is e (places.Backs h step) reply k told = backup_is F h step reply (λ step. k) tt
+  answered_is e (places.Backs h step) reply k told = backup_is h step reply k.0 told
   answered_is e (places.Dumps s step) reply k told = dump_is F s step reply (λ bytes step. k) tt
   answered_is e (places.Releases h step) reply k told = release_is h step reply k told
   answered_is e (places.Tours r step) reply k told = tour_is r step reply k
   answered_is e (places.Visits r s step) reply k told = visit_is r s step reply k
   answered_is e (places.Surveys h why s left seen) reply k told = survey_is h why s left seen reply k
-  answered_is e (places.Plans h target) reply k told = plan_is h target reply k
+  answered_is e (places.Plans h target) reply k told = plan_is h target reply k told
   answered_is e (places.Moves m step) reply k told = move_is F m step reply (λ step. k) tt
   answered_is e (places.Removes h seen step) reply k told = remove_is F h seen step reply (λ step. k) (λ spot left step. k)
   answered_is e (places.Sweeps h spot left step) reply k told = sweep_is F h spot left step reply (λ spot left step. k)

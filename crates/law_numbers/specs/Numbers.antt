@@ -1,4 +1,5 @@
--- The numbers of volumes: those of families were drawn before, and a read-only volume has another number than its family.
+-- The numbers of volumes: those of families were drawn before, and a read-only volume, a new backup and the clone of a move have other numbers than
+-- their families.
 use Rattle.std.specs.Prelude.{◌≡◌, ◌≤◌, ◌<◌, ⊤, ℕ, ◌+◌, List, [], ◌∷◌, Some}
 use Rattle.afs_num.specs.declared.location_calls.LocCall.{LocCall}
 use Rattle.afs_num.specs.declared.location_calls.LocCall.TheVariants as calls
@@ -12,6 +13,8 @@ use Rattle.spec_ideal.specs.Tables.{get}
 use Rattle.spec_records.specs.LocDurable.{first_id}
 use Rattle.spec_records.specs.LocRecords.{Listed}
 use Rattle.spec_adminrows.specs.Asks.{family}
+use Rattle.spec_adminrows.specs.declared.places.Backing.{Backing}
+use Rattle.spec_adminrows.specs.declared.places.Backing.TheVariants as backing
 use Rattle.spec_adminrows.specs.declared.places.Creating.{Creating}
 use Rattle.spec_adminrows.specs.declared.places.Creating.TheVariants as creating
 use Rattle.spec_adminrows.specs.declared.places.Hold.{Hold}
@@ -53,14 +56,19 @@ IsSound next e = IsDrawn next e.read_write × (e.read_only ≡ e.read_write → 
 abbrev pub HoldIsSound : ℕ → Hold → Type 0
 HoldIsSound next h = IsSound next h.entry
 
--- the number of the read-only volume of a release is another than its family's
+-- the number of another volume of the family isn't the family's: of the read-only volume of a release, of a new backup, of a move's clone
 abbrev pub IsOther : ℕ → Hold → Type 0
-IsOther read_only h = read_only ≡ family h → ⊥
+IsOther other h = other ≡ family h → ⊥
 
 abbrev pub TourIsSound : ℕ → Tour → Type 0
 TourIsSound next r = HoldIsSound next r.hold × IsOther r.read_only r.hold
 
 -- ---- by the places of an act
+
+-- of a backup that is made anew nothing is asked
+abbrev pub BackupIsOther : Hold → Backing → Type 0
+BackupIsOther h (backing.Clones t id) = IsOther id h
+BackupIsOther h step = ⊤
 
 abbrev pub ReleaseIsSound : ℕ → Hold → Releasing → Type 0
 ReleaseIsSound next h (releasing.NumbersClone read_only) = HoldIsSound next h × IsOther read_only h
@@ -87,14 +95,14 @@ CreationIsSound next (creating.Frees v stamp) = IsDrawn next v
 abbrev pub PlaceIsSound : ℕ → Place → Type 0
 PlaceIsSound next (places.Creates f step) = CreationIsSound next step
 PlaceIsSound next (places.Adds h server) = HoldIsSound next h
-PlaceIsSound next (places.Backs h step) = HoldIsSound next h
+PlaceIsSound next (places.Backs h step) = HoldIsSound next h × BackupIsOther h step
 PlaceIsSound next (places.Dumps s step) = HoldIsSound next s.hold
 PlaceIsSound next (places.Releases h step) = ReleaseIsSound next h step
 PlaceIsSound next (places.Tours r step) = TourIsSound next r
 PlaceIsSound next (places.Visits r s step) = TourIsSound next r
 PlaceIsSound next (places.Surveys h why s left seen) = HoldIsSound next h
 PlaceIsSound next (places.Plans h target) = HoldIsSound next h
-PlaceIsSound next (places.Moves m step) = HoldIsSound next m.hold
+PlaceIsSound next (places.Moves m step) = HoldIsSound next m.hold × IsOther m.clone m.hold
 PlaceIsSound next (places.Removes h seen step) = HoldIsSound next h
 PlaceIsSound next (places.Sweeps h spot left step) = HoldIsSound next h
 PlaceIsSound next (places.Asks cause h seen) = HoldIsSound next h

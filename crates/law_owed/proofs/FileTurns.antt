@@ -5,6 +5,7 @@ use Rattle.std.proofs.Math.Nat.{eq-or-lt_of_le, le_refl}
 use Rattle.afs_num.specs.Nodes.{same_node}
 use Rattle.afs_num.specs.declared.calls.FsReply.{FsReply}
 use Rattle.afs_num.specs.declared.histories.Version.{Version}
+use Rattle.afs_num.specs.declared.messages.Call.TheVariants as ask
 use Rattle.afs_num.specs.declared.messages.Carried.{Carried}
 use Rattle.afs_num.specs.declared.messages.Carried.TheVariants as carried
 use Rattle.afs_num.specs.declared.messages.Message.{Message}
@@ -15,27 +16,34 @@ use Rattle.spec_history.specs.declared.lines.Line.TheVariants as lines
 use Rattle.spec_breaks.specs.declared.types.OwedBreak.{OwedBreak}
 use Rattle.spec_breaks.specs.Promises.{owes_from, without_break}
 use Rattle.spec_ideal.specs.Operations.{Found}
+use Rattle.law_legal.proofs.BaseLaws.{a_key, some_of}
 use Rattle.law_legal.proofs.OwedLoadBreaks.{onto_granted}
 use Rattle.law_legal.proofs.OwedFacts.{all_both, all_filter, AllOf, IsOwed}
 use Rattle.law_legal.proofs.PromiseLists.{ended_is, hits, new_owes_are, saves_turn_is, shows_turn_is, without_all}
 use Rattle.law_legal.proofs.OwedTurns.{put_call}
 use Rattle.law_legal.specs.Breaks.{HasTimeout}
-use Rattle.law_legal.specs.Past.{lines_of, onto}
+use Rattle.law_legal.specs.Past.{lines_of, onto, sent_of}
 use Rattle.spec_model.specs.Calls.{call_seat, is_sent_again, key_of}
 use Rattle.law_places.proofs.Choices.{Chooses}
-use Rattle.spec_rows.specs.Callbacks.{ends_call, expired, held_under, is_back_awaited, is_ready, is_seat_of, key_answered, new_owes, no_turn, owe_line, quits, renews, renews_by, repeats_by, retries, settles, settles_by, call_timed_out, timeout_line, turn_for, turned_by, CallbackStep}
+use Rattle.spec_rows.specs.Callbacks.{break_message, breaks_call, ends_call, expired, held_under, is_back_awaited, is_ready, is_seat_of, key_answered, new_owes, no_turn, owe_line, quits, renews, renews_by, repeats_by, retries, settles, settles_by, call_timed_out, timeout_line, turn_for, turned_by, CallbackStep}
 use Rattle.spec_rows.specs.Runs.{Entry}
-use Rattle.spec_rows.specs.ServerRow.{carried_by, change_reply_to, drops, granted, granted_in, versions_made, promise_ticks, refuses, repeats, replied, saves, shows, tells_boot, versioned, Change, Decision}
+use Rattle.spec_rows.specs.ServerRow.{boot_told, carried_by, change_reply_to, drops, granted, granted_in, versions_made, promise_ticks, refuses, repeats, replied, saves, shows, tells_boot, versioned, Change, Decision}
 use Rattle.spec_rows.specs.States.{BackCall, Backs, Held, ServerState}
 use Rattle.law_walks.specs.Sends.{AdmittedIs, HeldAre, SeatsAre}
 use Rattle.law_walks.proofs.Seats.{admitted_is}
-use Rattle.law_owed.proofs.Owing.{IsKnown, IsNoCall, Out, Owes, new_owed}
+use Rattle.law_owed.proofs.Owing.{IsKnown, IsNoCall, no_call_this, Alone, CarriesThis, Out, Owes, new_owed}
+
+-- what was sent before the newest entry
+abbrev pub sent_before : List Entry → List Message
+sent_before [] = []
+sent_before (e ∷ older) = sent_of older
 
 -- what holds before the step, with its entry the newest
 pub record Base (me : Node) (boot last : ℕ) (es : List Entry) (b : Backs) : Type 0 where
   pub owes : Owes me boot b es
   pub rises : last ≤ b.last_call
   pub held : HeldAre IsNoCall b.held
+  pub earlier : Alone me boot b (sent_before es)
 
 pub record GoodTurn (me : Node) (boot last : ℕ) (es : List Entry) (t : CallbackStep) : Type 0 where
   pub owes : Owes me boot t.backs es
@@ -43,6 +51,8 @@ pub record GoodTurn (me : Node) (boot last : ℕ) (es : List Entry) (t : Callbac
   pub known : AllOf (IsKnown me None t.backs.last_call boot) t.sent
   pub held : HeldAre IsNoCall t.backs.held
   pub outs : HeldAre IsNoCall t.outs
+  pub earlier : Alone me boot t.backs (sent_before es)
+  pub alone : Alone me boot t.backs t.sent
 
 -- a step begins with what the clock has ended
 pub expired_base : (me : Node) (boot last clock : ℕ) (es : List Entry) (b : Backs) → Base me boot last es b → Base me boot last es (expired clock b)
@@ -50,6 +60,7 @@ expired_base me boot last clock es b h = record {
   owes = record { owing = all_filter (λ (o : OwedBreak). IsOwed me o.client (lines_of es) o) (λ (o : OwedBreak). nat_lt clock o.expiry) b.lists.owed h.owes.owing; outs = h.owes.outs };
   rises = h.rises;
   held = h.held;
+  earlier = h.earlier;
 }
 
 -- ---- replies
@@ -75,7 +86,7 @@ versioned_onto (v ∷ vs) ls o = versioned_onto vs ls (lines.Version v ∷ o)
 
 module _ (me : Node) (boot last : ℕ) (e : Entry) (older : List Entry) (b : Backs) (h : Base me boot last (e ∷ older) b) where
   quiet : (ls : List Line) → GoodTurn me boot last (e ∷ older) (record { backs = b; lines = ls; sent = []; outs = [] })
-  quiet ls = record { owes = h.owes; rises = h.rises; known = tt; held = h.held; outs = tt }
+  quiet ls = record { owes = h.owes; rises = h.rises; known = tt; held = h.held; outs = tt; earlier = h.earlier; alone = λ j k at. tt }
 
   pub nothing : GoodTurn me boot last (e ∷ older) (no_turn b)
   nothing = quiet []
@@ -85,9 +96,9 @@ module _ (me : Node) (boot last : ℕ) (e : Entry) (older : List Entry) (b : Bac
   either_turn false x y k l = l
 
   repeats_turn : (reply : Message) (o : Option Held) (good : Bool) → IsNoCall reply → GoodTurn me boot last (e ∷ older) (repeats_by b reply o good)
-  repeats_turn reply (Some w) good r = either_turn (w.again && is_ready b.lists.owed w) _ _ (record { owes = h.owes; rises = h.rises; known = tt; held = h.held; outs = (r, tt) }) nothing
-  repeats_turn reply None true r = record { owes = h.owes; rises = h.rises; known = tt; held = h.held; outs = (r, tt) }
-  repeats_turn reply None false r = record { owes = h.owes; rises = h.rises; known = tt; held = h.held; outs = (r, tt) }
+  repeats_turn reply (Some w) good r = either_turn (w.again && is_ready b.lists.owed w) _ _ (record { owes = h.owes; rises = h.rises; known = tt; held = h.held; outs = (r, tt); earlier = h.earlier; alone = λ j k at. tt }) nothing
+  repeats_turn reply None true r = record { owes = h.owes; rises = h.rises; known = tt; held = h.held; outs = (r, tt); earlier = h.earlier; alone = λ j k at. tt }
+  repeats_turn reply None false r = record { owes = h.owes; rises = h.rises; known = tt; held = h.held; outs = (r, tt); earlier = h.earlier; alone = λ j k at. tt }
 
   -- ---- its own calls
 
@@ -97,18 +108,27 @@ module _ (me : Node) (boot last : ℕ) (e : Entry) (older : List Entry) (b : Bac
     outs = λ j k at. h.owes.outs j k (none_by (same_node n j) (b.calls j) k at);
   })
 
+  ended_earlier : (n : Node) (c : BackCall) → Alone me boot (ends_call n c b) (sent_of older)
+  ended_earlier n c j k at = h.earlier j k (none_by (same_node n j) (b.calls j) k at)
+
   settled_turn : (n : Node) (c : BackCall) → GoodTurn me boot last (e ∷ older) (settles me n c b)
-  settled_turn n c = record { owes = ended n c; rises = h.rises; known = tt; held = h.held; outs = tt }
+  settled_turn n c = record { owes = ended n c; rises = h.rises; known = tt; held = h.held; outs = tt; earlier = ended_earlier n c; alone = λ j k at. tt }
 
   quit_turn : (n : Node) (c : BackCall) → GoodTurn me boot last (e ∷ older) (quits me boot n c b)
-  quit_turn n c = record { owes = ended n c; rises = h.rises; known = tt; held = h.held; outs = tt }
+  quit_turn n c = record { owes = ended n c; rises = h.rises; known = tt; held = h.held; outs = tt; earlier = ended_earlier n c; alone = λ j k at. tt }
 
   settles_turn : (head : Head) (o : Option BackCall) → GoodTurn me boot last (e ∷ older) (settles_by me boot head b o)
   settles_turn head None = nothing
   settles_turn head (Some c) = either_turn (is_back_awaited boot c head) _ _ (settled_turn head.from c) nothing
 
+  -- an unanswered call that is sent again
+  this_call : (n : Node) (known : ℕ) (c : BackCall) (j : Node) (k : BackCall) → b.calls n ≡ Some c → b.calls j ≡ Some k → CarriesThis j (a_key me boot k.number) (breaks_call k.content) (break_message me boot n known c)
+  this_call n known c j k at old is to under =
+      let here : b.calls j ≡ Some c = subst (λ (x : Node). b.calls x ≡ Some c) to at in
+      ap (λ (x : BackCall). carried.Call [] (ask.File (breaks_call x.content))) (some_of c k (sym here ∙ old))
+
   renewed_turn : (n : Node) (known : ℕ) (c : BackCall) → b.calls n ≡ Some c → GoodTurn me boot last (e ∷ older) (renews me boot n known c b)
-  renewed_turn n known c at = record { owes = record { owing = h.owes.owing; outs = h.owes.outs }; rises = h.rises; known = ((λ own. (le_refl _, λ up same. (h.owes.outs n c at).number)), tt); held = h.held; outs = tt }
+  renewed_turn n known c at = record { owes = record { owing = h.owes.owing; outs = h.owes.outs }; rises = h.rises; known = ((λ own. (le_refl _, λ up same. (h.owes.outs n c at).number)), tt); held = h.held; outs = tt; earlier = h.earlier; alone = λ j k y. (this_call n known c j k at y, tt) }
 
   renews_turn : (head : Head) (o : Option BackCall) → b.calls head.from ≡ o → GoodTurn me boot last (e ∷ older) (renews_by me boot head b o)
   renews_turn head None at = nothing
@@ -138,6 +158,14 @@ module _ (me : Node) (boot last : ℕ) (e : Entry) (older : List Entry) (b : Bac
     known = ((λ own. (le_refl _, λ up same. (h.owes.outs n c at).number)), tt);
     held = h.held;
     outs = tt;
+    earlier = λ j k y. put_call n j (record c { tries = c.tries + 1 }) k b.calls (AllOf (CarriesThis j (a_key me boot k.number) (breaks_call k.content)) (sent_of older)) y
+        (λ q z. subst (λ (u : BackCall). AllOf (CarriesThis j (a_key me boot u.number) (breaks_call u.content)) (sent_of older)) z (subst (λ (i : Node). AllOf (CarriesThis i (a_key me boot c.number) (breaks_call c.content)) (sent_of older)) q (h.earlier n c at)))
+        (λ old. h.earlier j k old);
+    alone = λ j k y. (
+      put_call n j (record c { tries = c.tries + 1 }) k b.calls (CarriesThis j (a_key me boot k.number) (breaks_call k.content) (break_message me boot n (b.known n) c)) y
+          (λ q z. subst (λ (u : BackCall). CarriesThis j (a_key me boot u.number) (breaks_call u.content) (break_message me boot n (b.known n) c)) z (λ is to under. refl)) (λ old. this_call n (b.known n) c j k at old),
+      tt,
+    );
   }
 
   timed_by : (t : Bool) (n : Node) (c : BackCall) → b.calls n ≡ Some c → e.lines ≡ (cond t (retries me boot n c b) (quits me boot n c b)).lines → GoodTurn me boot last (e ∷ older) (cond t (retries me boot n c b) (quits me boot n c b))
@@ -181,15 +209,17 @@ module _ (me : Node) (last : ℕ) (e : Entry) (older : List Entry) (b : Backs) (
     known = tt;
     held = h.held;
     outs = (change_no_call x.lasting.boot head clock c, tt);
+    earlier = h.earlier;
+    alone = λ j k at. tt;
   })
 
   for_turn : (clock place : ℕ) (d : Decision) → Chooses x d → IsToldSo me e b place clock d → GoodTurn me x.lasting.boot last (e ∷ older) (turn_for me x clock b d)
   for_turn clock place drops k is = nothing me x.lasting.boot last e older b h
-  for_turn clock place (tells_boot head) k is = record { owes = h.owes; rises = h.rises; known = (tt, tt); held = h.held; outs = tt }
+  for_turn clock place (tells_boot head) k is = record { owes = h.owes; rises = h.rises; known = (tt, tt); held = h.held; outs = tt; earlier = h.earlier; alone = λ j k at. (no_call_this j _ _ (boot_told x.lasting.boot head) refl, tt) }
   for_turn clock place (repeats reply) k is = repeats_turn me x.lasting.boot last e older b h reply (held_under (key_answered reply) b.held) (is_seat_of reply (call_seat reply.head.to x.lasting.kept)) (kept_no_call x reply seats k)
-  for_turn clock place (refuses head code) k is = record { owes = h.owes; rises = h.rises; known = tt; held = h.held; outs = (refl, tt) }
+  for_turn clock place (refuses head code) k is = record { owes = h.owes; rises = h.rises; known = tt; held = h.held; outs = (refl, tt); earlier = h.earlier; alone = λ j k at. tt }
   for_turn clock place (shows head r) k is =
-      subst (GoodTurn me x.lasting.boot last (e ∷ older)) (sym (shows_turn_is me x clock b head r)) (record { owes = record { owing = h.owes.owing; outs = h.owes.outs }; rises = h.rises; known = tt; held = h.held; outs = (refl, tt) })
+      subst (GoodTurn me x.lasting.boot last (e ∷ older)) (sym (shows_turn_is me x clock b head r)) (record { owes = record { owing = h.owes.owing; outs = h.owes.outs }; rises = h.rises; known = tt; held = h.held; outs = (refl, tt); earlier = h.earlier; alone = λ j k at. tt })
   for_turn clock place (saves head c) k is = saves_turned clock head c (saved_owed me x.lasting.boot last e older b h place (length (versions_made c)) clock head (versions_made c) (granted_in c) is)
 
   pub carried_turn : (clock place : ℕ) (d : Decision) (head : Head) (c : Carried) → Chooses x d → IsToldSo me e b place clock d → GoodTurn me x.lasting.boot last (e ∷ older) (turned_by me x clock b d head c)

@@ -14,12 +14,13 @@ use Rattle.afs_num.specs.declared.types.Node.{Node}
 use Rattle.spec_history.specs.declared.lines.Line.{Line}
 use Rattle.spec_history.specs.declared.lines.Line.TheVariants as lines
 use Rattle.spec_breaks.specs.declared.types.OwedBreak.{OwedBreak}
+use Rattle.law_legal.proofs.BaseLaws.{a_key}
 use Rattle.law_legal.proofs.OwedPasses.{all_lines, is_up}
 use Rattle.law_legal.proofs.OwedLoadBreaks.{onto_both}
 use Rattle.law_legal.proofs.OwedFacts.{all_both, all_map, AllOf}
 use Rattle.law_legal.specs.Past.{lines_of, onto, sent_of, SendsTo}
 use Rattle.law_places.proofs.Choices.{decided_open}
-use Rattle.spec_rows.specs.Callbacks.{expired, given_out, held_after, is_ready, no_turn, owe_line, pumped, replies_of, risen_turn, starts, starts_by, call_timed_out, turn_for, turned_in, Started, CallbackStep}
+use Rattle.spec_rows.specs.Callbacks.{breaks_call, expired, given_out, held_after, is_ready, no_turn, owe_line, pumped, replies_of, risen_turn, starts, starts_by, call_timed_out, turn_for, turned_in, Started, CallbackStep}
 use Rattle.spec_rows.specs.Hosts.{Fall}
 use Rattle.spec_rows.specs.Runs.{Entry}
 use Rattle.spec_rows.specs.ServerRow.{does, drops, refuses, repeats, saves, shows, tells_boot, Decision}
@@ -36,7 +37,7 @@ use Rattle.law_walks.proofs.Seats.{all_filter, all_more, placed_is, seated_is}
 use Rattle.law_walks.proofs.VolDecides.{decides_is}
 use Rattle.law_walks.specs.Sends.{HeldAre, HeldIs, SeatsAre, VolIs}
 use Rattle.law_owed.proofs.FileTurns.{carried_turn, change_no_call, expired_base, nothing, timed_turn, Base, GoodTurn, IsToldSo}
-use Rattle.law_owed.proofs.Owing.{all_begin, known_more, new_owed, no_call_known, owes_over, sends_front, Begins, IsKnown, IsKnownBy, IsNoCall, Owes}
+use Rattle.law_owed.proofs.Owing.{all_begin, known_more, new_owed, no_call_known, no_call_this, owes_over, sends_front, Alone, Begins, CarriesThis, IsKnown, IsKnownBy, IsNoCall, Owes}
 use Rattle.law_owed.proofs.VolTurns.{timed_good, turned_good, GoodVol, OwesAreTold, VolBase}
 
 -- what a node keeps and holds are replies, and no calls
@@ -51,12 +52,17 @@ pub record NodeOwes (me : Node) (d : Option Fall) (s : NodeState) (es : List Ent
   pub quiet : Quiet s
   pub owes : d ≡ None → Owes me s.file.lasting.boot s.file.backs es
   pub known : AllOf (IsKnown me d s.file.backs.last_call s.file.lasting.boot) (sent_of es)
+  pub alone : d ≡ None → Alone me s.file.lasting.boot s.file.backs (sent_of es)
 
 -- ---- the end of a step
 
 pub all_known : (me : Node) (d : Option Fall) (last boot : ℕ) (ms : List Message) → AllByRecursion IsNoCall ms → AllOf (IsKnown me d last boot) ms
 all_known me d last boot [] h = tt
 all_known me d last boot (m ∷ ms) h = (no_call_known me d last boot m h.0, all_known me d last boot ms h.1)
+
+all_this : (j : Node) (k : Key) (call : FsCall) (ms : List Message) → AllByRecursion IsNoCall ms → AllOf (CarriesThis j k call) ms
+all_this j k call [] h = tt
+all_this j k call (m ∷ ms) h = (no_call_this j k call m h.0, all_this j k call ms h.1)
 
 one_held : (me : Node) (boot : ℕ) (t : Started) (o : OwedBreak) (c : Option BackCall) → (starts_by me boot t o c).backs.held ≡ t.backs.held
 one_held me boot t o None = refl
@@ -77,12 +83,15 @@ record Pumped (me : Node) (boot last : ℕ) (e : Entry) (older : List Entry) (t 
 pumps : (me : Node) (boot last : ℕ) (e : Entry) (older : List Entry) (t : CallbackStep) → AllOf (IsKnown me None last boot) (sent_of older) → GoOut e (pumped me boot t).sent → GoodTurn me boot last (e ∷ older) t → Pumped me boot last e older t
 pumps me boot last e older t before went g =
     let ready : List Held = filter (is_ready t.backs.lists.owed) (t.outs ++ t.backs.held) in
+    let replies : AllByRecursion IsNoCall (replies_of ready) = out_is IsNoCall ready (all_filter (HeldIs IsNoCall) (is_ready t.backs.lists.owed) (t.outs ++ t.backs.held) (all_more (HeldIs IsNoCall) t.outs t.backs.held g.outs g.held)) in
     record {
       begins = all_begin me boot last e older t.backs.lists.owed (record { backs = held_after t; sent = given_out t }) before g.owes.owing went (record {
         owes = record { owing = g.owes.owing; outs = g.owes.outs };
         rises = g.rises;
         known = all_both (IsKnown me None t.backs.last_call boot) t.sent (replies_of ready) g.known
-            (all_known me None t.backs.last_call boot (replies_of ready) (out_is IsNoCall ready (all_filter (HeldIs IsNoCall) (is_ready t.backs.lists.owed) (t.outs ++ t.backs.held) (all_more (HeldIs IsNoCall) t.outs t.backs.held g.outs g.held))));
+            (all_known me None t.backs.last_call boot (replies_of ready) replies);
+        earlier = g.earlier;
+        alone = λ j k at. all_both (CarriesThis j (a_key me boot k.number) (breaks_call k.content)) t.sent (replies_of ready) (g.alone j k at) (all_this j (a_key me boot k.number) (breaks_call k.content) (replies_of ready) replies);
       });
       held = subst (HeldAre IsNoCall) (sym (starts_held me boot t.backs.lists.owed (record { backs = held_after t; sent = given_out t })))
           (all_filter (HeldIs IsNoCall) (λ (w : Held). not (is_ready t.backs.lists.owed w)) (t.backs.held ++ t.outs) (all_more (HeldIs IsNoCall) t.backs.held t.outs g.held g.outs));
@@ -96,12 +105,16 @@ ended me x v ls more t last e older is before g seats kept vol_seats waiting =
     let u : Started = pumped me boot t in
     let out : List Held = filter (is_ready u.backs.lists.owed) v.held in
     let p : Pumped me boot last e older t = pumps me boot last e older t before (λ j k call z. subst (λ (ms : List Message). SendsTo j k [] call ms) (sym is) (sends_front j k [] call u.sent (replies_of out) z)) g in
+    let replies : AllByRecursion IsNoCall (replies_of out) = out_is IsNoCall out (all_filter (HeldIs IsNoCall) (is_ready u.backs.lists.owed) v.held waiting) in
     record {
       quiet = record { seats = seats; kept = kept; held = p.held; vol_seats = vol_seats; waiting = all_filter (HeldIs IsNoCall) (waits_for_breaks u.backs.lists.owed) v.held waiting };
       owes = λ up. p.begins.owes;
       known = all_both (IsKnown me None u.backs.last_call boot) (sent_of older) e.sent (known_more me last u.backs.last_call boot (sent_of older) p.begins.rises before)
           (subst (AllOf (IsKnown me None u.backs.last_call boot)) (sym is) (all_both (IsKnown me None u.backs.last_call boot) u.sent (replies_of out) p.begins.known
-          (all_known me None u.backs.last_call boot (replies_of out) (out_is IsNoCall out (all_filter (HeldIs IsNoCall) (is_ready u.backs.lists.owed) v.held waiting)))));
+          (all_known me None u.backs.last_call boot (replies_of out) replies)));
+      alone = λ up j k at.
+          let P : Message → Type 0 = CarriesThis j (a_key me boot k.number) (breaks_call k.content) in
+          all_both P (sent_of older) e.sent (p.begins.earlier j k at) (subst (AllOf P) (sym is) (all_both P u.sent (replies_of out) (p.begins.alone j k at) (all_this j (a_key me boot k.number) (breaks_call k.content) (replies_of out) replies)));
     }
 
 -- ---- a file server's step
@@ -133,7 +146,7 @@ module _ (me : Node) (s : NodeState) (e : Entry) (older : List Entry) (h : NodeO
   base : (clock : ℕ) → Base me s.file.lasting.boot s.file.backs.last_call (e ∷ older) (expired clock s.file.backs)
   base clock =
       expired_base me s.file.lasting.boot s.file.backs.last_call clock (e ∷ older) s.file.backs
-      (record { owes = owes_over me s.file.lasting.boot s.file.backs e older up (h.owes refl); rises = le_refl s.file.backs.last_call; held = h.quiet.held })
+      (record { owes = owes_over me s.file.lasting.boot s.file.backs e older up (h.owes refl); rises = le_refl s.file.backs.last_call; held = h.quiet.held; earlier = h.alone refl })
 
   file_told : (clock place : ℕ) (head : Head) (c : Carried) → e.lines ≡ (file_row me (holds_of s.vol.transactions) s.file clock place (Whole (record { head = head; carried = c }))).lines
       → IsToldSo me e (expired clock s.file.backs) place clock (node_file_decides me s clock (Whole (record { head = head; carried = c })))
@@ -179,7 +192,7 @@ module _ (me : Node) (s : NodeState) (e : Entry) (older : List Entry) (h : NodeO
   vol_ended ls t went g =
       let last : ℕ = s.file.backs.last_call in
       let turn : CallbackStep = record { backs = t.backs; lines = []; sent = t.sent; outs = [] } in
-      let good : GoodTurn me s.file.lasting.boot last (e ∷ older) turn = record { owes = g.base.owes; rises = g.base.rises; known = g.known; held = g.base.held; outs = tt } in
+      let good : GoodTurn me s.file.lasting.boot last (e ∷ older) turn = record { owes = g.base.owes; rises = g.base.rises; known = g.known; held = g.base.held; outs = tt; earlier = g.base.earlier; alone = g.alone } in
       ended me (record s.file { lasting = t.lasting }) t.vol (ls ++ t.lines) [] turn last e older went (subst (λ (n : ℕ). AllOf (IsKnown me None last n) (sent_of older)) (sym g.boots) h.known)
       (subst (λ (n : ℕ). GoodTurn me n last (e ∷ older) turn) (sym g.boots) good) h.quiet.seats g.kept g.seats g.waiting
 
@@ -262,6 +275,8 @@ risen_good me s fall clock count f base e older h le kept told went =
       known = tt;
       held = tt;
       outs = tt;
+      earlier = λ j c at. absurd cc;
+      alone = λ j c at. tt;
     } in
     let u : Started = pumped me boot t in
     let p : Pumped me boot 0 e older t = pumps me boot 0 e older t before (λ j k call z. subst (λ (ms : List Message). SendsTo j k [] call ms) (sym went) z) good in
@@ -270,4 +285,7 @@ risen_good me s fall clock count f base e older h le kept told went =
       owes = λ up. p.begins.owes;
       known = all_both (IsKnown me None u.backs.last_call boot) (sent_of older) e.sent (known_more me 0 u.backs.last_call boot (sent_of older) p.begins.rises before)
           (subst (AllOf (IsKnown me None u.backs.last_call boot)) (sym went) p.begins.known);
+      alone = λ up j k at.
+          let P : Message → Type 0 = CarriesThis j (a_key me boot k.number) (breaks_call k.content) in
+          all_both P (sent_of older) e.sent (p.begins.earlier j k at) (subst (AllOf P) (sym went) (p.begins.alone j k at));
     }

@@ -1,6 +1,6 @@
 -- What holds of the breaks that a server owes, and of its own calls that carry them; and how that passes over an entry.
 use Rattle.spec_model.specs.Calls.{same_key}
-use Rattle.std.proofs.Common.{◌≡◌, ℕ, zero, suc, ◌+◌, ◌<◌, ◌≤◌, inl, inr, Bool, true, false, cond, List, [], ◌∷◌, ◌++◌, Option, Some, None, refl, sym, ap, subst, arith}
+use Rattle.std.proofs.Common.{◌≡◌, ℕ, zero, suc, ◌+◌, ◌<◌, ◌≤◌, inl, inr, Bool, true, false, cond, List, [], ◌∷◌, ◌++◌, Option, Some, None, refl, sym, ap, subst, ◌∙◌, arith}
 use Rattle.std.specs.Prelude.{⊤, filter, map, not}
 use Rattle.std.proofs.Math.Nat.{le_refl, le_trans}
 use Rattle.afs_num.specs.Nodes.{same_node}
@@ -103,6 +103,30 @@ out_over me j c last boot e es up h = record {
   owes = h.owes;
   carries = h.carries;
 }
+
+-- ---- no call under the key of an unanswered one carries anything else
+
+-- a file call to this node under this key carries this
+abbrev pub CarriesThis : Node → Key → FsCall → Message → Type 0
+CarriesThis j k call m = is_file_call m.carried ≡ true → m.head.to ≡ j → called_key m.head ≡ k → m.carried ≡ carried.Call [] (ask.File call)
+
+-- so it is of each of these messages, for each unanswered call
+abbrev pub Alone : Node → ℕ → Backs → List Message → Type 0
+Alone me boot b ms = (j : Node) (c : BackCall) → b.calls j ≡ Some c → AllOf (CarriesThis j (a_key me boot c.number) (breaks_call c.content)) ms
+
+pub no_call_this : (j : Node) (k : Key) (call : FsCall) (m : Message) → IsNoCall m → CarriesThis j k call m
+no_call_this j k call m h is to under = let no : true ≡ false = sym is ∙ h in absurd cc
+
+-- what was sent before a number was drawn isn't under that number
+below_this : (me j : Node) (last boot n : ℕ) (call : FsCall) (m : Message) → last < n → IsKnown me None last boot m → CarriesThis j (a_key me boot n) call m
+below_this me j last boot n call m lt h is to under =
+    let known : IsKnownBy me None last boot m.head true = subst (IsKnownBy me None last boot m.head) is h in
+    let low : m.head.number ≤ last = (known (ap (λ (x : Key). x.node) under)).1 refl (ap (λ (x : Key). x.epoch) under) in
+    let high : m.head.number ≡ n = ap (λ (x : Key). x.number) under in
+    absurd (omega arith)
+
+all_below : (me j : Node) (last boot n : ℕ) (call : FsCall) (ms : List Message) → last < n → AllOf (IsKnown me None last boot) ms → AllOf (CarriesThis j (a_key me boot n) call) ms
+all_below me j last boot n call ms lt h = all_map (IsKnown me None last boot) (CarriesThis j (a_key me boot n) call) (λ m k. below_this me j last boot n call m lt k) ms h
 
 -- ---- what a server that is up owes
 
@@ -221,6 +245,8 @@ pub record Begins (me : Node) (boot last : ℕ) (e : Entry) (es : List Entry) (t
   pub owes : Owes me boot t.backs (e ∷ es)
   pub rises : last ≤ t.backs.last_call
   pub known : AllOf (IsKnown me None t.backs.last_call boot) t.sent
+  pub earlier : Alone me boot t.backs (sent_of es)
+  pub alone : Alone me boot t.backs t.sent
 
 one_begins : (me : Node) (boot last : ℕ) (e : Entry) (es : List Entry) (t : Started) (o : OwedBreak) (x : Option BackCall) → AllOf (IsKnown me None last boot) (sent_of es) → IsOwed me o.client (lines_of (e ∷ es)) o
     → ((k : Key) (call : FsCall) → SendsTo o.client k [] call (starts_by me boot t o x).sent → SendsTo o.client k [] call e.sent) → Begins me boot last e es t → Begins me boot last e es (starts_by me boot t o x)
@@ -254,6 +280,13 @@ one_begins me boot last e es t o None before owed went h =
       };
       rises = omega arith;
       known = all_both (IsKnown me None (t.backs.last_call + 1) boot) t.sent (m ∷ []) (known_more me t.backs.last_call (t.backs.last_call + 1) boot t.sent (omega arith) h.known) ((λ own. (le_refl _, λ up same. le_refl _)), tt);
+      earlier = λ j k at. put_call o.client j n k t.backs.calls (AllOf (CarriesThis j (a_key me boot k.number) (breaks_call k.content)) (sent_of es)) at
+          (λ same it. subst (λ (z : BackCall). AllOf (CarriesThis j (a_key me boot z.number) (breaks_call z.content)) (sent_of es)) it (all_below me j last boot n.number (breaks_call n.content) (sent_of es) (omega arith) before)) (λ old. h.earlier j k old);
+      alone = λ j k at. put_call o.client j n k t.backs.calls (AllOf (CarriesThis j (a_key me boot k.number) (breaks_call k.content)) (t.sent ++ m ∷ [])) at
+          (λ same it. subst (λ (z : BackCall). AllOf (CarriesThis j (a_key me boot z.number) (breaks_call z.content)) (t.sent ++ m ∷ [])) it
+          (all_both (CarriesThis j (a_key me boot n.number) (breaks_call n.content)) t.sent (m ∷ []) (all_below me j t.backs.last_call boot n.number (breaks_call n.content) t.sent (omega arith) h.known) ((λ is to under. refl), tt)))
+          (λ old. all_both (CarriesThis j (a_key me boot k.number) (breaks_call k.content)) t.sent (m ∷ []) (h.alone j k old)
+          ((λ is to under. (let low : k.number ≤ t.backs.last_call = (h.owes.outs j k old).number in let same : n.number ≡ k.number = ap (λ (x : Key). x.number) under in absurd (omega arith))), tt));
     }
 
 pub all_begin : (me : Node) (boot last : ℕ) (e : Entry) (es : List Entry) (os : List OwedBreak) (t : Started) → AllOf (IsKnown me None last boot) (sent_of es) → AllOf (λ (o : OwedBreak). IsOwed me o.client (lines_of (e ∷ es)) o) os

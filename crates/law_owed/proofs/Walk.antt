@@ -7,9 +7,11 @@ use Rattle.std.specs.List.{AllByRecursion}
 use Rattle.afs_num.specs.declared.histories.Actor.{Actor}
 use Rattle.afs_num.specs.declared.histories.Actor.TheVariants as actors
 use Rattle.afs_num.specs.declared.histories.Version.{Version}
+use Rattle.afs_num.specs.declared.calls.FsCall.{FsCall}
 use Rattle.afs_num.specs.declared.messages.Message.{Message}
 use Rattle.afs_num.specs.declared.messages.Received.TheVariants.{Whole}
 use Rattle.afs_num.specs.declared.types.Head.{Head}
+use Rattle.afs_num.specs.declared.types.Key.{Key}
 use Rattle.afs_num.specs.declared.types.Node.{Node}
 use Rattle.afs_num.specs.declared.types.Node.TheVariants.{Admin, Client, Loc, Server}
 use Rattle.spec_history.specs.declared.lines.Line.{Line}
@@ -18,6 +20,7 @@ use Rattle.spec_history.specs.declared.scripts.Script.{Script}
 use Rattle.spec_breaks.specs.declared.types.OwedBreak.{OwedBreak}
 use Rattle.spec_breaks.specs.Promises.{has_break}
 use Rattle.spec_fold.specs.Effects.{effect_by, vanished_lines}
+use Rattle.law_legal.proofs.BaseLaws.{a_key}
 use Rattle.law_legal.proofs.OwedPasses as law
 use Rattle.law_legal.proofs.OwedPasses.{is_up}
 use Rattle.law_legal.proofs.OwedLoadBreaks.{onto_both}
@@ -60,7 +63,7 @@ use Rattle.law_latest.proofs.ServerLines.{deed_told, owes_told, vanished_told}
 use Rattle.law_owed.proofs.Calm.{admin_calm, calm_late, calm_up, client_calm, database_late, database_up, is_calm, is_no_quit, late_up, piece_calm, row_calm, server_calm, stopped_late, AreCalm}
 use Rattle.law_owed.proofs.FileTurns.{change_no_call}
 use Rattle.law_owed.proofs.NodeSteps.{all_down, late_good, piece_good, risen_good, row_good, woken_good, NodeOwes, Quiet}
-use Rattle.law_owed.proofs.Owing.{IsKnown, IsKnownBy, IsNoCall, is_file_call, Out, owes_over}
+use Rattle.law_owed.proofs.Owing.{Alone, CarriesThis, IsKnown, IsKnownBy, IsNoCall, is_file_call, Out, owes_over}
 use Rattle.law_owed.specs.Quits.{AreLate, GiveUpLate, QuitsAreLate}
 
 -- ---- breaks that are given up
@@ -184,6 +187,7 @@ fallen i d fall s now e es none le q h = record {
   owes = λ up. absurd cc;
   known = subst (λ (ms : List Message). AllOf (IsKnown (Server i) (Some fall) now.file.backs.last_call now.file.lasting.boot) (sent_of es ++ ms)) (sym none)
       (subst (AllOf (IsKnown (Server i) (Some fall) now.file.backs.last_call now.file.lasting.boot)) (sym (append-nil (sent_of es))) (all_down (Server i) d fall s.file.backs.last_call now.file.backs.last_call s.file.lasting.boot now.file.lasting.boot (sent_of es) le h.known));
+  alone = λ up. absurd cc;
 }
 
 -- it goes on as it is
@@ -192,6 +196,7 @@ stays_so i d s e es none up h = record {
   quiet = h.quiet;
   owes = λ z. owes_over (Server i) s.file.lasting.boot s.file.backs e es up (h.owes z);
   known = subst (λ (ms : List Message). AllOf (IsKnown (Server i) d s.file.backs.last_call s.file.lasting.boot) (sent_of es ++ ms)) (sym none) (subst (AllOf (IsKnown (Server i) d s.file.backs.last_call s.file.lasting.boot)) (sym (append-nil (sent_of es))) h.known);
+  alone = λ z. subst (λ (ms : List Message). Alone (Server i) s.file.lasting.boot s.file.backs (sent_of es ++ ms)) (sym none) (subst (Alone (Server i) s.file.lasting.boot s.file.backs) (sym (append-nil (sent_of es))) (h.alone z));
 }
 
 calm_goes : (i : ℕ) (s : HostStep NodeState) (e : Entry) (es : List Entry) → AreCalm e.lines → NodeOwes (Server i) s.host.down s.host.state (e ∷ es) → HostGoes i s e es
@@ -282,15 +287,15 @@ module _ (i : ℕ) (es : List Entry) (h : NodeHost) (owes : NodeOwes (Server i) 
 
 -- ---- a cell
 
-abbrev CellOwes : NodeCell → List Entry → Type 0
+abbrev pub CellOwes : NodeCell → List Entry → Type 0
 CellOwes c es = (i : ℕ) → NodeOwes (Server i) (c.hosts i).down (c.hosts i).state es
 
-abbrev Senders : Entry → Type 0
+abbrev pub Senders : Entry → Type 0
 Senders e = (n : Node) → e.actor ≡ actors.Node n → AllByRecursion (IsOf n) e.sent
 
-record Goes (es : List Entry) (m : NodeMoved) : Type 0 where
-  good : AreLate m.entry.actor es [] m.entry.lines
-  owes : CellOwes m.cell (m.entry ∷ es)
+pub record Goes (es : List Entry) (m : NodeMoved) : Type 0 where
+  pub good : AreLate m.entry.actor es [] m.entry.lines
+  pub owes : CellOwes m.cell (m.entry ∷ es)
 
 -- what another node sends is no call of this server
 other_by : (b : Bool) (me : Node) (d : Option Fall) (last boot : ℕ) (head : Head) → (head.from ≡ me → ⊥) → IsKnownBy me d last boot head b
@@ -301,11 +306,17 @@ others_known : (n me : Node) (d : Option Fall) (last boot : ℕ) (ms : List Mess
 others_known n me d last boot [] ne h = tt
 others_known n me d last boot (m ∷ ms) ne h = (other_by (is_file_call m.carried) me d last boot m.head (λ own. ne (sym h.0 ∙ own)), others_known n me d last boot ms ne h.1)
 
-passes : (j : ℕ) (d : Option Fall) (s : NodeState) (e : Entry) (es : List Entry) → law.all_lines (is_up (Server j)) e.lines ≡ true → AllOf (IsKnown (Server j) d s.file.backs.last_call s.file.lasting.boot) e.sent → NodeOwes (Server j) d s es → NodeOwes (Server j) d s (e ∷ es)
-passes j d s e es up known h = record {
+-- nor has it a key of this server
+others_this : (n me j : Node) (boot number : ℕ) (call : FsCall) (ms : List Message) → (n ≡ me → ⊥) → AllByRecursion (IsOf n) ms → AllOf (CarriesThis j (a_key me boot number) call) ms
+others_this n me j boot number call [] ne h = tt
+others_this n me j boot number call (m ∷ ms) ne h = ((λ is to under. absurd (ne (sym h.0 ∙ ap (λ (k : Key). k.node) under))), others_this n me j boot number call ms ne h.1)
+
+passes : (j : ℕ) (d : Option Fall) (s : NodeState) (e : Entry) (es : List Entry) → law.all_lines (is_up (Server j)) e.lines ≡ true → AllOf (IsKnown (Server j) d s.file.backs.last_call s.file.lasting.boot) e.sent → Alone (Server j) s.file.lasting.boot s.file.backs e.sent → NodeOwes (Server j) d s es → NodeOwes (Server j) d s (e ∷ es)
+passes j d s e es up known alone h = record {
   quiet = h.quiet;
   owes = λ z. owes_over (Server j) s.file.lasting.boot s.file.backs e es up (h.owes z);
   known = all_both (IsKnown (Server j) d s.file.backs.last_call s.file.lasting.boot) (sent_of es) e.sent h.known known;
+  alone = λ z k c at. all_both (CarriesThis k (a_key (Server j) s.file.lasting.boot c.number) (breaks_call c.content)) (sent_of es) e.sent (h.alone z k c at) (alone k c at);
 }
 
 apart : (i j : ℕ) → nat_eq i j ≡ false → Server i ≡ Server j → ⊥
@@ -319,14 +330,14 @@ server_goes : (c : NodeCell) (i : ℕ) (s : HostStep NodeState) (es : List Entry
 server_goes c i s es h senders g = record {
   good = g.good;
   owes = λ j. at_put i j (nat_eq i j) (λ (k : ℕ) (x : NodeHost). NodeOwes (Server k) x.down x.state ((server_stepped c i s).entry ∷ es)) s.host (c.hosts j) refl g.owes
-      (λ other. passes j (c.hosts j).down (c.hosts j).state (server_stepped c i s).entry es (g.others j other) (others_known (Server i) (Server j) _ _ _ s.sent (apart i j other) (senders (Server i) refl)) (h j));
+      (λ other. passes j (c.hosts j).down (c.hosts j).state (server_stepped c i s).entry es (g.others j other) (others_known (Server i) (Server j) _ _ _ s.sent (apart i j other) (senders (Server i) refl)) (λ k b at. others_this (Server i) (Server j) k _ _ _ s.sent (apart i j other) (senders (Server i) refl)) (h j));
 }
 
 -- a node that is no server
 other_goes : (c : NodeCell) (n : Node) (es : List Entry) (m : NodeMoved) → CellOwes c es → m.cell.hosts ≡ c.hosts → m.entry.actor ≡ actors.Node n → ((j : ℕ) → n ≡ Server j → ⊥) → Senders m.entry → AreLate m.entry.actor es [] m.entry.lines → ((j : ℕ) → law.all_lines (is_up (Server j)) m.entry.lines ≡ true) → Goes es m
 other_goes c n es m h same actor ne senders good up = record {
   good = good;
-  owes = λ j. subst (λ (f : ℕ → NodeHost). NodeOwes (Server j) (f j).down (f j).state (m.entry ∷ es)) (sym same) (passes j (c.hosts j).down (c.hosts j).state m.entry es (up j) (others_known n (Server j) _ _ _ m.entry.sent (ne j) (senders n actor)) (h j));
+  owes = λ j. subst (λ (f : ℕ → NodeHost). NodeOwes (Server j) (f j).down (f j).state (m.entry ∷ es)) (sym same) (passes j (c.hosts j).down (c.hosts j).state m.entry es (up j) (others_known n (Server j) _ _ _ m.entry.sent (ne j) (senders n actor)) (λ k b at. others_this n (Server j) k _ _ _ m.entry.sent (ne j) (senders n actor)) (h j));
 }
 
 -- an entry of nobody
@@ -334,7 +345,7 @@ none_goes : (c : NodeCell) (es : List Entry) (m : NodeMoved) → CellOwes c es �
 none_goes c es m h same none calm = record {
   good = calm_late m.entry.actor es [] m.entry.lines calm;
   owes = λ j. subst (λ (f : ℕ → NodeHost). NodeOwes (Server j) (f j).down (f j).state (m.entry ∷ es)) (sym same)
-      (passes j (c.hosts j).down (c.hosts j).state m.entry es (calm_up (Server j) m.entry.lines calm) (subst (AllOf (IsKnown (Server j) (c.hosts j).down (c.hosts j).state.file.backs.last_call (c.hosts j).state.file.lasting.boot)) (sym none) tt) (h j));
+      (passes j (c.hosts j).down (c.hosts j).state m.entry es (calm_up (Server j) m.entry.lines calm) (subst (AllOf (IsKnown (Server j) (c.hosts j).down (c.hosts j).state.file.backs.last_call (c.hosts j).state.file.lasting.boot)) (sym none) tt) (subst (Alone (Server j) (c.hosts j).state.file.lasting.boot (c.hosts j).state.file.backs) (sym none) (λ k b at. tt)) (h j));
 }
 
 not_client : (n j : ℕ) → Client n ≡ Server j → ⊥
@@ -346,7 +357,7 @@ not_admin n j e = absurd cc
 not_loc : (j : ℕ) → Loc ≡ Server j → ⊥
 not_loc j e = absurd cc
 
-abbrev Steps : List Entry → NodeMoved → Type 0
+abbrev pub Steps : List Entry → NodeMoved → Type 0
 Steps es m = Senders m.entry → Goes es m
 
 module _ (c : NodeCell) (es : List Entry) (h : CellOwes c es) where
@@ -375,7 +386,7 @@ module _ (c : NodeCell) (es : List Entry) (h : CellOwes c es) where
   unfolding node_back_timeout_row back_timeout_row
   break_goes i n b up at senders = server_goes c i _ es h senders (late_goes i es (c.hosts i) (h i) c.clock n b (server_stepped c i (node_timed_out (Server i) (c.hosts i) c.clock n b)).entry up at refl refl)
 
-  steps_each : Each (Steps es) c
+  pub steps_each : Each (Steps es) c
   steps_each = record {
     void = λ senders. none_goes c es _ h refl refl refl;
     ticks = λ n senders. none_goes c es _ h refl refl refl;
@@ -424,11 +435,12 @@ goes_on c (x ∷ xs) (e ∷ es) end older is senders h =
     let g : Goes older m = each (Steps older) c (steps_each c older h) x (subst Senders is.0 senders.0) in
     subst (λ (y : Entry). GiveUpLate older (y ∷ es)) (sym is.0) (g.good, goes_on m.cell xs es end (m.entry ∷ older) is.1 senders.1 g.owes)
 
-first_owes : (s : Script) → CellOwes (node_start s) (set_up_entry s ∷ [])
+pub first_owes : (s : Script) → CellOwes (node_start s) (set_up_entry s ∷ [])
 first_owes s i = record {
   quiet = record { seats = tt; kept = tt; held = tt; vol_seats = tt; waiting = tt };
   owes = λ up. record { owing = tt; outs = λ j c at. absurd cc };
   known = tt;
+  alone = λ up j c at. absurd cc;
 }
 
 pub quits_late : QuitsAreLate

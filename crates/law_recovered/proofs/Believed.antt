@@ -89,19 +89,19 @@ both : (b : Bool) → b ≡ false → b ≡ true → ⊥
 both b e f = let no : true ≡ false = sym f ∙ e in absurd cc
 
 -- the call that was answered, as it was sent
-record IsCalled (course : Course) (c : NodeCell) (n e k : ℕ) (callee : Node) : Type 0 where
-  place : ℕ
-  m : Message
-  at : message_at c.sent place ≡ Some m
-  from : m.head.from ≡ Admin n
-  to : m.head.to ≡ callee
-  in_epoch : m.head.epoch ≡ e
-  of_number : m.head.number ≡ k
-  user : List ℕ
-  call : Call
-  is : m.carried ≡ carried.Call user call
-  asks : (ask_in (course n e k)).call ≡ call
-  stamp : m.head.stamp ≡ (ask_in (course n e k)).stamp
+pub record IsCalled (course : Course) (c : NodeCell) (n e k : ℕ) (callee : Node) : Type 0 where
+  pub place : ℕ
+  pub m : Message
+  pub at : message_at c.sent place ≡ Some m
+  pub from : m.head.from ≡ Admin n
+  pub to : m.head.to ≡ callee
+  pub in_epoch : m.head.epoch ≡ e
+  pub of_number : m.head.number ≡ k
+  pub user : List ℕ
+  pub call : Call
+  pub is : m.carried ≡ carried.Call user call
+  pub asks : (ask_in (course n e k)).call ≡ call
+  pub stamp : m.head.stamp ≡ (ask_in (course n e k)).stamp
 
 module _ (s : Script) (done : List CellInput) where
   abbrev c : NodeCell
@@ -111,7 +111,7 @@ module _ (s : Script) (done : List CellInput) where
   course = course_in s done
 
   module _ (on : AreOnCourse course c) where
-    called : (n e k : ℕ) (q : Question) (w : WasAnswered c.sent n e k (course n e k) q) → is_told w.m.carried ≡ true → IsCalled course c n e k (ask_in (course n e k)).callee
+    pub called : (n e k : ℕ) (q : Question) (w : WasAnswered c.sent n e k (course n e k) q) → is_told w.m.carried ≡ true → IsCalled course c n e k (ask_in (course n e k)).callee
     called n e k q w told =
         let x : WasAsked c w.m = found_at (HasCall c) w.place c.sent w.m (replies_called s done).sent w.there told in
         let z : IsSome x.call.carried = call_in x.call.carried x.is_call in
@@ -135,11 +135,11 @@ module _ (s : Script) (done : List CellInput) where
           stamp = its.stamp ∙ ap (λ (y : Question). (ask_in y).stamp) same;
         }
 
-  told_is : (x : Carried) (reply : Reply) → x ≡ carried.Reply reply → is_told (carried.Reply reply) ≡ true → is_told x ≡ true
+  pub told_is : (x : Carried) (reply : Reply) → x ≡ carried.Reply reply → is_told (carried.Reply reply) ≡ true → is_told x ≡ true
   told_is x reply is e = ap is_told is ∙ e
 
   -- what was asked at a place
-  ask_is : (n e k : ℕ) (p : Place) → (course n e k).place ≡ p → ask_in (course n e k) ≡ asks_at (course n e k).errand p
+  pub ask_is : (n e k : ℕ) (p : Place) → (course n e k).place ≡ p → ask_in (course n e k) ≡ asks_at (course n e k).errand p
   ask_is n e k p is = ap (λ (z : Place). asks_at (course n e k).errand z) is
 
   -- ---- one more input

@@ -1,5 +1,5 @@
 -- What a volume server tells: a list has the volumes of the family that it has, and its stamp is stored by then; and where it tells that a volume is
--- deleted, it writes that.
+-- deleted, or that its flags are set, it writes that.
 use Rattle.std.proofs.Common.{◌≡◌, ◌≤◌, ◌<◌, ℕ, ◌+◌, ℤ, Bool, true, false, cond, List, [], ◌∷◌, ◌++◌, Option, Some, None, Result, Ok, Err, refl, sym, ap, subst, ◌∙◌, arith, eqb-true, eq-eqb, nat_eq, nat_lt}
 use Rattle.std.specs.Prelude.{⊤, not, ◌||◌, length}
 use Rattle.std.proofs.lemmas.Bool.Decides.{nat_tests}
@@ -37,7 +37,7 @@ use Rattle.spec_volrows.specs.VolStates.{Transaction, VolState}
 use Rattle.spec_volrows.specs.VolSteps.{deed_record, dispatches, drops, is_vol_caller, judged, not_written, or_stamp, raised_by, refuses_vol, repeats, replies_to, same_by, same_written, saves, tells_boot, vol_admits, vol_carried, vol_decides, vol_hears, vol_reply, written, Deed, VolDecision}
 use Rattle.law_transactions.specs.Begun.{AsksFor}
 
--- a list has what there is, and nothing is written for it; and where a volume is deleted, that is written
+-- a list has what there is, and nothing is written for it; and where a volume is deleted, or its flags are set, that is written
 pub record IsList (d : Durable) (call : VolCall) (ls : List ListedVolume) : Type 0 where
   pub family : ℕ
   pub is : call ≡ calls.ListVols family
@@ -50,6 +50,18 @@ pub record IsDeletion (call : VolCall) (body : RecordBody) : Type 0 where
   pub is : call ≡ calls.DeleteVolume family number
   pub writes : body ≡ bodies.Delete id
 
+pub record IsFlagging (call : VolCall) (body : RecordBody) : Type 0 where
+  pub family : ℕ
+  pub number : ℕ
+  pub id : ℕ
+  pub flags : ℕ
+  pub is : call ≡ calls.SetFlags family number flags
+  pub writes : body ≡ bodies.Flags id flags
+
+abbrev OptionFlags : VolCall → Option RecordBody → Type 0
+OptionFlags call None = ⊥
+OptionFlags call (Some body) = IsFlagging call body
+
 abbrev OptionDeletes : VolCall → Option RecordBody → Type 0
 OptionDeletes call None = ⊥
 OptionDeletes call (Some body) = IsDeletion call body
@@ -57,6 +69,7 @@ OptionDeletes call (Some body) = IsDeletion call body
 abbrev PlanTells : Durable → VolCall → VolReply → Option RecordBody → Type 0
 PlanTells d call (replies.ListVols ls) body = IsList d call ls × (body ≡ None)
 PlanTells d call replies.DeleteVolume body = OptionDeletes call body
+PlanTells d call replies.SetFlags body = OptionFlags call body
 PlanTells d call reply body = ⊤
 
 module _ (d : Durable) (call : VolCall) where
@@ -119,7 +132,8 @@ verdict_told d ts last stamp (calls.EndTrans family number) = in_told d _ (found
 verdict_told d ts last stamp (calls.Clone family number id name kind) =
     let call : VolCall = calls.Clone family number id name kind in
     unless_told d call (has_volume id d) is_there_already _ (in_told d call (found family number ts) _ (λ t x. unless_told d call (not (has_volume_room d) || is_last_count x.volume.release) no_room_left _ tt))
-verdict_told d ts last stamp (calls.SetFlags family number flags) = in_told d _ (found family number ts) _ (λ t x. tt)
+verdict_told d ts last stamp (calls.SetFlags family number flags) =
+    in_told d _ (found family number ts) _ (λ t x. record { family = family; number = number; id = t.volume; flags = flags; is = refl; writes = refl })
 verdict_told d ts last stamp (calls.GetFlags family number) = in_told d _ (found family number ts) _ (λ t x. tt)
 verdict_told d ts last stamp (calls.TransCreate family id flags) = on_told d ts last stamp family id flags (volume_of_family family (get id d.volumes))
 verdict_told d ts last stamp (calls.Dump family number from offset) =
@@ -136,6 +150,7 @@ verdict_told d ts last stamp (calls.ReClone family number id) =
 abbrev pub IfTells : Durable → VolCall → RecordBody → Type 0 → Carried → Type 0
 IfTells d call body A (carried.Reply (tell.Volume (replies.ListVols ls))) = (IsList d call ls × (body ≡ bodies.Stamp)) × A
 IfTells d call body A (carried.Reply (tell.Volume replies.DeleteVolume)) = IsDeletion call body
+IfTells d call body A (carried.Reply (tell.Volume replies.SetFlags)) = IsFlagging call body
 IfTells d call body A x = ⊤
 
 module _ (d : Durable) (head : Head) (call : VolCall) where
@@ -163,17 +178,21 @@ module _ (d : Durable) (head : Head) (call : VolCall) where
   none_tells : (reply : VolReply) → PlanTells d call reply None → head.stamp ≤ stamp_of (family_of call) d → IfTells d call bodies.Stamp (head.stamp ≤ stamp_of (family_of call) d) (carried.Reply (tell.Volume reply))
   none_tells (replies.ListVols ls) h low = ((h.0, refl), low)
   none_tells replies.DeleteVolume h low = absurd h
+  none_tells replies.SetFlags h low = absurd h
   none_tells reply h low = tt
 
   some_tells : (A : Type 0) (reply : VolReply) (body : RecordBody) → PlanTells d call reply (Some body) → IfTells d call body A (carried.Reply (tell.Volume reply))
   some_tells A (replies.ListVols ls) body h = let no : Some body ≡ None = h.1 in absurd cc
   some_tells A replies.DeleteVolume body h = h
+  some_tells A replies.SetFlags body h = h
   some_tells A reply body h = tt
 
   raised_tells : (A : Type 0) (reply : VolReply) (o : Option RecordBody) → A → PlanTells d call reply o → IfTells d call (or_stamp o) A (carried.Reply (tell.Volume reply))
   raised_tells A (replies.ListVols ls) o a h = ((h.0, ap or_stamp h.1), a)
   raised_tells A replies.DeleteVolume None a h = absurd h
   raised_tells A replies.DeleteVolume (Some body) a h = h
+  raised_tells A replies.SetFlags None a h = absurd h
+  raised_tells A replies.SetFlags (Some body) a h = h
   raised_tells A reply o a h = tt
 
   same_written_content : (ts : Table Transaction) (last : ℕ) (p : Plan) (o : Option RecordBody) → PlanTells d call p.reply o → head.stamp ≤ stamp_of (family_of call) d → Content (same_written d head ts last p o)

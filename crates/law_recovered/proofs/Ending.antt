@@ -64,7 +64,7 @@ named_by : (c : NodeCell) (volume stamp server : ℕ) → IsAt c volume stamp se
 named_by c volume stamp server (inl named) never = named
 named_by c volume stamp server (inr over) never = absurd (never over)
 
-ends_alone : (s : Script) (inputs : List CellInput) (m : Mend) → IsNumbered s → 1 ≤ s.servers → IsEnding s inputs m → IsAlone (cell_behind (node_start s) inputs) m.volume m.named
+pub ends_alone : (s : Script) (inputs : List CellInput) (m : Mend) → IsNumbered s → 1 ≤ s.servers → IsEnding s inputs m → IsAlone (cell_behind (node_start s) inputs) m.volume m.named
 ends_alone s inputs m numbered servers e =
     let c : NodeCell = cell_behind (node_start s) inputs in
     record {

@@ -62,16 +62,18 @@ use Rattle.spec_adminrows.specs.Asks.{name_in_act}
 use Rattle.spec_history.specs.declared.scripts.Script.{Script}
 use Rattle.law_places.specs.Accepting.{cell_behind}
 
--- what stood before a place of a recovery in which a copy goes
+-- what stood before a place of a recovery in which a copy goes, or the volume comes into service
 abbrev pub Prior : Place → Place → Reply → Type 0
 Prior (places.Mends m (mending.Deletes s t)) p reply = (p ≡ places.Mends m (mending.Points s t)) × (reply ≡ tell.Volume volumes.SetForwarding)
 Prior (places.Mends m (mending.Points s t)) p reply = (p ≡ places.Mends m (mending.Takes s)) × (reply ≡ tell.Volume (volumes.TransCreate t))
+Prior (places.Mends m (mending.Opens t)) p reply = (p ≡ places.Mends m mending.Begins) × (reply ≡ tell.Volume (volumes.TransCreate t))
 Prior q p reply = ⊤
 
 -- it isn't one that needs an answer before it
 abbrev pub IsEarly : Place → Type 0
 IsEarly (places.Mends m (mending.Deletes s t)) = ⊥
 IsEarly (places.Mends m (mending.Points s t)) = ⊥
+IsEarly (places.Mends m (mending.Opens t)) = ⊥
 IsEarly q = ⊤
 
 module _ (F : Place → Type 0) (early : (q : Place) → IsEarly q → F q) where
@@ -211,6 +213,7 @@ module _ (F : Place → Type 0) (early : (q : Place) → IsEarly q → F q) wher
 early_prior : (p : Place) (reply : Reply) (q : Place) → IsEarly q → Prior q p reply
 early_prior p reply (places.Mends m (mending.Deletes s t)) k = absurd k
 early_prior p reply (places.Mends m (mending.Points s t)) k = absurd k
+early_prior p reply (places.Mends m (mending.Opens t)) k = absurd k
 early_prior p reply q k = tt
 
 mend_prior : (m : Mend) (step : Mending) (reply : Reply) → TurnIs (λ (q : Place). Prior q (places.Mends m step) reply) (mend_answered m step reply)
@@ -219,7 +222,7 @@ mend_prior m (mending.Points s t) (tell.Volume volumes.SetForwarding) = (refl, r
 mend_prior m (mending.Deletes s t) (tell.Volume volumes.DeleteVolume) = takes_led (λ (q : Place). Prior q (places.Mends m (mending.Deletes s t)) (tell.Volume volumes.DeleteVolume)) (early_prior _ _) m m.copies
 mend_prior m (mending.Drops spot) (tell.Volume (volumes.TransCreate t)) = tt
 mend_prior m (mending.Dropped spot t) (tell.Volume volumes.DeleteVolume) = takes_led (λ (q : Place). Prior q (places.Mends m (mending.Dropped spot t)) (tell.Volume volumes.DeleteVolume)) (early_prior _ _) m m.copies
-mend_prior m mending.Begins (tell.Volume (volumes.TransCreate t)) = tt
+mend_prior m mending.Begins (tell.Volume (volumes.TransCreate t)) = (refl, refl)
 mend_prior m (mending.Opens t) (tell.Volume volumes.SetFlags) = tt
 mend_prior m (mending.Ends t) (tell.Volume volumes.EndTrans) = tt
 mend_prior m mending.Frees (tell.Location entries.ReleaseLock) = mended_led (λ (q : Place). Prior q (places.Mends m mending.Frees) (tell.Location entries.ReleaseLock)) (early_prior _ _) m.cause

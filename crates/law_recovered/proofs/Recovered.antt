@@ -94,6 +94,12 @@ module _ (entry_of : ℕ → ℕ) (next : ℕ) (e : Errand) (id : ℕ) where
 
 -- ---- whoever asked to release such a lock
 
+-- a recovery of the volume ends
+pub record HasEnded (s : Script) (inputs : List CellInput) (volume : ℕ) : Type 0 where
+  pub m : Mend
+  pub of : m.volume ≡ volume
+  pub ending : IsEnding s inputs m
+
 module _ (s : Script) (inputs : List CellInput) (volume : ℕ) (r : Releases (cell_behind (node_start s) inputs) volume) where
   abbrev c : NodeCell
   c = cell_behind (node_start s) inputs
@@ -135,11 +141,6 @@ module _ (s : Script) (inputs : List CellInput) (volume : ℕ) (r : Releases (ce
       by None at is = absurd cc
       by (Some l) at is = lock_its grips.entry_of (next_stamp c) volume r.k l.lock (grips.line.locks volume l at) is
 
-  pub record EndsSo : Type 0 where
-    pub m : Mend
-    pub of : m.volume ≡ volume
-    pub ending : IsEnding s inputs m
-
   not_mild : IsMild course c.sent n epoch (stamp_at_place q.place) → ⊥
   not_mild g =
       let gift : IsGift course c g.given.m = found_at (IsGift course c) g.given.place c.sent g.given.m (all_gifts s inputs).sent g.given.there in
@@ -149,7 +150,7 @@ module _ (s : Script) (inputs : List CellInput) (volume : ℕ) (r : Releases (ce
       let no : true ≡ false = sym r.forced ∙ (same ∙ (ap (λ (e : ℕ). force_at (course n e g.given.m.head.number)) g.given.in_epoch ∙ (ap (λ (j : ℕ). force_at (course n epoch j)) g.given.of_number ∙ g.mild))) in
       absurd cc
 
-  ends : Freeing q.place → EndsSo
+  ends : Freeing q.place → HasEnded s inputs volume
   ends f =
       let there : IsDrawnFor grips.entry_of (next_stamp c) f.m.volume f.m.stamp = subst (λ (p : Place). GripIs (IsDrawnFor grips.entry_of (next_stamp c)) (grip_at p)) f.is drawn in
       let own : f.m.stamp ≡ r.k.stamp = sym (ap stamp_at_place f.is) ∙ under in
@@ -166,10 +167,10 @@ module _ (s : Script) (inputs : List CellInput) (volume : ℕ) (r : Releases (ce
         };
       }
 
-  pub ends_so : EndsSo
+  pub ends_so : HasEnded s inputs volume
   ends_so = by (each_state course c.sent n epoch number (ap (λ (x : Question). stamp_at_place x.place) ((are_numbered s inputs).zero_asks n epoch)) on.way)
     where
-      by : State course c.sent n epoch number → EndsSo
+      by : State course c.sent n epoch number → HasEnded s inputs volume
       by (inl none) = absurd (release_stamped grips.entry_of (next_stamp c) q.errand r.id q.place on.asks drawn none)
       by (inr (inl mends)) = ends (frees_at q.errand q.place r.id on.asks mends)
       by (inr (inr mild)) = absurd (not_mild mild)
@@ -187,9 +188,15 @@ entry_at c (x ∷ xs) [] end leads k e at = absurd leads
 entry_at c (x ∷ xs) (y ∷ es) end leads zero e at = let same : y ≡ e = cc in record { x = x; is = sym same ∙ leads.0 }
 entry_at c (x ∷ xs) (y ∷ es) end leads (suc k) e at = let z : IsAt (node_moved c x).cell xs k e = entry_at (node_moved c x).cell xs es end leads.1 k e at in record { x = z.x; is = z.is }
 
-pub recovered_alone : RecoveriesAreTold
-recovered_alone s inputs history end numbered servers leads k volume e at is tells =
+-- where it is told
+pub told_ends : (s : Script) (inputs : List CellInput) (history : List Entry) (end : NodeCell) → NodeLeads (node_start s) inputs history end → (k volume : ℕ) (e : Entry) → slice_get history k ≡ Some e → is_database e.actor ≡ true → list_any (recovers volume) e.lines ≡ true →
+    HasEnded s (take k inputs) volume
+told_ends s inputs history end leads k volume e at is tells =
     let z : IsAt (node_start s) inputs k e = entry_at (node_start s) inputs history end leads k e at in
     let r : Releases (cell_behind (node_start s) (take k inputs)) volume = said s (take k inputs) volume z.x (subst (λ (y : Entry). is_database y.actor ≡ true) z.is is) (subst (λ (y : Entry). list_any (recovers volume) y.lines ≡ true) z.is tells) in
-    let f : EndsSo s (take k inputs) volume r = ends_so s (take k inputs) volume r in
+    ends_so s (take k inputs) volume r
+
+pub recovered_alone : RecoveriesAreTold
+recovered_alone s inputs history end numbered servers leads k volume e at is tells =
+    let f : HasEnded s (take k inputs) volume = told_ends s inputs history end leads k volume e at is tells in
     record { server = f.m.named; stands = subst (λ (v : ℕ). IsAlone (cell_behind (node_start s) (take k inputs)) v f.m.named) f.of (end_alone s inputs numbered servers k f.m f.ending) }

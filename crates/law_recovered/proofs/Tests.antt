@@ -15,12 +15,12 @@ use Rattle.law_recovered.specs.Copies.{is_copy}
 use Rattle.law_recovered.proofs.Standing.{change_alike, does, number_in, Alike, Does, IsCloned, IsFlagged, Like, Makes}
 use Rattle.law_recovered.proofs.Turned.{Turning}
 
-both : (b : Bool) → b ≡ false → b ≡ true → ⊥
+pub both : (b : Bool) → b ≡ false → b ≡ true → ⊥
 both b e f = let no : true ≡ false = sym f ∙ e in absurd cc
 
 -- ---- what a start leaves
 
-found_behind : {A : Type 0} (p : ℕ × A) (ps : Table A) (n : ℕ) (x : A) (b : Bool) → AscendsFrom (p.0 + 1) ps → nat_eq p.0 n ≡ b → get n ps ≡ Some x → cond b (Some p.1) (get n ps) ≡ Some x
+pub found_behind : {A : Type 0} (p : ℕ × A) (ps : Table A) (n : ℕ) (x : A) (b : Bool) → AscendsFrom (p.0 + 1) ps → nat_eq p.0 n ≡ b → get n ps ≡ Some x → cond b (Some p.1) (get n ps) ≡ Some x
 found_behind {A} p ps n x true up same there =
     let here : p.0 ≡ n = eqb-true p.0 n same in
     let below : n < p.0 + 1 = omega (arith, here) in
@@ -60,9 +60,9 @@ abbrev pub copy_test : ℕ → Option Stored → Bool
 copy_test volume o = is_copy o
 
 -- it makes a read-write volume of this number
-abbrev pub MakesCopy : RecordBody → ℕ → Type 0
-MakesCopy (bodies.Create id family name kind flags quota is_new) volume = (id ≡ volume) × (nat_eq kind 0 ≡ true)
-MakesCopy body volume = ⊥
+abbrev pub MakesCopy : Durable → RecordBody → ℕ → Type 0
+MakesCopy d (bodies.Create id family name kind flags quota is_new) volume = (id ≡ volume) × (nat_eq kind 0 ≡ true)
+MakesCopy d body volume = ⊥
 
 like_copy : (a b : Option Stored) → Like a b → is_copy b ≡ is_copy a
 like_copy None None h = refl
@@ -70,7 +70,7 @@ like_copy (Some s) (Some x) h = ap (λ (k : ℕ). nat_eq k 0) h.kind
 like_copy None (Some x) h = absurd h
 like_copy (Some s) None h = absurd h
 
-makes_copy : (body : RecordBody) (d : Durable) (volume : ℕ) (before after : Option Stored) → before ≡ get volume d.volumes → IsFit d body → number_in body ≡ volume → Makes d body before after → is_copy before ≡ false → is_copy after ≡ true → MakesCopy body volume
+makes_copy : (body : RecordBody) (d : Durable) (volume : ℕ) (before after : Option Stored) → before ≡ get volume d.volumes → IsFit d body → number_in body ≡ volume → Makes d body before after → is_copy before ≡ false → is_copy after ≡ true → MakesCopy d body volume
 makes_copy (bodies.Create id family name kind flags quota is_new) d volume before after is fit same m rests e = (same, sym (ap is_copy m.1) ∙ e)
 makes_copy (bodies.Delete id) d volume before after is fit same m rests e = absurd (both (is_copy after) (ap is_copy m) e)
 makes_copy (bodies.Clone source id name kind release) d volume before after is fit same m rests e =
@@ -90,7 +90,7 @@ copies_turn = record {
     starts_by t volume up rests e None is = both (is_copy (get volume (filter is_unflagged t))) (ap is_copy is) e
     starts_by t volume up rests e (Some x) is = both (is_copy (get volume t)) rests (ap is_copy (kept_found is_unflagged 0 volume t x up is) ∙ (sym (ap is_copy is) ∙ e))
 
-    by : (body : RecordBody) (d : Durable) (volume : ℕ) → IsFit d body → is_copy (get volume d.volumes) ≡ false → is_copy (get volume (done_by body d).volumes) ≡ true → Does d body volume (get volume d.volumes) (get volume (done_by body d).volumes) → MakesCopy body volume
+    by : (body : RecordBody) (d : Durable) (volume : ℕ) → IsFit d body → is_copy (get volume d.volumes) ≡ false → is_copy (get volume (done_by body d).volumes) ≡ true → Does d body volume (get volume d.volumes) (get volume (done_by body d).volumes) → MakesCopy d body volume
     by body d volume fit rests e (inl x) = makes_copy body d volume (get volume d.volumes) (get volume (done_by body d).volumes) refl fit x.0 x.1 rests e
     by body d volume fit rests e (inr like) = absurd (both (is_copy (get volume d.volumes)) rests (sym (like_copy (get volume d.volumes) (get volume (done_by body d).volumes) like) ∙ e))
 
@@ -100,20 +100,20 @@ abbrev pub shut_test : ℕ → Option Stored → Bool
 shut_test volume o = not (is_in_service o)
 
 -- it takes the volume of this number out of service
-abbrev pub Closes : RecordBody → ℕ → Type 0
-Closes (bodies.Delete id) volume = id ≡ volume
-Closes (bodies.Flags id flags) volume = (id ≡ volume) × (nat_eq flags 0 ≡ false)
-Closes body volume = ⊥
+abbrev pub Closes : Durable → RecordBody → ℕ → Type 0
+Closes d (bodies.Delete id) volume = id ≡ volume
+Closes d (bodies.Flags id flags) volume = (id ≡ volume) × (nat_eq flags 0 ≡ false)
+Closes d body volume = ⊥
 
 not_false : (b : Bool) → not b ≡ false → b ≡ true
 not_false true e = refl
 not_false false e = absurd cc
 
-first_of : (a b : Bool) → (a && b) ≡ true → a ≡ true
+pub first_of : (a b : Bool) → (a && b) ≡ true → a ≡ true
 first_of true b e = refl
 first_of false b e = absurd cc
 
-second_of : (a b : Bool) → (a && b) ≡ true → b ≡ true
+pub second_of : (a b : Bool) → (a && b) ≡ true → b ≡ true
 second_of true b e = e
 second_of false b e = absurd cc
 
@@ -131,7 +131,7 @@ like_service (Some s) None h = absurd h
 none_serves : (o : Option Stored) → o ≡ None → is_in_service o ≡ true → ⊥
 none_serves o is e = both (is_in_service o) (ap is_in_service is) e
 
-closes : (body : RecordBody) (d : Durable) (volume : ℕ) (before after : Option Stored) → number_in body ≡ volume → Makes d body before after → is_in_service before ≡ true → not (is_in_service after) ≡ true → Closes body volume
+closes : (body : RecordBody) (d : Durable) (volume : ℕ) (before after : Option Stored) → number_in body ≡ volume → Makes d body before after → is_in_service before ≡ true → not (is_in_service after) ≡ true → Closes d body volume
 closes (bodies.Create id family name kind flags quota is_new) d volume before after same m serves e = absurd (none_serves before m.0 serves)
 closes (bodies.Delete id) d volume before after same m serves e = same
 closes (bodies.Clone source id name kind release) d volume before after same m serves e = absurd (none_serves before m.0 serves)
@@ -155,7 +155,7 @@ services_turn = record {
         let there : is_in_service (get volume (filter is_unflagged t)) ≡ true = ap is_in_service (still ∙ sym is) ∙ serves in
         both (not (is_in_service (get volume (filter is_unflagged t)))) (ap not there) e
 
-    by : (body : RecordBody) (d : Durable) (volume : ℕ) → is_in_service (get volume d.volumes) ≡ true → not (is_in_service (get volume (done_by body d).volumes)) ≡ true → Does d body volume (get volume d.volumes) (get volume (done_by body d).volumes) → Closes body volume
+    by : (body : RecordBody) (d : Durable) (volume : ℕ) → is_in_service (get volume d.volumes) ≡ true → not (is_in_service (get volume (done_by body d).volumes)) ≡ true → Does d body volume (get volume d.volumes) (get volume (done_by body d).volumes) → Closes d body volume
     by body d volume serves e (inl x) = closes body d volume (get volume d.volumes) (get volume (done_by body d).volumes) x.0 x.1 serves e
     by body d volume serves e (inr like) =
         absurd (both (not (is_in_service (get volume (done_by body d).volumes))) (ap not (like_service (get volume d.volumes) (get volume (done_by body d).volumes) like ∙ serves)) e)

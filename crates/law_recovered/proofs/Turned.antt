@@ -51,14 +51,14 @@ use Rattle.law_families.proofs.Volumes.{IsFit}
 use Rattle.law_families.proofs.Walk.{first_stands, next, up_well, AllStand, WellBy}
 
 -- T is asked of what stands under a volume's number. The changes of file servers leave it, and so does a start where it isn't so. A record that
--- makes it so is one of these.
-pub record Turning (T : ℕ → Option Stored → Bool) (Turns : RecordBody → ℕ → Type 0) : Type 0 where
+-- makes it so, where this is on the disk, is one of these.
+pub record Turning (T : ℕ → Option Stored → Bool) (Turns : Durable → RecordBody → ℕ → Type 0) : Type 0 where
   pub changes : (clock volume : ℕ) (c : Change) → T volume (Some (stored_by clock c)) ≡ T volume (Some c.before)
   pub starts : (t : Table Stored) (volume : ℕ) → AscendsFrom 0 t → T volume (get volume t) ≡ false → T volume (get volume (filter is_unflagged t)) ≡ true → ⊥
-  pub bodies : (body : RecordBody) (d : Durable) (volume : ℕ) → can_take body d ≡ true → IsFit d body → T volume (get volume d.volumes) ≡ false → T volume (get volume (done_by body d).volumes) ≡ true → Turns body volume
+  pub bodies : (body : RecordBody) (d : Durable) (volume : ℕ) → can_take body d ≡ true → IsFit d body → T volume (get volume d.volumes) ≡ false → T volume (get volume (done_by body d).volumes) ≡ true → Turns d body volume
 
 -- The message was sent to the server, which is up, or begins again behind this very message. It decides to write a record that makes it so.
-pub record IsTurned (Turns : RecordBody → ℕ → Type 0) (c : NodeCell) (server volume : ℕ) : Type 0 where
+pub record IsTurned (Turns : Durable → RecordBody → ℕ → Type 0) (c : NodeCell) (server volume : ℕ) : Type 0 where
   pub host : has_host c server ≡ true
   pub place : ℕ
   pub m : Message
@@ -70,7 +70,7 @@ pub record IsTurned (Turns : RecordBody → ℕ → Type 0) (c : NodeCell) (serv
   pub decides : vol_decides (Server server) (disk_at c server) (c.hosts server).state.vol (Whole m) ≡ saves head x
   pub fits : IsFit (disk_at c server) x.body
   pub well : IsWell (c.hosts server).state
-  pub turns : Turns x.body volume
+  pub turns : Turns (disk_at c server) x.body volume
 
 not_both : (b : Bool) → b ≡ false → b ≡ true → ⊥
 not_both b e f = let no : true ≡ false = sym f ∙ e in absurd cc
@@ -93,7 +93,7 @@ decides me s m fits h = decided_keeps (durable_of s.file.lasting) s.vol h.apart 
 copies : (me : Node) (s : NodeState) (m : Message) → Fits m → IsWell s → SavesCopies s (vol_decides me (durable_of s.file.lasting) s.vol (Whole m))
 copies me s m fits h = keeps_copies s (vol_decides me (durable_of s.file.lasting) s.vol (Whole m)) (decides me s m fits h)
 
-module _ (T : ℕ → Option Stored → Bool) (Turns : RecordBody → ℕ → Type 0) (w : Turning T Turns) where
+module _ (T : ℕ → Option Stored → Bool) (Turns : Durable → RecordBody → ℕ → Type 0) (w : Turning T Turns) where
   abbrev pub so : Table Stored → ℕ → Bool
   so t volume = T volume (get volume t)
 

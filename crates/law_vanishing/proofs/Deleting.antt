@@ -1,4 +1,4 @@
--- Moves, recoveries and releases delete a read-write volume only where the location database doesn't put it.
+-- Moves, removals, recoveries and releases delete a read-write volume only where the location database doesn't put it.
 use Rattle.std.proofs.Common.{◌≡◌, ◌⊎◌, ◌≤◌, ◌<◌, inl, inr, ℕ, zero, suc, Bool, true, false, List, Option, Some, None, refl, sym, ap, subst, ◌∙◌, arith}
 use Rattle.std.specs.Prelude.{⊤}
 use Rattle.afs_num.specs.declared.messages.Call.{Call}
@@ -12,6 +12,7 @@ use Rattle.spec_adminrows.specs.Asks.{family, home}
 use Rattle.spec_adminrows.specs.declared.places.Backing.TheVariants as backing
 use Rattle.spec_adminrows.specs.declared.places.Creating.TheVariants as creating
 use Rattle.spec_adminrows.specs.declared.places.Dumping.TheVariants as dumping
+use Rattle.spec_adminrows.specs.declared.places.Hold.{Hold}
 use Rattle.spec_adminrows.specs.declared.places.Mending.TheVariants as mending
 use Rattle.spec_adminrows.specs.declared.places.Moving.TheVariants as moving
 use Rattle.spec_adminrows.specs.declared.places.Place.{Place}
@@ -22,10 +23,12 @@ use Rattle.spec_adminrows.specs.declared.places.Sweeping.TheVariants as sweeping
 use Rattle.spec_adminrows.specs.declared.places.Touring.TheVariants as touring
 use Rattle.spec_adminrows.specs.declared.places.Visiting.TheVariants as visiting
 use Rattle.spec_adminrows.specs.declared.turns.Errand.{Errand}
+use Rattle.spec_ideal.specs.Tables.{get}
 use Rattle.spec_rows.specs.Hosts.{Fall}
 use Rattle.spec_runs.specs.NodeRuns.{node_start, CellInput, NodeCell}
 use Rattle.law_places.specs.Accepting.{cell_behind}
 use Rattle.law_stamps.specs.Stamps.{stored_stamp}
+use Rattle.law_stamps.specs.Told.{entries_in}
 use Rattle.law_stamp_owners.proofs.PlaceStamps.{asked_stamp, stamp_at_place}
 use Rattle.law_courses.specs.Courses.{ask_in, course_in, Course, IsOnCourse, Question}
 use Rattle.law_courses.specs.Tasks.{mends, task_at, works, Task}
@@ -34,7 +37,9 @@ use Rattle.law_families.specs.Enables.{IsCutIn}
 use Rattle.law_fences.specs.Claims.{Counts, Finds, IsLive}
 use Rattle.law_fences.proofs.Fencing.{are_true}
 use Rattle.law_numbers.specs.Numbers.{IsNumbered}
-use Rattle.law_one_server.specs.Knows.{listed_site, IsAt, IsOver, Knows}
+use Rattle.law_new_volumes.proofs.Plain.{removed_at}
+use Rattle.law_new_volumes.proofs.Removed.{are_gone}
+use Rattle.law_one_server.specs.Knows.{listed_site, site_by, IsAt, IsOver, Knows}
 use Rattle.law_one_server.proofs.KnownInService.{Lives}
 use Rattle.law_one_server.proofs.ActsNumbered.{are_numbered}
 use Rattle.law_one_server.proofs.StampsOfOneTask.{some}
@@ -174,6 +179,13 @@ module _ (s : Script) (inputs : List CellInput) (numbered : IsNumbered s) (serve
           subst (λ (j : ℕ). Finds c j y.family y.transaction x.m x.t) (sym at) (subst (λ (v : ℕ). Finds c i v y.transaction x.m x.t) (sym its) (subst (λ (t : ℕ). Finds c i f t x.m x.t) (sym number)
           (record { user = x.user; call = calls.DeleteVolume f x.number; is_call = x.asks; live = live; runs = x.runs; stored = x.stored; there = x.there })))
 
+  -- behind a removal the database has no entry of it
+  unlisted : (h : Hold) → removed_at q.place ≡ Some h → family h ≡ f → Elsewhere
+  unlisted h is its site =
+      let gone : get (family h) (entries_in c) ≡ None = ((are_gone s numbered inputs).behind who.0 x.m.head.epoch x.m.head.number h is).none_left in
+      let none : listed_site c f ≡ None = ap (listed_site c) (sym its) ∙ ap site_by gone in
+      let no' : None ≡ Some i = sym none ∙ site in absurd cc
+
   -- ---- by the places
 
   its_task : (p : Place) (t : Task) → q.place ≡ p → task_at p ≡ Some t → stamp_at_place p ≡ 0 → ⊥
@@ -182,8 +194,8 @@ module _ (s : Script) (inputs : List CellInput) (numbered : IsNumbered s) (serve
   deleted_at : (e : Errand) (p : Place) → q.place ≡ p → IsDeleter p → Knows c p → KnowsLater c p → Fits p → family_in (asks_at e p).call ≡ f → number_in (asks_at e p).call ≡ x.number → server_in (asks_at e p).callee ≡ i → stamp_at_place p ≡ b → LetsGo p ⊎ Elsewhere
   unfolding IsDeleter family_in number_in server_in
   deleted_at e (places.Creates fr (creating.Scrapped v code t)) is asks known after fits its number here under = inl tt
-  deleted_at e (places.Removes h seen (removing.Deletes t)) is asks known after fits its number here under = inl tt
-  deleted_at e (places.Sweeps h spot left (sweeping.Deletes t)) is asks known after fits its number here under = inl tt
+  deleted_at e (places.Removes h seen (removing.Deletes t)) is asks known after fits its number here under = inr (unlisted h (ap removed_at is) its)
+  deleted_at e (places.Sweeps h spot left (sweeping.Deletes t)) is asks known after fits its number here under = inr (unlisted h (ap removed_at is) its)
   deleted_at e (places.Moves m (moving.Deletes old)) is asks known after fits its number here under = inr (elsewhere (family m.hold) m.hold.stamp m.target known its under (λ same. fits (sym same ∙ sym here)))
   deleted_at e (places.Moves m (moving.Dropped t)) is asks known after fits its number here under = inr (elsewhere (family m.hold) m.hold.stamp m.target after its under (λ same. fits (sym same ∙ sym here)))
   deleted_at e (places.Moves m (moving.DroppedBackup t)) is asks known after fits its number here under = inr (elsewhere (family m.hold) m.hold.stamp m.target after its under (λ same. fits (sym same ∙ sym here)))

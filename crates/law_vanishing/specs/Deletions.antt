@@ -45,11 +45,8 @@ pub record IsDelete (c : NodeCell) (server volume : ℕ) : Type 0 where
 
 -- ---- acts that let their volume go
 
--- A removal deletes the volume of its entry, which it took away before, and each other volume of the family; and a creation whose entry was
--- refused deletes what it made.
+-- A creation whose entry was refused deletes what it made.
 abbrev pub LetsGo : Place → Type 0
-LetsGo (places.Removes h seen step) = ⊤
-LetsGo (places.Sweeps h spot left step) = ⊤
 LetsGo (places.Creates f (creating.Scrapped v code t)) = ⊤
 LetsGo p = ⊥
 
@@ -60,7 +57,8 @@ pub record IsLetGo (s : Script) (inputs : List CellInput) (m : Message) : Type 0
   pub lets : LetsGo (course_in s inputs admin m.head.epoch m.head.number).place
 
 -- So it is in every run of every script that has a server, and whose volumes are numbered one after the other: where a read-write volume is
--- deleted by a call of a move, a recovery or a release, however late the call comes, the location database doesn't name that server of it.
+-- deleted by a call of a move, a removal, a recovery or a release, however late the call comes, the location database doesn't name that server
+-- of it. Behind a removal it has no entry of the volume at all.
 abbrev pub DeletedElsewhere : Type 0
 DeletedElsewhere = (s : Script) (inputs : List CellInput) (server volume : ℕ) → IsNumbered s → 1 ≤ s.servers → (x : IsDelete (cell_behind (node_start s) inputs) server volume) →
     IsLetGo s inputs x.m ⊎ (listed_site (cell_behind (node_start s) inputs) volume ≡ Some server → ⊥)

@@ -3,7 +3,7 @@
 ghost use Rattle.law_vanishing.specs.Deletions.{DeletedElsewhere};
 ghost use Rattle.law_vanishing.specs.Vanishing.{VolumesVanishElsewhere};
 
-/// Moves, recoveries and releases delete a read-write volume only at servers where the location database doesn't put it.
+/// Moves, removals, recoveries and releases delete a read-write volume only at servers where the location database doesn't put it.
 pub fn a_volume_is_deleted_elsewhere()
     ensures { DeletedElsewhere }
 {}

@@ -1,0 +1,4 @@
+pub mod Asked
+pub mod Changing
+pub mod Walk
+mod Worked

@@ -1,0 +1,11 @@
+pub mod Makers
+pub mod Giving
+pub mod GivenOnce
+pub mod Plain
+pub mod Entering
+pub mod AskedOnce
+pub mod Served
+pub mod Listing
+pub mod MadeOnce
+pub mod Removed
+pub mod Worked

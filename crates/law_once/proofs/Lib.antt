@@ -1,0 +1,6 @@
+pub mod Pending
+pub mod ClientAsks
+pub mod CopyAsks
+pub mod Asking
+pub mod OnceTold
+mod Worked
